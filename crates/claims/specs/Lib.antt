@@ -1,0 +1,2 @@
+-- What the claims speak of: the worked sheets.
+pub mod WorkedSheets

@@ -1,0 +1,23 @@
+-- What the row machine and the claims know of an arithmetic: one record, of which doubles and residues are the instances.
+use mathlib.Core.Bool.{Bool}
+use lib.IntN.{ℤ}
+
+-- "A result is either a finite double or a stop". Why says for what reason.
+pub data Outcome (Value Why : Type 0) : Type 0 where
+  value : Value → Outcome Value Why
+  stop : Why → Outcome Value Why
+
+pub record Arithmetic : Type 1 where
+  pub Carrier : Type 0
+  -- the reason of a stop: 02 adds a second one
+  pub Why : Type 0
+  pub sum : Carrier → Carrier → Outcome Carrier Why
+  pub difference : Carrier → Carrier → Outcome Carrier Why
+  pub product : Carrier → Carrier → Outcome Carrier Why
+  pub negation : Carrier → Outcome Carrier Why
+  pub less : Carrier → Carrier → Bool
+  pub constant : ℤ → Carrier
+  -- the zero that the tool itself sets
+  pub zero : Carrier
+  -- "Start values and seeds must be finite"
+  pub admits : Carrier → Bool

@@ -1,0 +1,1 @@
+// The two arithmetics. No function yet: the definitions are in specs/.

@@ -1,0 +1,128 @@
+-- The written meaning of each single row of a table, over any arithmetic.
+use Prim.Native.Nat.{ℕ, _+_, _*_}
+use mathlib.Core.Bool.{Bool, cond}
+use mathlib.Core.List.{List, [], _∷_, _++_}
+use lib.ListN.{take, drop, getD}
+use lib.Dec.{eqb}
+use Rattle.number.specs.Arithmetic.{Arithmetic}
+use Rattle.number.specs.Constants.{signed}
+use Rattle.sheet.specs.Rows.{_≔_, Source, copy, fixed, sum, difference, product, negation, less, isDependent}
+use Rattle.table.specs.TableRows.{Action, assign, save, takeBack, saveTurn, clear, turnRound, TableTest, whether, onTurn, turnWord}
+use Rattle.run.specs.Attempts.{Attempt, through, stuck, _>>=_, whole, look, replaced, pushed}
+
+module _ (A : Arithmetic) where
+  -- what a run works on: the 2V + 2 variables, both stacks, top first, and the values that row 17 copies out
+  pub record Memory : Type 0 where
+    pub store : List (A .Carrier)
+    pub values : List (A .Carrier)
+    pub turns : List ℕ
+    pub copied : List (A .Carrier)
+
+  -- what stays as it is during a run
+  pub record Setting : Type 0 where
+    pub variables : ℕ
+    pub roles : List ℕ
+    pub constants : List ℕ
+    pub seeds : List (A .Carrier)
+    pub valueRoom : ℕ
+    pub turnRoom : ℕ
+
+  abbrev pub Try : Type 0 → Type 0
+  Try X = Attempt (A .Why) X
+
+  -- the right side of an assignment
+  unfoldable pub evaluated : (constants : List ℕ) → Source → List (A .Carrier) → Try (A .Carrier)
+  unfolding signed
+  evaluated constants (copy a) store = look store a
+  evaluated constants (fixed c) store = do
+    word ← look constants c
+    through (A .constant (signed word))
+  evaluated constants (sum a b) store = do
+    x ← look store a
+    y ← look store b
+    whole (A .sum x y)
+  evaluated constants (difference a b) store = do
+    x ← look store a
+    y ← look store b
+    whole (A .difference x y)
+  evaluated constants (product a b) store = do
+    x ← look store a
+    y ← look store b
+    whole (A .product x y)
+  evaluated constants (negation a) store = do
+    x ← look store a
+    whole (A .negation x)
+
+  abbrev pub withStore : Memory → List (A .Carrier) → Memory
+  withStore memory store = record { store = store; values = memory .values; turns = memory .turns; copied = memory .copied }
+
+  abbrev pub stored : Memory → ℕ → A .Carrier → Try Memory
+  stored memory d x = do
+    store ← replaced (memory .store) d x
+    through (withStore memory store)
+
+  abbrev pub saved : ℕ → Memory → A .Carrier → Try Memory
+  saved room memory x = do
+    values ← pushed room x (memory .values)
+    through (record { store = memory .store; values = values; turns = memory .turns; copied = memory .copied })
+
+  abbrev pub turnSaved : ℕ → Memory → ℕ → Try Memory
+  turnSaved room memory turn = do
+    turns ← pushed room turn (memory .turns)
+    through (record { store = memory .store; values = memory .values; turns = turns; copied = memory .copied })
+
+  -- a take from an empty stack is stuck
+  abbrev pub restored : Memory → ℕ → List (A .Carrier) → Try Memory
+  restored memory d [] = stuck
+  restored memory d (x ∷ values) = stored (record { store = memory .store; values = values; turns = memory .turns; copied = memory .copied }) d x
+
+  -- "sets every adjoint to 0 and then each dependent's adjoint to its seed"
+  unfoldable pub seeded : (roles : List ℕ) → (seeds : List (A .Carrier)) → List (A .Carrier)
+  seeded [] seeds = []
+  seeded (role ∷ roles) seeds = cond (isDependent role) (getD seeds 0 (A .zero)) (A .zero) ∷ seeded roles (drop 1 seeds)
+
+  -- "It copies out the V original values, sets every adjoint to 0 and then each dependent's adjoint to its seed."
+  unfoldable pub turnedRound : Setting → Memory → Memory
+  unfolding seeded
+  turnedRound setting memory =
+      let originals = take (setting .variables) (memory .store) in
+      record {
+        store = originals ++ seeded (setting .roles) (setting .seeds) ++ drop (2 * setting .variables) (memory .store);
+        values = memory .values;
+        turns = memory .turns;
+        copied = originals;
+      }
+
+  unfoldable pub acted : Setting → Action → Memory → Try Memory
+  unfolding evaluated turnedRound
+  acted setting (assign (d ≔ source)) memory = do
+    x ← evaluated (setting .constants) source (memory .store)
+    stored memory d x
+  acted setting (save d) memory = do
+    x ← look (memory .store) d
+    saved (setting .valueRoom) memory x
+  acted setting (takeBack d) memory = restored memory d (memory .values)
+  acted setting (saveTurn first) memory = turnSaved (setting .turnRoom) memory (turnWord first)
+  acted setting (clear d) memory = stored memory d (A .zero)
+  acted setting turnRound memory = through (turnedRound setting memory)
+
+  -- a test: whether the first branch is taken, and what is left
+  pub record Verdict : Type 0 where
+    pub first : Bool
+    pub memory : Memory
+
+  abbrev pub turnTaken : Memory → List ℕ → Try Verdict
+  turnTaken memory [] = stuck
+  turnTaken memory (turn ∷ turns) =
+      through
+      (record {
+        first = eqb turn 1;
+        memory = record { store = memory .store; values = memory .values; turns = turns; copied = memory .copied };
+      })
+
+  unfoldable pub tested : TableTest → Memory → Try Verdict
+  tested (whether (less a b)) memory = do
+    x ← look (memory .store) a
+    y ← look (memory .store) b
+    through (record { first = A .less x y; memory = memory })
+  tested onTurn memory = turnTaken memory (memory .turns)

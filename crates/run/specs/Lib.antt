@@ -1,0 +1,5 @@
+-- What must be believed of a run: the row machine (01, "The adjoint table"), and what a run answers and leaves in every lent buffer.
+pub mod Attempts
+pub mod Actions
+pub mod Machine
+pub mod Calls

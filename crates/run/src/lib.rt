@@ -1,0 +1,1 @@
+// The runners. No function yet: the definitions are in specs/.

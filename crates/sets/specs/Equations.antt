@@ -1,0 +1,96 @@
+-- "All are least solutions, over sets of variables": sets at the points of a sheet, 01's equations between them, and the least that
+-- satisfy them. Point p lies before row p; the last point lies after the last row.
+use Prim.Native.Nat.{ℕ, zero, suc, _+_, _*_}
+use mathlib.Core.Path.{_≡_}
+use mathlib.Core.Bool.{Bool, true, false, _&&_}
+use mathlib.Core.List.{List, [], _∷_}
+use lib.ListN.{getD, set, replicate}
+use lib.Dec.{eqb}
+use Rattle.sheet.specs.Tree.{Tree, done, one, fork, again, rows}
+use Rattle.sets.specs.VariableSets.{VariableSet, empty, _∪_}
+
+pub data Equation : Type 0 where
+  -- at a point stands this set
+  starts : (point : ℕ) → VariableSet → Equation
+  -- at the second point stands what the first one's set is turned into
+  passes : (from to : ℕ) → (VariableSet → VariableSet) → Equation
+  -- at the third point stands the union of the first two's sets
+  joins : (left right to : ℕ) → Equation
+
+unfoldable pub pointOf : Equation → ℕ
+pointOf (starts p s) = p
+pointOf (passes p q f) = q
+pointOf (joins p q r) = r
+
+unfoldable pub rightSide : Equation → (ℕ → VariableSet) → VariableSet
+rightSide (starts p s) at = s
+rightSide (passes p q f) at = f (at p)
+rightSide (joins p q r) at = at p ∪ at q
+
+-- these sets, one at each point, satisfy the equations
+unfoldable pub Satisfy : List Equation → (ℕ → VariableSet) → Type 0
+unfolding pointOf rightSide
+Satisfy [] at = Unit {0}
+Satisfy (e ∷ es) at = (at (pointOf e) ≡ rightSide e at) × Satisfy es at
+
+abbrev pub unchanged : VariableSet → VariableSet
+unchanged s = s
+
+module _ {B F : Type 0} where
+  -- From before to after, one equation a row, then `rest`. `after p b` is what row p, an assignment, makes of the set before it.
+  -- "After an if block: union of the branch ends. Repeat: body start = before ∪ body end; after = body end."
+  unfoldable pub forward : (ℕ → B → VariableSet → VariableSet) → Tree B F → ℕ → List Equation → List Equation
+  unfolding rows
+  forward after done p rest = rest
+  forward after (one b k) p rest = passes p (suc p) (after p b) ∷ forward after k (suc p) rest
+  forward after (fork f a b k) p rest =
+      let split = suc p + rows a in
+      let end = suc split + rows b in
+      passes p (suc p) unchanged
+      ∷ forward after a (suc p) (passes p (suc split) unchanged ∷ forward after b (suc split) (joins split end (suc end) ∷ forward after k (suc end) rest))
+  forward after (again m a k) p rest =
+      let end = suc p + rows a in
+      joins p end (suc p) ∷ forward after a (suc p) (passes end (suc end) unchanged ∷ forward after k (suc end) rest)
+
+  -- From after to before, the last row's equation first. `before p b` is what row p makes of the set after it.
+  -- "Before an if block: union of branch starts. Repeat: body end = after ∪ body start; before = body start."
+  unfoldable pub backward : (ℕ → B → VariableSet → VariableSet) → Tree B F → ℕ → List Equation → List Equation
+  unfolding rows
+  backward before done p rest = rest
+  backward before (one b k) p rest = backward before k (suc p) (passes (suc p) p (before p b) ∷ rest)
+  backward before (fork f a b k) p rest =
+      let split = suc p + rows a in
+      let end = suc split + rows b in
+      backward before k (suc end)
+      (passes (suc end) end unchanged
+      ∷ backward before b (suc split) (passes (suc end) split unchanged ∷ backward before a (suc p) (joins (suc p) (suc split) p ∷ rest)))
+  backward before (again m a k) p rest =
+      let end = suc p + rows a in
+      backward before k (suc end) (joins (suc end) (suc p) end ∷ backward before a (suc p) (passes (suc p) p unchanged ∷ rest))
+
+-- ---- the least sets, by rounds over all equations that only ever add members
+
+abbrev pub setAt : List VariableSet → ℕ → VariableSet
+setAt sets p = getD sets p empty
+
+unfoldable pub round : List Equation → List VariableSet → List VariableSet
+unfolding pointOf rightSide
+round [] sets = sets
+round (e ∷ es) sets = round es (set sets (pointOf e) (setAt sets (pointOf e) ∪ rightSide e (setAt sets)))
+
+unfoldable pub same : List ℕ → List ℕ → Bool
+same [] [] = true
+same [] (y ∷ ys) = false
+same (x ∷ xs) [] = false
+same (x ∷ xs) (y ∷ ys) = eqb x y && same xs ys
+
+-- rounds until one adds nothing
+unfoldable pub settled : (fuel : ℕ) → List Equation → List VariableSet → List VariableSet
+unfolding round same
+settled zero es sets = sets
+settled (suc n) es sets = let next = round es sets in elim (same sets next) [ true ↦ sets | false ↦ settled n es next ]
+
+-- Every round but the last adds a member, and so many points hold at most so many: the fuel suffices.
+unfoldable pub least : (variables points : ℕ) → List Equation → List VariableSet
+unfolding settled
+least variables points es = settled (suc (points * variables)) es (replicate points empty)

@@ -1,0 +1,1 @@
+// The sets. No function yet: the definitions are in specs/.

@@ -1,0 +1,108 @@
+-- Roles, kinds and rows: what each word of a row is, and what the row means.
+use Prim.Native.Nat.{ℕ, zero, suc, pred}
+use mathlib.Core.Bool.{Bool, _&&_, _||_}
+use mathlib.Core.List.{List, [], _∷_}
+use mathlib.Core.Option.{Option, none, some}
+use lib.ListN.{getElem?}
+use lib.Dec.{leb, ltb, eqb}
+use Rattle.sheet.specs.Bounds.{limit}
+use Rattle.sheet.specs.Tree.{Line, basic, ifLine, elseLine, endIf, repeat, endRepeat}
+
+-- "0 parameter, 1 independent, 2 dependent, 3 both"
+abbrev pub isIndependent : ℕ → Bool
+isIndependent role = eqb role 1 || eqb role 3
+
+abbrev pub isDependent : ℕ → Bool
+isDependent role = eqb role 2 || eqb role 3
+
+-- what an assignment reads: variables by number, or a constant by number
+pub data Source : Type 0 where
+  copy : ℕ → Source
+  fixed : ℕ → Source
+  sum : ℕ → ℕ → Source
+  difference : ℕ → ℕ → Source
+  product : ℕ → ℕ → Source
+  negation : ℕ → Source
+
+infix 20 _≔_
+pub data Assignment : Type 0 where
+  _≔_ : ℕ → Source → Assignment
+
+-- "if value a < value b, strictly"
+pub data Test : Type 0 where
+  less : ℕ → ℕ → Test
+
+abbrev pub SheetLine : Type 0
+SheetLine = Line Assignment Test
+
+-- "rows of four words: kind, d, a, b"
+pub record Row : Type 0 where
+  pub kind : ℕ
+  pub d : ℕ
+  pub a : ℕ
+  pub b : ℕ
+
+-- what a word of a row may be
+pub data Slot : Type 0 where
+  variable : Slot
+  constant : Slot
+  turns : Slot
+  unused : Slot
+
+-- "absent variable or constant, repeat count not 1 to 1000, unused word not 0"
+unfoldable pub fits : (variables constants : ℕ) → Slot → ℕ → Bool
+fits v k variable word = ltb word v
+fits v k constant word = ltb word k
+fits v k turns word = leb 1 word && leb word (limit .turns)
+fits v k unused word = eqb word 0
+
+pub record Kind : Type 0 where
+  pub d : Slot
+  pub a : Slot
+  pub b : Slot
+  pub means : (d a b : ℕ) → SheetLine
+
+-- 01's table of kinds, from kind 1 on. "One fixed table says for each kind which of its three words name a variable."
+abbrev pub kinds : List Kind
+kinds =
+    record { d = variable; a = variable; b = unused; means = λ d a b. basic (d ≔ copy a) }
+    ∷ record { d = variable; a = constant; b = unused; means = λ d a b. basic (d ≔ fixed a) }
+    ∷ record { d = variable; a = variable; b = variable; means = λ d a b. basic (d ≔ sum a b) }
+    ∷ record { d = variable; a = variable; b = variable; means = λ d a b. basic (d ≔ difference a b) }
+    ∷ record { d = variable; a = variable; b = variable; means = λ d a b. basic (d ≔ product a b) }
+    ∷ record { d = variable; a = variable; b = unused; means = λ d a b. basic (d ≔ negation a) }
+    ∷ record { d = unused; a = variable; b = variable; means = λ d a b. ifLine (less a b) }
+    ∷ record { d = unused; a = unused; b = unused; means = λ d a b. elseLine }
+    ∷ record { d = unused; a = unused; b = unused; means = λ d a b. endIf }
+    ∷ record { d = unused; a = turns; b = unused; means = λ d a b. repeat (pred a) }
+    ∷ record { d = unused; a = unused; b = unused; means = λ d a b. endRepeat }
+    ∷ []
+
+unfoldable pub kindOf : ℕ → Option Kind
+kindOf zero = none
+kindOf (suc n) = getElem? kinds n
+
+unfoldable pub wordsFit : (variables constants : ℕ) → Kind → Row → Bool
+unfolding fits
+wordsFit v k kind row = fits v k (kind .d) (row .d) && fits v k (kind .a) (row .a) && fits v k (kind .b) (row .b)
+
+-- the row that says a line: an adjoint table's rows begin as a sheet's do, so both are written through these
+unfoldable pub rowOfAssignment : Assignment → Row
+rowOfAssignment (d ≔ copy a) = record { kind = 1; d = d; a = a; b = 0 }
+rowOfAssignment (d ≔ fixed a) = record { kind = 2; d = d; a = a; b = 0 }
+rowOfAssignment (d ≔ sum a b) = record { kind = 3; d = d; a = a; b = b }
+rowOfAssignment (d ≔ difference a b) = record { kind = 4; d = d; a = a; b = b }
+rowOfAssignment (d ≔ product a b) = record { kind = 5; d = d; a = a; b = b }
+rowOfAssignment (d ≔ negation a) = record { kind = 6; d = d; a = a; b = 0 }
+
+unfoldable pub rowOfTest : Test → Row
+rowOfTest (less a b) = record { kind = 7; d = 0; a = a; b = b }
+
+module _ {B F : Type 0} (ofBasic : B → Row) (ofTest : F → Row) where
+  unfoldable pub rowOf : Line B F → Row
+  rowOf (basic b) = ofBasic b
+  rowOf (ifLine f) = ofTest f
+  rowOf elseLine = record { kind = 8; d = 0; a = 0; b = 0 }
+  rowOf endIf = record { kind = 9; d = 0; a = 0; b = 0 }
+  rowOf (repeat m) = record { kind = 10; d = 0; a = suc m; b = 0 }
+  rowOf endRepeat = record { kind = 11; d = 0; a = 0; b = 0 }

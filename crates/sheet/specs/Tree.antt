@@ -1,0 +1,41 @@
+-- Rows as blocks. One tree serves as a sheet's body, as that body with marks, and as an adjoint table.
+use Prim.Native.Nat.{ℕ, zero, suc, _+_}
+use mathlib.Core.List.{List, [], _∷_}
+
+-- B: rows that are no part of a block; F: what an "if" tests. The last field is what follows in the same block.
+pub data Tree (B F : Type 0) : Type 0 where
+  done : Tree B F
+  one : B → Tree B F → Tree B F
+  -- the first branch, the second, what follows
+  fork : F → Tree B F → Tree B F → Tree B F → Tree B F
+  -- `again m`: m + 1 turns, so that no repeat does nothing
+  again : ℕ → Tree B F → Tree B F → Tree B F
+
+-- a row as it stands in a sheet or a table
+pub data Line (B F : Type 0) : Type 0 where
+  basic : B → Line B F
+  ifLine : F → Line B F
+  elseLine : Line B F
+  endIf : Line B F
+  -- m + 1 turns
+  repeat : ℕ → Line B F
+  endRepeat : Line B F
+
+module _ {B F : Type 0} where
+  -- a tree's lines, before those of `rest`
+  unfoldable pub flat : Tree B F → List (Line B F) → List (Line B F)
+  flat done rest = rest
+  flat (one b k) rest = basic b ∷ flat k rest
+  flat (fork f a b k) rest = ifLine f ∷ flat a (elseLine ∷ flat b (endIf ∷ flat k rest))
+  flat (again m a k) rest = repeat m ∷ flat a (endRepeat ∷ flat k rest)
+
+  -- how many lines that is
+  unfoldable pub rows : Tree B F → ℕ
+  rows done = 0
+  rows (one b k) = 1 + rows k
+  rows (fork f a b k) = 3 + (rows a + rows b + rows k)
+  rows (again m a k) = 2 + (rows a + rows k)
+
+-- the number of a row, from 0: no variable can stand where one is asked for
+pub record RowNumber : Type 0 where
+  pub index : ℕ

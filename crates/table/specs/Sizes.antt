@@ -1,0 +1,25 @@
+-- R, S and T.
+use Prim.Native.Nat.{ℕ, suc, _+_, _*_, max}
+use mathlib.Core.Bool.{cond}
+use Rattle.sheet.specs.Tree.{Tree, done, one, fork, again, rows}
+use Rattle.sets.specs.Marks.{Marked, MarkedTest}
+use Rattle.table.specs.Adjoint.{Body, adjointTable}
+
+-- R
+unfoldable pub tableRows : (variables : ℕ) → Body → ℕ
+unfolding rows adjointTable
+tableRows variables body = rows (adjointTable variables body)
+
+-- "S, the value stack needed: a recorded row counts 1, an if block the larger branch, a repeat a times its body."
+unfoldable pub valuesNeeded : Body → ℕ
+valuesNeeded done = 0
+valuesNeeded (one m k) = cond (m .saved) 1 0 + valuesNeeded k
+valuesNeeded (fork f a b k) = max (valuesNeeded a) (valuesNeeded b) + valuesNeeded k
+valuesNeeded (again n a k) = suc n * valuesNeeded a + valuesNeeded k
+
+-- "T, the turn stack: an if block counts 1 + the larger branch; repeats multiply."
+unfoldable pub turnsNeeded : Body → ℕ
+turnsNeeded done = 0
+turnsNeeded (one m k) = turnsNeeded k
+turnsNeeded (fork f a b k) = 1 + max (turnsNeeded a) (turnsNeeded b) + turnsNeeded k
+turnsNeeded (again n a k) = suc n * turnsNeeded a + turnsNeeded k

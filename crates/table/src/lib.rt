@@ -1,0 +1,1 @@
+// The table writer. No function yet: the definitions are in specs/.
