@@ -1,22 +1,18 @@
--- "Sheets worked by hand": the starred ones as one table, and what the definitions find for each.
+-- "Sheets worked by hand": the starred ones as one table, what 01 states of each, and what the definitions find.
 use Prim.Native.Nat.{ℕ, _+_, _*_}
 use mathlib.Core.Bool.{Bool, true, false}
 use mathlib.Core.List.{List, [], _∷_, _++_, map}
-use mathlib.Core.Option.{Option, none, some}
 use lib.IntN.{pos}
 use lib.ListN.{length, replicate}
-use lib.Ieee.{Float, add, sub, mul, neg, lt, ofInt}
 use Rattle.number.specs.Arithmetic.{Arithmetic}
 use Rattle.number.specs.Doubles.{doubles}
-use Rattle.number.specs.Residues.{residues, residue, opposite, residueOf}
+use Rattle.number.specs.Residues.{residues}
 use Rattle.sheet.specs.Refusals.{Answer, refused, given}
 use Rattle.sheet.specs.Tree.{Tree, done, one, fork, again}
 use Rattle.sheet.specs.Reading.{Sheet, read}
 use Rattle.sets.specs.Marks.{Marked, MarkedTest, marked}
-use Rattle.table.specs.TableRows.{tableWords}
-use Rattle.table.specs.Adjoint.{tableOf}
-use Rattle.table.specs.Calls.{Checked, check, write}
-use Rattle.run.specs.Calls.{Lent, run}
+use Rattle.table.specs.Calls.{Sizes, Checked, check, Written, write, tableRoom}
+use Rattle.run.specs.Calls.{Lent, Ran, run}
 
 -- start values, seeds and the 2V numbers that come out
 pub record Trial : Type 0 where
@@ -26,38 +22,197 @@ pub record Trial : Type 0 where
 
 pub record Worked : Type 0 where
   pub words : List ℕ
-  pub longest : ℕ
-  pub rows : ℕ
-  pub values : ℕ
-  pub turns : ℕ
-  -- the rows that are recorded
+  pub sizes : Sizes
+  -- the numbers of the recorded rows
   pub recorded : List ℕ
-  -- the table, where 01 gives it whole
-  pub table : Option (List ℕ)
-  -- in both arithmetics, and in audit alone
+  -- the table's words, where 01 gives them whole
+  pub table : List (List ℕ)
+  -- runs that come out the same in both arithmetics, and runs in audit
   pub trials : List Trial
   pub audits : List Trial
 
+abbrev pub starred : List Worked
+starred =
+    -- A, whole
+    record {
+      words = 3 ∷ 1 ∷ 1 ∷ 2 ∷ 0 ∷ 1 ∷ 5 ∷ 2 ∷ 0 ∷ 1 ∷ [];
+      sizes = record { longest = 1; rows = 8; values = 0; turns = 0 };
+      recorded = [];
+      table =
+          (8
+          ∷ 5 ∷ 2 ∷ 0 ∷ 1
+          ∷ 17 ∷ 0 ∷ 0 ∷ 0
+          ∷ 1 ∷ 6 ∷ 5 ∷ 0
+          ∷ 16 ∷ 5 ∷ 0 ∷ 0
+          ∷ 5 ∷ 7 ∷ 1 ∷ 6
+          ∷ 3 ∷ 3 ∷ 3 ∷ 7
+          ∷ 5 ∷ 7 ∷ 0 ∷ 6
+          ∷ 3 ∷ 4 ∷ 4 ∷ 7
+          ∷ [])
+          ∷ [];
+      trials = record { starts = 3 ∷ 4 ∷ 0 ∷ []; seeds = 0 ∷ 0 ∷ 1 ∷ []; result = 3 ∷ 4 ∷ 12 ∷ 4 ∷ 3 ∷ 0 ∷ [] } ∷ [];
+      audits = [];
+    }
+    -- B, and G, which is B in audit
+    ∷ record {
+      words = 1 ∷ 3 ∷ 0 ∷ 1 ∷ 5 ∷ 0 ∷ 0 ∷ 0 ∷ [];
+      sizes = record { longest = 1; rows = 10; values = 1; turns = 0 };
+      recorded = 0 ∷ [];
+      table = [];
+      trials = record { starts = 3 ∷ []; seeds = 1 ∷ []; result = 9 ∷ 6 ∷ [] } ∷ [];
+      audits = record { starts = 65536 ∷ []; seeds = 1 ∷ []; result = 0 ∷ 131072 ∷ [] } ∷ [];
+    }
+    -- C: B inside repeat 3
+    ∷ record {
+      words = 1 ∷ 3 ∷ 0 ∷ 3 ∷ 10 ∷ 0 ∷ 3 ∷ 0 ∷ 5 ∷ 0 ∷ 0 ∷ 0 ∷ 11 ∷ 0 ∷ 0 ∷ 0 ∷ [];
+      sizes = record { longest = 7; rows = 14; values = 3; turns = 0 };
+      recorded = 1 ∷ [];
+      table = [];
+      trials = record { starts = 2 ∷ []; seeds = 1 ∷ []; result = 256 ∷ 1024 ∷ [] } ∷ [];
+      audits = [];
+    }
+    -- D, the clamp
+    ∷ record {
+      words = 2 ∷ 3 ∷ 0 ∷ 0 ∷ 4 ∷ 7 ∷ 0 ∷ 1 ∷ 0 ∷ 1 ∷ 0 ∷ 1 ∷ 0 ∷ 8 ∷ 0 ∷ 0 ∷ 0 ∷ 9 ∷ 0 ∷ 0 ∷ 0 ∷ [];
+      sizes = record { longest = 2; rows = 11; values = 0; turns = 1 };
+      recorded = [];
+      table = [];
+      trials =
+          record { starts = 5 ∷ 2 ∷ []; seeds = 1 ∷ 0 ∷ []; result = 2 ∷ 2 ∷ 0 ∷ 0 ∷ [] }
+          ∷ record { starts = 1 ∷ 2 ∷ []; seeds = 1 ∷ 0 ∷ []; result = 1 ∷ 2 ∷ 1 ∷ 0 ∷ [] }
+          ∷ record { starts = 2 ∷ 2 ∷ []; seeds = 1 ∷ 0 ∷ []; result = 2 ∷ 2 ∷ 1 ∷ 0 ∷ [] }
+          ∷ [];
+      audits = [];
+    }
+    -- E
+    ∷ record {
+      words = 2 ∷ 3 ∷ 0 ∷ 0 ∷ 4 ∷ 10 ∷ 0 ∷ 2 ∷ 0 ∷ 5 ∷ 1 ∷ 0 ∷ 0 ∷ 3 ∷ 0 ∷ 0 ∷ 1 ∷ 11 ∷ 0 ∷ 0 ∷ 0 ∷ [];
+      sizes = record { longest = 7; rows = 19; values = 2; turns = 0 };
+      recorded = 2 ∷ [];
+      table = [];
+      trials = record { starts = 1 ∷ 0 ∷ []; seeds = 1 ∷ 0 ∷ []; result = 6 ∷ 4 ∷ 15 ∷ 0 ∷ [] } ∷ [];
+      audits = [];
+    }
+    -- F
+    ∷ record {
+      words = 1 ∷ 3 ∷ 0 ∷ 0 ∷ [];
+      sizes = record { longest = 0; rows = 1; values = 0; turns = 0 };
+      recorded = [];
+      table = (1 ∷ 17 ∷ 0 ∷ 0 ∷ 0 ∷ []) ∷ [];
+      trials = record { starts = 7 ∷ []; seeds = 5 ∷ []; result = 7 ∷ 5 ∷ [] } ∷ [];
+      audits = [];
+    }
+    -- H
+    ∷ record {
+      words = 2 ∷ 3 ∷ 0 ∷ 0 ∷ 1 ∷ 5 ∷ 0 ∷ 0 ∷ 1 ∷ [];
+      sizes = record { longest = 1; rows = 8; values = 1; turns = 0 };
+      recorded = 0 ∷ [];
+      table = [];
+      trials = [];
+      audits = [];
+    }
+    -- I: E's two rows the other way about
+    ∷ record {
+      words = 2 ∷ 3 ∷ 0 ∷ 0 ∷ 4 ∷ 10 ∷ 0 ∷ 2 ∷ 0 ∷ 3 ∷ 0 ∷ 0 ∷ 1 ∷ 5 ∷ 1 ∷ 0 ∷ 0 ∷ 11 ∷ 0 ∷ 0 ∷ 0 ∷ [];
+      sizes = record { longest = 7; rows = 19; values = 2; turns = 0 };
+      recorded = 1 ∷ [];
+      table = [];
+      trials = record { starts = 1 ∷ 0 ∷ []; seeds = 1 ∷ 0 ∷ []; result = 2 ∷ 4 ∷ 3 ∷ 0 ∷ [] } ∷ [];
+      audits = [];
+    }
+    ∷ []
+
+-- ---- what is compared
+
+-- a run's answer without the table buffer, which `write` shows
+pub record Run (A : Arithmetic) : Type 0 where
+  pub number : ℕ
+  pub place : ℕ
+  pub values : List (A .Carrier)
+  pub turns : List ℕ
+  pub result : List (A .Carrier)
+
+pub record Findings : Type 0 where
+  pub check : Checked
+  pub recorded : List ℕ
+  pub table : List Written
+  pub doubleRuns : List (Run doubles)
+  pub auditRuns : List (Run residues)
+
+-- the buffers lent: exactly as long as 01 asks for, and no word of them 0
+abbrev pub seven : (A : Arithmetic) → ℕ → List (A .Carrier)
+seven A n = replicate n (A .constant (pos 7))
+
+abbrev pub lentFor : (A : Arithmetic) → Sizes → Trial → Lent A
+lentFor A sizes trial =
+    record {
+      table = replicate (tableRoom (sizes .rows)) 7;
+      values = seven A (sizes .values);
+      turns = replicate (sizes .turns) 7;
+      result = seven A (length (trial .result));
+    }
+
+abbrev pub numbers : (A : Arithmetic) → List ℕ → List (A .Carrier)
+numbers A = map (λ n. A .constant (pos n))
+
+-- ---- as 01 states it
+
+abbrev pub runStated : (A : Arithmetic) → Sizes → Trial → Run A
+runStated A sizes trial =
+    record {
+      number = 0;
+      place = 0;
+      values = replicate (sizes .values) (A .zero);
+      turns = replicate (sizes .turns) 0;
+      result = numbers A (trial .result);
+    }
+
+unfoldable pub stated : Worked → Findings
+stated w =
+    record {
+      check = record { number = 0; place = 0; sizes = w .sizes };
+      recorded = w .recorded;
+      table = map (λ words. record { number = 0; place = 0; table = words }) (w .table);
+      doubleRuns = map (runStated doubles (w .sizes)) (w .trials);
+      auditRuns = map (runStated residues (w .sizes)) (w .trials ++ w .audits);
+    }
+
+-- ---- as the definitions have it
+
 unfoldable pub recordedRows : Tree Marked MarkedTest → List ℕ
 recordedRows done = []
-recordedRows (one m k) = chosen (m .saved) (recordedRows k)
+recordedRows (one m k) = alsoThis (m .saved) (recordedRows k)
   where
-    chosen : Bool → List ℕ → List ℕ
-    chosen true rest = m .row .index ∷ rest
-    chosen false rest = rest
+    alsoThis : Bool → List ℕ → List ℕ
+    alsoThis true rest = m .row .index ∷ rest
+    alsoThis false rest = rest
 recordedRows (fork f a b k) = recordedRows a ++ recordedRows b ++ recordedRows k
 recordedRows (again n a k) = recordedRows a ++ recordedRows k
 
--- buffers of exactly the sizes that 01 computes, none of them zero
-module _ (A : Arithmetic) where
-  abbrev pub exactly : Worked → Lent A
-  exactly w =
-      record {
-        table = replicate (1 + 4 * w .rows) 7;
-        values = replicate (w .values) (A .constant (pos 7));
-        turns = replicate (w .turns) 7;
-        result = map (λ x. A .constant (pos 7)) (r)
-      }
-    where
-      r : List ℕ
-      r = []
+unfoldable pub recordedIn : Answer Sheet → List ℕ
+unfolding marked recordedRows
+recordedIn (refused r) = []
+recordedIn (given sheet) = recordedRows (marked sheet)
+
+unfoldable pub runFound : (A : Arithmetic) → List ℕ → Sizes → Trial → Run A
+unfolding run
+runFound A words sizes trial =
+    let answer = run A words (numbers A (trial .starts)) (numbers A (trial .seeds)) (lentFor A sizes trial) in
+    record {
+      number = answer .number;
+      place = answer .place;
+      values = answer .lent .values;
+      turns = answer .lent .turns;
+      result = answer .lent .result;
+    }
+
+unfoldable pub found : Worked → Findings
+unfolding check read recordedIn write runFound
+found w =
+    record {
+      check = check (w .words);
+      recorded = recordedIn (read (w .words));
+      table = map (λ words. write (w .words) (replicate (length words) 7)) (w .table);
+      doubleRuns = map (runFound doubles (w .words) (w .sizes)) (w .trials);
+      auditRuns = map (runFound residues (w .words) (w .sizes)) (w .trials ++ w .audits);
+    }

@@ -1,0 +1,2 @@
+-- The theorems of the demands.
+pub mod WorkedSheetsHold
