@@ -78,16 +78,17 @@ pub record Progress : Type 0 where
   pub blocks : List Block
   pub items : List Item
 
--- "kind not 1 to 11" or a word that doesn't fit: 5
+-- "kind not 1 to 11", or a word that doesn't fit its slot: 5
+unfoldable pub lineBy : (variables constants : ℕ) → Option Kind → Row → (place : ℕ) → Answer SheetLine
+unfolding wordsFit
+lineBy v k none r place = refused (badRow place)
+lineBy v k (some kind) r place = do
+  _ ← unless (wordsFit v k kind r) (badRow place)
+  given (kind .means (r .d) (r .a) (r .b))
+
 unfoldable pub lineOf : (variables constants : ℕ) → Row → (place : ℕ) → Answer SheetLine
-unfolding kindOf wordsFit
-lineOf v k r place = judged (kindOf (r .kind))
-  where
-    judged : Option Kind → Answer SheetLine
-    judged none = refused (badRow place)
-    judged (some kind) = do
-      _ ← unless (wordsFit v k kind r) (badRow place)
-      given (kind .means (r .d) (r .a) (r .b))
+unfolding kindOf lineBy
+lineOf v k r place = lineBy v k (kindOf (r .kind)) r place
 
 -- "a block closed or split wrongly .. or a ninth level opened": 6
 unfoldable pub entered : Block → (place : ℕ) → List Block → Answer Progress

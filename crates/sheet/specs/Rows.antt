@@ -1,12 +1,12 @@
 -- Roles, kinds and rows: what each word of a row is, and what the row means.
 use Prim.Native.Nat.{ℕ, zero, suc, pred}
 use mathlib.Core.Bool.{Bool, _&&_, _||_}
-use mathlib.Core.List.{List, [], _∷_}
+use mathlib.Core.List.{List, [], _∷_, map}
 use mathlib.Core.Option.{Option, none, some}
 use lib.ListN.{getElem?}
 use lib.Dec.{leb, ltb, eqb}
 use Rattle.sheet.specs.Bounds.{limit}
-use Rattle.sheet.specs.Tree.{Line, basic, ifLine, elseLine, endIf, repeat, endRepeat}
+use Rattle.sheet.specs.Tree.{Tree, flat, Line, basic, ifLine, elseLine, endIf, repeat, endRepeat}
 
 -- "0 parameter, 1 independent, 2 dependent, 3 both"
 abbrev pub isIndependent : ℕ → Bool
@@ -106,3 +106,12 @@ module _ {B F : Type 0} (ofBasic : B → Row) (ofTest : F → Row) where
   rowOf endIf = record { kind = 9; d = 0; a = 0; b = 0 }
   rowOf (repeat m) = record { kind = 10; d = 0; a = suc m; b = 0 }
   rowOf endRepeat = record { kind = 11; d = 0; a = 0; b = 0 }
+
+unfoldable pub sheetRowOf : SheetLine → Row
+unfolding rowOf rowOfAssignment rowOfTest
+sheetRowOf = rowOf rowOfAssignment rowOfTest
+
+-- the rows that a sheet's tree says
+unfoldable pub treeRows : Tree Assignment Test → List Row
+unfolding flat sheetRowOf
+treeRows tree = map sheetRowOf (flat tree [])
