@@ -4,7 +4,7 @@ use mathlib.Core.Bool.{Bool, false, cond}
 use mathlib.Core.List.{List, [], _∷_}
 use mathlib.Core.Option.{Option, none, some}
 use lib.Bits.{bitOr, bitXor}
-use lib.Dec.{eqb}
+use lib.Dec.{T, eqb}
 
 abbrev pub VariableSet : Type 0
 VariableSet = ℕ
@@ -38,3 +38,8 @@ hasSome s (some i) = has s i
 abbrev pub singleSome : Option ℕ → VariableSet
 singleSome none = empty
 singleSome (some i) = single i
+
+-- every member of s is one of t
+infix 40 _⊆_
+abbrev pub _⊆_ : VariableSet → VariableSet → Type 0
+s ⊆ t = (i : ℕ) → T (has s i) → T (has t i)

@@ -5,3 +5,4 @@ pub mod Tree
 pub mod Rows
 pub mod LongestRun
 pub mod Reading
+pub mod Names

@@ -1,0 +1,26 @@
+-- What refusal 5 rules out: every variable and every constant that an accepted body names is there.
+use Prim.Native.Nat.{ℕ, _<_}
+use Rattle.sheet.specs.Tree.{Tree, done, one, fork, again}
+use Rattle.sheet.specs.Rows.{Assignment, _≔_, Source, copy, fixed, sum, difference, product, negation, Test, less}
+
+unfoldable pub SourcePresent : (variables constants : ℕ) → Source → Type 0
+SourcePresent v k (copy a) = a < v
+SourcePresent v k (fixed c) = c < k
+SourcePresent v k (sum a b) = (a < v) × (b < v)
+SourcePresent v k (difference a b) = (a < v) × (b < v)
+SourcePresent v k (product a b) = (a < v) × (b < v)
+SourcePresent v k (negation a) = a < v
+
+unfoldable pub AssignmentPresent : (variables constants : ℕ) → Assignment → Type 0
+unfolding SourcePresent
+AssignmentPresent v k (d ≔ source) = (d < v) × SourcePresent v k source
+
+unfoldable pub TestPresent : (variables : ℕ) → Test → Type 0
+TestPresent v (less a b) = (a < v) × (b < v)
+
+unfoldable pub Present : (variables constants : ℕ) → Tree Assignment Test → Type 0
+unfolding AssignmentPresent TestPresent
+Present v k done = Unit {0}
+Present v k (one b rest) = AssignmentPresent v k b × Present v k rest
+Present v k (fork f first second rest) = TestPresent v f × Present v k first × Present v k second × Present v k rest
+Present v k (again m body rest) = Present v k body × Present v k rest
