@@ -1,2 +1,3 @@
 -- The theorems of the demands.
 pub mod WorkedSheetsHold
+pub mod Runs

@@ -1,14 +1,14 @@
--- Executing a sheet by itself, without sets and without a table: its values, and the assignments executed.
+-- Executing a sheet by itself, without sets and without a table: its values, and what was executed.
 use Prim.Native.Nat.{ℕ, zero, suc, _+_}
 use mathlib.Core.Bool.{Bool, true, false}
 use mathlib.Core.List.{List, [], _∷_}
 use Rattle.number.specs.Arithmetic.{Arithmetic}
 use Rattle.sheet.specs.Tree.{Tree, done, one, fork, again, rows, RowNumber}
-use Rattle.sheet.specs.Rows.{Assignment, _≔_, Test, less}
+use Rattle.sheet.specs.Rows.{Assignment, _≔_, Test}
 use Rattle.sheet.specs.Reading.{Sheet}
 use Rattle.table.specs.TableRows.{Origin, ofRow, itself}
-use Rattle.run.specs.Attempts.{Attempt, through, halted, stuck, _>>=_, look, replaced}
-use Rattle.run.specs.Actions.{evaluated}
+use Rattle.run.specs.Attempts.{Attempt, through, halted, stuck, _>>=_, present, replaced}
+use Rattle.run.specs.Actions.{evaluated, compared}
 
 module _ (A : Arithmetic) where
   -- one executed assignment, with the values just before it
@@ -17,12 +17,13 @@ module _ (A : Arithmetic) where
     pub assignment : Assignment
     pub before : List (A .Carrier)
 
-  -- the values now, and what has been executed, the latest first
+  -- the values now, the assignments executed, and the branches taken and left again, each the latest first
   pub record Progress : Type 0 where
     pub store : List (A .Carrier)
     pub trace : List Executed
+    pub turns : List Bool
 
-  -- where an execution stopped, and why
+  -- where it stopped, and why
   pub record Stop : Type 0 where
     pub origin : Origin
     pub why : A .Why
@@ -32,38 +33,48 @@ module _ (A : Arithmetic) where
   from origin (halted why) = halted (record { origin = origin; why = why })
   from origin stuck = stuck
 
+  -- row p, an assignment, takes the values from `before` to `store`
+  abbrev pub onward : ℕ → Assignment → Progress → List (A .Carrier) → Progress
+  onward p b now store =
+      record {
+        store = store;
+        trace = record { row = record { index = p }; assignment = b; before = now .store } ∷ now .trace;
+        turns = now .turns;
+      }
+
   unfoldable pub performed : (constants : List ℕ) → (row : ℕ) → Assignment → Progress → Attempt Stop Progress
   unfolding evaluated
   performed constants p (d ≔ source) now = do
     x ← from (ofRow (record { index = p }) itself) (evaluated A constants source (now .store))
     store ← replaced (now .store) d x
-    through
-        (record { store = store; trace = record { row = record { index = p }; assignment = d ≔ source; before = now .store } ∷ now .trace })
+    through (onward p (d ≔ source) now store)
 
-  abbrev pub chosen : Bool → Attempt Stop Progress → Attempt Stop Progress → Attempt Stop Progress
+  abbrev pub turned : Bool → Progress → Progress
+  turned first now = record { store = now .store; trace = now .trace; turns = first ∷ now .turns }
+
+  abbrev pub chosen : {X : Type 0} → Bool → Attempt Stop X → Attempt Stop X → Attempt Stop X
   chosen true first second = first
   chosen false first second = second
 
   unfoldable pub executed : (constants : List ℕ) → Tree Assignment Test → (row : ℕ) → Progress → Attempt Stop Progress
-  unfolding performed rows
+  unfolding performed rows compared
   executed constants done p now = through now
   executed constants (one b k) p now = do
     next ← performed constants p b now
     executed constants k (suc p) next
-  executed constants (fork (less a b) first second k) p now = do
-    let split = suc p + rows first
-    let end = suc split + rows second
-    x ← look (now .store) a
-    y ← look (now .store) b
-    next ← chosen (A .less x y) (executed constants first (suc p) now) (executed constants second (suc split) now)
-    executed constants k (suc end) next
-  executed constants (again zero body k) p now = do
-    next ← executed constants body (suc p) now
-    executed constants k (suc (suc p + rows body)) next
-  executed constants (again (suc m) body k) p now = do
-    next ← executed constants body (suc p) now
-    executed constants (again m body k) p next
+  executed constants (fork f a b k) p now = do
+    let split = suc p + rows a
+    let end = suc split + rows b
+    first ← present (compared A f (now .store))
+    next ← chosen first (executed constants a (suc p) now) (executed constants b (suc split) now)
+    executed constants k (suc end) (turned first next)
+  executed constants (again zero a k) p now = do
+    next ← executed constants a (suc p) now
+    executed constants k (suc (suc p + rows a)) next
+  executed constants (again (suc m) a k) p now = do
+    next ← executed constants a (suc p) now
+    executed constants (again m a k) p next
 
   unfoldable pub execution : Sheet → (starts : List (A .Carrier)) → Attempt Stop Progress
   unfolding executed
-  execution sheet starts = executed (sheet .constants) (sheet .body) 0 (record { store = starts; trace = [] })
+  execution sheet starts = executed (sheet .constants) (sheet .body) 0 (record { store = starts; trace = []; turns = [] })

@@ -2,11 +2,12 @@
 use Prim.Native.Nat.{ℕ, _+_, _*_}
 use mathlib.Core.Bool.{Bool, cond}
 use mathlib.Core.List.{List, [], _∷_, _++_}
-use lib.ListN.{take, drop, getD}
+use mathlib.Core.Option.{Option, none, some}
+use lib.ListN.{take, drop, getD, getElem?}
 use lib.Dec.{eqb}
 use Rattle.number.specs.Arithmetic.{Arithmetic}
 use Rattle.number.specs.Constants.{signed}
-use Rattle.sheet.specs.Rows.{_≔_, Source, copy, fixed, sum, difference, product, negation, less, isDependent}
+use Rattle.sheet.specs.Rows.{_≔_, Source, copy, fixed, sum, difference, product, negation, Test, less, isDependent}
 use Rattle.table.specs.TableRows.{Action, assign, save, takeBack, saveTurn, clear, turnRound, TableTest, whether, onTurn, turnWord}
 use Rattle.run.specs.Attempts.{Attempt, through, stuck, _>>=_, whole, look, replaced, pushed}
 
@@ -106,23 +107,35 @@ module _ (A : Arithmetic) where
   acted setting (clear d) memory = stored memory d (A .zero)
   acted setting turnRound memory = through (turnedRound setting memory)
 
-  -- a test: whether the first branch is taken, and what is left
+  -- "if value a < value b, strictly"; none where a variable is unknown
+  abbrev pub lessOf : Option (A .Carrier) → Option (A .Carrier) → Option Bool
+  lessOf none y = none
+  lessOf (some x) none = none
+  lessOf (some x) (some y) = some (A .less x y)
+
+  unfoldable pub compared : Test → List (A .Carrier) → Option Bool
+  compared (less a b) store = lessOf (getElem? store a) (getElem? store b)
+
+  -- a test: whether the first branch is taken, and what is left. It does no arithmetic, so nothing can stop it.
   pub record Verdict : Type 0 where
     pub first : Bool
     pub memory : Memory
 
-  abbrev pub turnTaken : Memory → List ℕ → Try Verdict
-  turnTaken memory [] = stuck
+  abbrev pub verdictOn : Memory → Option Bool → Option Verdict
+  verdictOn memory none = none
+  verdictOn memory (some first) = some (record { first = first; memory = memory })
+
+  -- "1 takes the first branch"; a take from an empty stack gives nothing
+  abbrev pub turnTaken : Memory → List ℕ → Option Verdict
+  turnTaken memory [] = none
   turnTaken memory (turn ∷ turns) =
-      through
+      some
       (record {
         first = eqb turn 1;
         memory = record { store = memory .store; values = memory .values; turns = turns; copied = memory .copied };
       })
 
-  unfoldable pub tested : TableTest → Memory → Try Verdict
-  tested (whether (less a b)) memory = do
-    x ← look (memory .store) a
-    y ← look (memory .store) b
-    through (record { first = A .less x y; memory = memory })
+  unfoldable pub tested : TableTest → Memory → Option Verdict
+  unfolding compared
+  tested (whether f) memory = verdictOn memory (compared f (memory .store))
   tested onTurn memory = turnTaken memory (memory .turns)

@@ -71,11 +71,9 @@ module _ (A : Arithmetic) where
   branchTo state rest true memory = goTo (suc (state .at)) (state .repeats) memory
   branchTo state rest false memory = jump state memory (oneMore (seek itsElse 0 rest))
 
-  -- a test does no arithmetic, so nothing can stop it
-  abbrev pub afterTest : State → List TableLine → Try A (Verdict A) → Step
-  afterTest state rest (through verdict) = branchTo state rest (verdict .first) (verdict .memory)
-  afterTest state rest (halted why) = sticks
-  afterTest state rest stuck = sticks
+  abbrev pub afterTest : State → List TableLine → Option (Verdict A) → Step
+  afterTest state rest none = sticks
+  afterTest state rest (some verdict) = branchTo state rest (verdict .first) (verdict .memory)
 
   abbrev pub afterTurn : State → List Repeat → Step
   afterTurn state [] = sticks

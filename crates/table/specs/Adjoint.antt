@@ -66,7 +66,7 @@ module _ (variables : ℕ) where
   partsOf (negation a) row known rest = putIf (known .variedA) row addingToA (subtractFrom a (t variables)) rest
 
   -- "If not active: d̄ := 0. If active: t := d̄; d̄ := 0; then" the parts
-  abbrev pub derivativeRows : Bool → ℕ → Source → RowNumber → Activity → Table → Table
+  unfoldable pub derivativeRows : Bool → ℕ → Source → RowNumber → Activity → Table → Table
   unfolding partsOf
   derivativeRows false d source row known rest = put row clearing (clear (adjointOf variables d)) rest
   derivativeRows true d source row known rest =

@@ -1,0 +1,111 @@
+-- An execution that went through, as a derivation: what the claims go by.
+use Prim.Native.Nat.{ℕ, zero, suc, _+_, _<_}
+use mathlib.Core.Path.{_≡_, refl, subst}
+use mathlib.Core.Bool.{Bool, true, false, cond}
+use mathlib.Core.List.{List, [], _∷_}
+use mathlib.Core.Option.{Option, none, some}
+use lib.ListN.{length, set}
+use lib.Dec.{ltb, ltb→lt}
+use native.Mathlib.Omega.{arith}
+use Rattle.number.specs.Arithmetic.{Arithmetic}
+use Rattle.sheet.specs.Tree.{Tree, done, one, fork, again, rows}
+use Rattle.sheet.specs.Rows.{Assignment, _≔_, Source, Test}
+use Rattle.table.specs.TableRows.{Origin, ofRow, itself}
+use Rattle.run.specs.Attempts.{Attempt, through, halted, stuck, _>>=_, present, replaced}
+use Rattle.run.specs.Actions.{evaluated, compared}
+use Rattle.claims.specs.Execution.{Progress, Stop, from, onward, performed, turned, chosen, executed}
+
+-- ---- attempts in turn
+
+pub went : {W X Y : Type 0} (m : Attempt W X) (next : X → Attempt W Y) (y : Y) → (m >>= next) ≡ through y
+    → (x : X) × (m ≡ through x) × (next x ≡ through y)
+went (through x) next y e = (x, refl, e)
+went (halted why) next y e = let z : _≡_ {A = ℕ} 0 1 = cc in absurd (omega arith)
+went stuck next y e = let z : _≡_ {A = ℕ} 0 1 = cc in absurd (omega arith)
+
+pub same-through : {W X : Type 0} {x y : X} → _≡_ {A = Attempt W X} (through x) (through y) → x ≡ y
+same-through e = cc
+
+pub is-present : {W X : Type 0} (o : Option X) (x : X) → present {Why = W} o ≡ through x → o ≡ some x
+is-present none x e = let z : _≡_ {A = ℕ} 0 1 = cc in absurd (omega arith)
+is-present (some y) x e = cc
+
+-- a store that was replaced at a place had that place
+pub was-replaced : {W X : Type 0} (xs ys : List X) (i : ℕ) (x : X) → replaced {Why = W} xs i x ≡ through ys → (i < length xs) × (ys ≡ set xs i x)
+was-replaced {W} {X} xs ys i x e = by-test (ltb i (length xs)) refl e
+  where
+    by-test : (b : Bool) → ltb i (length xs) ≡ b → cond {A = Attempt W (List X)} b (through (set xs i x)) stuck ≡ through ys → (i < length xs) × (ys ≡ set xs i x)
+    by-test true p q = (ltb→lt i (length xs) (rw p tt), cc)
+    by-test false p q = let z : _≡_ {A = ℕ} 0 1 = cc in absurd (omega arith)
+
+module _ (A : Arithmetic) where
+  pub came : {X : Type 0} (origin : Origin) (m : Attempt (A .Why) X) (x : X) → from A origin m ≡ through x → m ≡ through x
+  came origin (through y) x e = cc
+  came origin (halted why) x e = let z : _≡_ {A = ℕ} 0 1 = cc in absurd (omega arith)
+  came origin stuck x e = let z : _≡_ {A = ℕ} 0 1 = cc in absurd (omega arith)
+
+  module _ (constants : List ℕ) where
+    -- one assignment that went through: the value it gave, and the values before and after
+    pub record Performed (p d : ℕ) (source : Source) (now next : Progress A) : Type 0 where
+      pub value : A .Carrier
+      pub gives : evaluated A constants source (now .store) ≡ through value
+      pub known : d < length (now .store)
+      pub goes : next ≡ onward A p (d ≔ source) now (set (now .store) d value)
+
+    pub was-performed : (p d : ℕ) (source : Source) (now next : Progress A) → performed A constants p (d ≔ source) now ≡ through next
+        → Performed p d source now next
+    unfolding performed
+    was-performed p d source now next e =
+        let first = went (from A (ofRow (record { index = p }) itself) (evaluated A constants source (now .store))) _ next e in
+        let second = went (replaced (now .store) d (first .0)) _ next (first .2) in
+        let store = was-replaced (now .store) (second .0) d (first .0) (second .1) in
+        record {
+          value = first .0;
+          gives = came (ofRow (record { index = p }) itself) (evaluated A constants source (now .store)) (first .0) (first .1);
+          known = store .0;
+          goes = cc (second .2, store .1);
+        }
+
+    pub data Runs : Tree Assignment Test → ℕ → Progress A → Progress A → Type 0 where
+      stay : {p : ℕ} {s : Progress A} → Runs done p s s
+      row : {b : Assignment} {k : Tree Assignment Test} {p : ℕ} {s m e : Progress A}
+          → performed A constants p b s ≡ through m → Runs k (suc p) m e → Runs (one b k) p s e
+      left : {f : Test} {a b k : Tree Assignment Test} {p : ℕ} {s m e : Progress A}
+          → compared A f (s .store) ≡ some true → Runs a (suc p) s m → Runs k (suc (suc (suc p + rows a) + rows b)) (turned A true m) e
+          → Runs (fork f a b k) p s e
+      right : {f : Test} {a b k : Tree Assignment Test} {p : ℕ} {s m e : Progress A}
+          → compared A f (s .store) ≡ some false → Runs b (suc (suc p + rows a)) s m
+          → Runs k (suc (suc (suc p + rows a) + rows b)) (turned A false m) e → Runs (fork f a b k) p s e
+      last : {a k : Tree Assignment Test} {p : ℕ} {s m e : Progress A}
+          → Runs a (suc p) s m → Runs k (suc (suc p + rows a)) m e → Runs (again zero a k) p s e
+      more : {n : ℕ} {a k : Tree Assignment Test} {p : ℕ} {s m e : Progress A}
+          → Runs a (suc p) s m → Runs (again n a k) p m e → Runs (again (suc n) a k) p s e
+
+    -- by the branch that was taken
+    fork-runs : (f : Test) (a b k : Tree Assignment Test) (p : ℕ) (s m e : Progress A) (first : Bool) → compared A f (s .store) ≡ some first
+        → chosen A first (executed A constants a (suc p) s) (executed A constants b (suc (suc p + rows a)) s) ≡ through m
+        → (executed A constants a (suc p) s ≡ through m → Runs a (suc p) s m)
+        → (executed A constants b (suc (suc p + rows a)) s ≡ through m → Runs b (suc (suc p + rows a)) s m)
+        → Runs k (suc (suc (suc p + rows a) + rows b)) (turned A first m) e → Runs (fork f a b k) p s e
+    fork-runs f a b k p s m e true test went first second rest = left test (first went) rest
+    fork-runs f a b k p s m e false test went first second rest = right test (second went) rest
+
+    pub runs : (t : Tree Assignment Test) (p : ℕ) (s e : Progress A) → executed A constants t p s ≡ through e → Runs t p s e
+    unfolding executed
+    runs done p s e h = subst (λ x. Runs done p s x) (same-through h) stay
+    runs (one b k) p s e h =
+        let c = went (performed A constants p b s) _ e h in
+        row (c .1) (runs k (suc p) (c .0) e (c .2))
+    runs (fork f a b k) p s e h =
+        let c = went (present (compared A f (s .store))) _ e h in
+        let first = executed A constants a (suc p) s in
+        let second = executed A constants b (suc (suc p + rows a)) s in
+        let d = went (chosen A (c .0) first second) _ e (c .2) in
+        fork-runs f a b k p s (d .0) e (c .0) (is-present _ _ (c .1)) (d .1) (λ q. runs a (suc p) s (d .0) q)
+        (λ q. runs b (suc (suc p + rows a)) s (d .0) q) (runs k (suc (suc (suc p + rows a) + rows b)) (turned A (c .0) (d .0)) e (d .2))
+    runs (again zero a k) p s e h =
+        let c = went (executed A constants a (suc p) s) _ e h in
+        last (runs a (suc p) s (c .0) (c .1)) (runs k (suc (suc p + rows a)) (c .0) e (c .2))
+    runs (again (suc n) a k) p s e h =
+        let c = went (executed A constants a (suc p) s) _ e h in
+        more (runs a (suc p) s (c .0) (c .1)) (runs (again n a k) p (c .0) e (c .2))

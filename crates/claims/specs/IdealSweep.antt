@@ -1,0 +1,64 @@
+-- What a run is held against: execute the sheet, then take the executed assignments in reverse, each by its own derivative rows on the
+-- values as they were just before it.
+use Prim.Native.Nat.{ℕ, zero, suc}
+use mathlib.Core.List.{List, [], _∷_, _++_}
+use mathlib.Core.Option.{Option}
+use lib.ListN.{drop}
+use Rattle.number.specs.Arithmetic.{Arithmetic}
+use Rattle.sheet.specs.Tree.{Tree, done, one, fork, again, RowNumber}
+use Rattle.sheet.specs.Rows.{Assignment, _≔_}
+use Rattle.sheet.specs.Reading.{Sheet, variablesOf}
+use Rattle.sets.specs.Transfers.{Activity}
+use Rattle.sets.specs.Marks.{varied, useful, activityAt}
+use Rattle.table.specs.TableRows.{Table}
+use Rattle.table.specs.Adjoint.{derivativeRows}
+use Rattle.run.specs.Attempts.{Attempt, through, _>>=_, present}
+use Rattle.run.specs.Actions.{Memory, Setting, Verdict, acted, tested, seeded}
+use Rattle.claims.specs.Execution.{Executed, Progress, Stop, from, chosen, execution}
+
+module _ (A : Arithmetic) where
+  -- a table's rows in the large, block by block: what the machine's steps come to
+  unfoldable pub tableRun : Setting A → Table → Memory A → Attempt (Stop A) (Memory A)
+  unfolding acted tested
+  tableRun setting done memory = through memory
+  tableRun setting (one row k) memory = do
+    next ← from A (row .origin) (acted A setting (row .action) memory)
+    tableRun setting k next
+  tableRun setting (fork f a b k) memory = do
+    verdict ← present (tested A f memory)
+    next ← chosen A (verdict .first) (tableRun setting a (verdict .memory)) (tableRun setting b (verdict .memory))
+    tableRun setting k next
+  tableRun setting (again zero a k) memory = do
+    next ← tableRun setting a memory
+    tableRun setting k next
+  tableRun setting (again (suc m) a k) memory = do
+    next ← tableRun setting a memory
+    tableRun setting (again m a k) next
+
+  -- an assignment's derivative rows on these originals and these adjoints, t and u: what the latter then are
+  unfoldable pub derivedBy : Setting A → Assignment → RowNumber → Activity → (originals adjoints : List (A .Carrier)) → Attempt (Stop A) (List (A .Carrier))
+  unfolding tableRun derivativeRows
+  derivedBy setting (d ≔ source) row known originals adjoints = do
+    after ← tableRun setting (derivativeRows (setting .variables) (known .active) d source row known done)
+        (record { store = originals ++ adjoints; values = []; turns = []; copied = [] })
+    through (drop (setting .variables) (after .store))
+
+  -- the executed assignments, the latest first
+  unfoldable pub swept : Setting A → (ℕ → Assignment → Activity) → List (Executed A) → List (A .Carrier) → Attempt (Stop A) (List (A .Carrier))
+  unfolding derivedBy
+  swept setting known [] adjoints = through adjoints
+  swept setting known (e ∷ earlier) adjoints = do
+    next ← derivedBy setting (e .assignment) (e .row) (known (e .row .index) (e .assignment)) (e .before) adjoints
+    swept setting known earlier next
+
+  pub record Ideal : Type 0 where
+    pub progress : Progress A
+    pub adjoints : List (A .Carrier)
+
+  unfoldable pub ideal : Sheet → Setting A → (starts : List (A .Carrier)) → Attempt (Stop A) Ideal
+  unfolding execution swept seeded varied useful activityAt
+  ideal sheet setting starts = do
+    progress ← execution A sheet starts
+    adjoints ← swept setting (activityAt (varied sheet) (useful sheet)) (progress .trace)
+        (seeded A (setting .roles) (setting .seeds) ++ (A .zero ∷ A .zero ∷ []))
+    through (record { progress = progress; adjoints = adjoints })
