@@ -3,3 +3,4 @@ pub mod TreeOnly
 pub mod RowsBack
 pub mod ReadingParts
 pub mod ReadingExact
+pub mod NamesPresent
