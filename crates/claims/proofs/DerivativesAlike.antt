@@ -21,6 +21,7 @@ use Rattle.run.specs.Attempts.{Attempt, through, halted}
 use Rattle.run.specs.Actions.{Memory, Setting, acted, withStore}
 use Rattle.claims.specs.Execution.{Stop, from}
 use Rattle.claims.specs.IdealSweep.{tableRun, derivedBy}
+use Rattle.claims.proofs.Runs.{bind-same}
 use Rattle.claims.proofs.DerivativeRows.{Readable, OnAdjoints, Agree, AdjointSize, Alike, bothDo, bothHalt, row-alike}
 
 -- ---- rows in a list
@@ -51,7 +52,7 @@ module _ (v : ℕ) (needed : VariableSet) where
       record {
         list = record { origin = ofRow row operation; action = action } ∷ rest .list;
         is = λ after. ap (one (record { origin = ofRow row operation; action = action })) (rest .is after);
-        all = (on, rest .all)
+        all = (on, rest .all);
       }
 
   listed-if : (test : Bool) (row : RowNumber) (operation : Operation) (action : Action) → (T test → OnAdjoints v needed action)
@@ -191,3 +192,19 @@ module _ (A : Arithmetic) (setting : Setting A) where
           → Derives d source row known originals before adjoints
       against (bothReach next size f g) = derives next size f (rw (g (record { store = []; values = []; turns = []; copied = [] }) done) (ap through (drop-at before next (setting .variables) m)))
       against (bothStop at f g) = breaks at f (rw (g (record { store = []; values = []; turns = []; copied = [] }) done) refl)
+
+  -- what stands after derivative rows may be exchanged for what does the same
+  puts-same : (rs : List TableRow) (rest other : Table) → ((x : Memory A) → tableRun A setting rest x ≡ tableRun A setting other x)
+      → (x : Memory A) → tableRun A setting (puts rs rest) x ≡ tableRun A setting (puts rs other) x
+  unfolding puts tableRun
+  puts-same [] rest other h x = h x
+  puts-same (r ∷ rs) rest other h x = bind-same (from A (r .origin) (acted A setting (r .action) x)) _ _ (λ y e. puts-same rs rest other h y)
+
+  pub derivative-rows-same : (k d : ℕ) (source : Source) (row : RowNumber) (known : Activity) → d < setting .variables
+      → SourcePresent (setting .variables) k source → (rest other : Table) → ((x : Memory A) → tableRun A setting rest x ≡ tableRun A setting other x)
+      → (x : Memory A)
+      → tableRun A setting (derivativeRows (setting .variables) (known .active) d source row known rest) x
+      ≡ tableRun A setting (derivativeRows (setting .variables) (known .active) d source row known other) x
+  derivative-rows-same k d source row known h p rest other same x =
+      let listed = derivative-listed (setting .variables) k d source row known h p in
+      rw (listed .is rest, listed .is other) (puts-same (listed .list) rest other same x)

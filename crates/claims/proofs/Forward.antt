@@ -23,21 +23,11 @@ use Rattle.run.specs.Attempts.{Attempt, through, halted, stuck, _>>=_, whole, l
 use Rattle.run.specs.Actions.{Memory, Setting, evaluated, acted, tested, compared, verdictOn, stored}
 use Rattle.claims.specs.Execution.{Executed, Progress, Stop, from, onward, performed, turned, chosen, executed}
 use Rattle.claims.specs.IdealSweep.{tableRun}
-use Rattle.claims.proofs.Runs.{Performed, was-performed, Runs, stay, row, left, right, last, more, runs}
+use Rattle.claims.proofs.Runs.{bind-assoc, bind-same, Performed, was-performed, Runs, stay, row, left, right, last, more, runs}
 use Rattle.claims.proofs.Stores.{at-first-part, known-at}
 use Rattle.claims.proofs.DerivativeRows.{T-true}
 
 -- ---- attempts in turn
-
-pub bind-assoc : {W X Y Z : Type 0} (m : Attempt W X) (f : X → Attempt W Y) (g : Y → Attempt W Z) → (m >>= f >>= g) ≡ (m >>= λ x. f x >>= g)
-bind-assoc (through x) f g = refl
-bind-assoc (halted why) f g = refl
-bind-assoc stuck f g = refl
-
-pub bind-same : {W X Y : Type 0} (m : Attempt W X) (f g : X → Attempt W Y) → ((x : X) → m ≡ through x → f x ≡ g x) → (m >>= f) ≡ (m >>= g)
-bind-same (through x) f g h = h x refl
-bind-same (halted why) f g h = refl
-bind-same stuck f g h = refl
 
 -- a part that comes to where an execution comes to, and then what follows
 in-turn : {W P M Z : Type 0} (part : Attempt W M) (run : Attempt W P) (memory : P → M) (rest : M → Attempt W Z) (next : P → Attempt W P)
@@ -99,7 +89,7 @@ module _ (known : ℕ → Assignment → Activity) (saved : ℕ → Assignment �
           (record {
             store = length-set (s .store) d (done .value);
             values = onto-length (saved p (d ≔ source)) (getD (s .store) d (A .zero)) (savedBy (s .trace));
-            turns = refl
+            turns = refl;
           })
 
       pub grown : {t : Tree Assignment Test} {p : ℕ} {s e : Progress A} → Runs A constants t p s e → Grown t p s e
@@ -127,7 +117,7 @@ module _ (known : ℕ → Assignment → Activity) (saved : ℕ → Assignment �
           record {
             store = rest .store ∙ turn .store;
             values = omega (arith, suc-mul (suc n) (valuesNeeded (body a (suc p))));
-            turns = omega (arith, suc-mul (suc n) (turnsNeeded (body a (suc p))))
+            turns = omega (arith, suc-mul (suc n) (turnsNeeded (body a (suc p))));
           }
 
     -- ---- looking among the originals
@@ -151,7 +141,7 @@ module _ (known : ℕ → Assignment → Activity) (saved : ℕ → Assignment �
       compared-originals (less a b) p = rw (same-original a (p .0), same-original b (p .1))
 
       -- a number put among the originals goes where it goes without the tail
-      replaced-original : {W : Type 0} (d : ℕ) (x : A .Carrier) → d < v → replaced {Why = W} (store ++ tail) d x ≡ through (set store d x ++ tail)
+      pub replaced-original : {W : Type 0} (d : ℕ) (x : A .Carrier) → d < v → replaced {Why = W} (store ++ tail) d x ≡ through (set store d x ++ tail)
       replaced-original d x h =
           let there : d < length (store ++ tail) = omega (arith, length-append store tail) in
           rw (T-true {b = ltb d (length (store ++ tail))} (lt→ltb d (length (store ++ tail)) there), set-append-left store tail d x (omega arith))
@@ -179,8 +169,8 @@ module _ (known : ℕ → Assignment → Activity) (saved : ℕ → Assignment �
           → d < setting .variables → SourcePresent (setting .variables) k source
           → savedBy (record { row = record { index = p }; assignment = d ≔ source; before = now .store } ∷ now .trace) ≡ values
           → tableRun A setting (put (record { index = p }) itself (assign (d ≔ source)) rest)
-              (record { store = now .store ++ tail; values = values; turns = map turnWord (now .turns); copied = copied })
-            ≡ (performed A (setting .constants) p (d ≔ source) now >>= λ m. tableRun A setting rest (memory m))
+          (record { store = now .store ++ tail; values = values; turns = map turnWord (now .turns); copied = copied })
+          ≡ (performed A (setting .constants) p (d ≔ source) now >>= λ m. tableRun A setting rest (memory m))
       unfolding tableRun acted performed
       assigned rest p d source now values n h q e =
           rw (evaluated-originals (setting .variables) k (now .store) tail n (setting .constants) source q)
@@ -192,8 +182,8 @@ module _ (known : ℕ → Assignment → Activity) (saved : ℕ → Assignment �
           by-value : (m : Attempt (A .Why) (A .Carrier))
               → (from A (ofRow (record { index = p }) itself) (m >>= λ x. stored A before d x) >>= λ next. tableRun A setting rest next)
               ≡ (from A (ofRow (record { index = p }) itself) m
-                >>= (λ x. replaced (now .store) d x >>= λ store. through (onward A p (d ≔ source) now store))
-                >>= λ m. tableRun A setting rest (memory m))
+              >>= (λ x. replaced (now .store) d x >>= λ store. through (onward A p (d ≔ source) now store))
+              >>= λ m. tableRun A setting rest (memory m))
           by-value (halted why) = refl
           by-value stuck = refl
           by-value (through x) =
@@ -202,13 +192,13 @@ module _ (known : ℕ → Assignment → Activity) (saved : ℕ → Assignment �
       saved-first : (rest : Table) (row : RowNumber) (d : ℕ) (now : Progress A) → length (now .store) ≡ setting .variables → d < setting .variables
           → length (savedBy (now .trace)) < setting .valueRoom
           → tableRun A setting (put row saving (save d) rest) (memory now)
-            ≡ tableRun A setting rest
-              (record {
-                store = now .store ++ tail;
-                values = getD (now .store) d (A .zero) ∷ savedBy (now .trace);
-                turns = map turnWord (now .turns);
-                copied = copied
-              })
+          ≡ tableRun A setting rest
+          (record {
+            store = now .store ++ tail;
+            values = getD (now .store) d (A .zero) ∷ savedBy (now .trace);
+            turns = map turnWord (now .turns);
+            copied = copied;
+          })
       unfolding tableRun acted
       saved-first rest r d now n h room =
           rw (looked-up (setting .variables) k (now .store) tail n d h, T-true {b = ltb (length (savedBy (now .trace))) (setting .valueRoom)} (lt→ltb _ _ room))
@@ -217,14 +207,14 @@ module _ (known : ℕ → Assignment → Activity) (saved : ℕ → Assignment �
       forward-row : (rest : Table) (p : ℕ) (b : Assignment) (now : Progress A) → length (now .store) ≡ setting .variables
           → AssignmentPresent (setting .variables) k b → length (savedBy (now .trace)) + cond (saved p b) 1 0 ≤ setting .valueRoom
           → tableRun A setting (forwardRow (marking p b) rest) (memory now)
-            ≡ (performed A (setting .constants) p b now >>= λ m. tableRun A setting rest (memory m))
+          ≡ (performed A (setting .constants) p b now >>= λ m. tableRun A setting rest (memory m))
       unfolding forwardRow AssignmentPresent savedBy
       forward-row rest p (d ≔ source) now n named room = by-choice (saved p (d ≔ source)) refl
         where
           by-choice : (choice : Bool) → saved p (d ≔ source) ≡ choice
               → tableRun A setting
-                  (putIf choice (record { index = p }) saving (save d) (put (record { index = p }) itself (assign (d ≔ source)) rest)) (memory now)
-                ≡ (performed A (setting .constants) p (d ≔ source) now >>= λ m. tableRun A setting rest (memory m))
+              (putIf choice (record { index = p }) saving (save d) (put (record { index = p }) itself (assign (d ≔ source)) rest)) (memory now)
+              ≡ (performed A (setting .constants) p (d ≔ source) now >>= λ m. tableRun A setting rest (memory m))
           by-choice false e = assigned rest p d source now (savedBy (now .trace)) n (named .0) (named .1) (rw e refl)
           by-choice true e =
               let enough : length (savedBy (now .trace)) < setting .valueRoom = omega (arith, rw e at room) in
@@ -243,16 +233,16 @@ module _ (known : ℕ → Assignment → Activity) (saved : ℕ → Assignment �
       branch-executes : (t : Tree Assignment Test) (at : ℕ) (r : RowNumber) (first : Bool) (now : Progress A)
           → length (now .turns) + suc (turnsNeeded (body t at)) ≤ setting .turnRoom
           → tableRun A setting (forwardPart (body t at) (put r turning (saveTurn first) done)) (memory now)
-            ≡ (executed A (setting .constants) t at now >>= λ m. tableRun A setting (put r turning (saveTurn first) done) (memory m))
+          ≡ (executed A (setting .constants) t at now >>= λ m. tableRun A setting (put r turning (saveTurn first) done) (memory m))
           → tableRun A setting (forwardPart (body t at) (put r turning (saveTurn first) done)) (memory now)
-            ≡ (executed A (setting .constants) t at now >>= λ m. through (memory (turned A first m)))
+          ≡ (executed A (setting .constants) t at now >>= λ m. through (memory (turned A first m)))
       unfolding tableRun
       branch-executes t at r first now room e =
           e
           ∙ bind-same (executed A (setting .constants) t at now) _ _
-            (λ m h.
-              let grew = grown (setting .constants) (runs A (setting .constants) t at now m h) in
-              turn-saved done r first m (omega (arith, grew .turns)))
+          (λ m h.
+          let grew = grown (setting .constants) (runs A (setting .constants) t at now m h) in
+          turn-saved done r first m (omega (arith, grew .turns)))
 
       -- by the branch that the test picks
       fork-executes : (o : Option Bool) (now : Progress A) (first second : Memory A → Attempt (Stop A) (Memory A)) (a b : Attempt (Stop A) (Progress A))
@@ -262,7 +252,7 @@ module _ (known : ℕ → Assignment → Activity) (saved : ℕ → Assignment �
           → ((m : Progress A) → a ≡ through m → rest (memory (turned A true m)) ≡ (next (turned A true m) >>= after))
           → ((m : Progress A) → b ≡ through m → rest (memory (turned A false m)) ≡ (next (turned A false m) >>= after))
           → (present {Why = Stop A} (verdictOn A (memory now) o) >>= λ verdict. chosen A (verdict .first) (first (verdict .memory)) (second (verdict .memory)) >>= rest)
-            ≡ (present o >>= (λ way. chosen A way a b >>= λ m. next (turned A way m)) >>= after)
+          ≡ (present o >>= (λ way. chosen A way a b >>= λ m. next (turned A way m)) >>= after)
       fork-executes none now first second a b rest next after e f g h = refl
       fork-executes (some true) now first second a b rest next after e f g h = in-turn (first (memory now)) a (λ m. memory (turned A true m)) rest _ after e g
       fork-executes (some false) now first second a b rest next after e f g h = in-turn (second (memory now)) b (λ m. memory (turned A false m)) rest _ after f h
@@ -271,16 +261,16 @@ module _ (known : ℕ → Assignment → Activity) (saved : ℕ → Assignment �
       pub forward-executes : (t : Tree Assignment Test) (p : ℕ) (now : Progress A) (rest : Table) → Present (setting .variables) k t
           → length (now .store) ≡ setting .variables → Room now (valuesNeeded (body t p)) (turnsNeeded (body t p))
           → tableRun A setting (forwardPart (body t p) rest) (memory now)
-            ≡ (executed A (setting .constants) t p now >>= λ m. tableRun A setting rest (memory m))
+          ≡ (executed A (setting .constants) t p now >>= λ m. tableRun A setting rest (memory m))
       unfolding numbered forwardPart executed valuesNeeded turnsNeeded Present tableRun
       forward-executes done p now rest named n room = refl
       forward-executes (one b kk) p now rest named n room =
           forward-row (forwardPart (body kk (suc p)) rest) p b now n (named .0) (omega (arith, room .0))
           ∙ bind-same (performed A (setting .constants) p b now) _ _
-            (λ m e.
-              let more = one-more (setting .constants) p b now m e in
-              forward-executes kk (suc p) m rest (named .1) (more .store ∙ n)
-              (omega (arith, more .values, room .0), omega (arith, ap length (more .turns), room .1)))
+          (λ m e.
+          let more = one-more (setting .constants) p b now m e in
+          forward-executes kk (suc p) m rest (named .1) (more .store ∙ n)
+          (omega (arith, more .values, room .0), omega (arith, ap length (more .turns), room .1)))
           ∙ sym (bind-assoc (performed A (setting .constants) p b now) _ _)
       forward-executes (fork f a b kk) p now rest named n room =
           let there : RowNumber = record { index = p } in
@@ -297,26 +287,26 @@ module _ (known : ℕ → Assignment → Activity) (saved : ℕ → Assignment �
           (branch-executes b (suc split) there false now (omega (arith, room .1))
           (forward-executes b (suc split) now _ (named .2) n (omega (arith, room .0), omega (arith, room .1))))
           (λ m e.
-            let grew = grown (setting .constants) (runs A (setting .constants) a (suc p) now m e) in
-            forward-executes kk (suc (suc split + rows b)) (turned A true m) rest (named .3) (grew .store ∙ n)
-            (omega (arith, grew .values, room .0), omega (arith, grew .turns, room .1)))
+          let grew = grown (setting .constants) (runs A (setting .constants) a (suc p) now m e) in
+          forward-executes kk (suc (suc split + rows b)) (turned A true m) rest (named .3) (grew .store ∙ n)
+          (omega (arith, grew .values, room .0), omega (arith, grew .turns, room .1)))
           (λ m e.
-            let grew = grown (setting .constants) (runs A (setting .constants) b (suc split) now m e) in
-            forward-executes kk (suc (suc split + rows b)) (turned A false m) rest (named .3) (grew .store ∙ n)
-            (omega (arith, grew .values, room .0), omega (arith, grew .turns, room .1))))
+          let grew = grown (setting .constants) (runs A (setting .constants) b (suc split) now m e) in
+          forward-executes kk (suc (suc split + rows b)) (turned A false m) rest (named .3) (grew .store ∙ n)
+          (omega (arith, grew .values, room .0), omega (arith, grew .turns, room .1))))
       forward-executes (again zero a kk) p now rest named n room =
           in-turn _ (executed A (setting .constants) a (suc p) now) memory _ _ _
           (forward-executes a (suc p) now done (named .0) n (omega (arith, room .0), omega (arith, room .1)))
           (λ m e.
-            let grew = grown (setting .constants) (runs A (setting .constants) a (suc p) now m e) in
-            forward-executes kk (suc (suc p + rows a)) m rest (named .1) (grew .store ∙ n)
-            (omega (arith, grew .values, room .0), omega (arith, grew .turns, room .1)))
+          let grew = grown (setting .constants) (runs A (setting .constants) a (suc p) now m e) in
+          forward-executes kk (suc (suc p + rows a)) m rest (named .1) (grew .store ∙ n)
+          (omega (arith, grew .values, room .0), omega (arith, grew .turns, room .1)))
       forward-executes (again (suc m) a kk) p now rest named n room =
           let values = suc-mul (suc m) (valuesNeeded (body a (suc p))) in
           let turns = suc-mul (suc m) (turnsNeeded (body a (suc p))) in
           in-turn _ (executed A (setting .constants) a (suc p) now) memory _ _ _
           (forward-executes a (suc p) now done (named .0) n (omega (arith, values, room .0), omega (arith, turns, room .1)))
           (λ x e.
-            let grew = grown (setting .constants) (runs A (setting .constants) a (suc p) now x e) in
-            forward-executes (again m a kk) p x rest named (grew .store ∙ n)
-            (omega (arith, values, grew .values, room .0), omega (arith, turns, grew .turns, room .1)))
+          let grew = grown (setting .constants) (runs A (setting .constants) a (suc p) now x e) in
+          forward-executes (again m a kk) p x rest named (grew .store ∙ n)
+          (omega (arith, values, grew .values, room .0), omega (arith, turns, grew .turns, room .1)))

@@ -1,7 +1,10 @@
--- The theorems of the demands.
+-- The theorems of the demands, and the laws that they rest on.
 pub mod WorkedSheetsHold
 pub mod Runs
 pub mod Stores
 pub mod DerivativeRows
 pub mod DerivativesAlike
 pub mod Forward
+pub mod Replay
+pub mod MachineFollows
+pub mod Heights

@@ -17,6 +17,16 @@ use Rattle.claims.specs.Execution.{Progress, Stop, from, onward, perform
 
 -- ---- attempts in turn
 
+pub bind-assoc : {W X Y Z : Type 0} (m : Attempt W X) (f : X → Attempt W Y) (g : Y → Attempt W Z) → (m >>= f >>= g) ≡ (m >>= λ x. f x >>= g)
+bind-assoc (through x) f g = refl
+bind-assoc (halted why) f g = refl
+bind-assoc stuck f g = refl
+
+pub bind-same : {W X Y : Type 0} (m : Attempt W X) (f g : X → Attempt W Y) → ((x : X) → m ≡ through x → f x ≡ g x) → (m >>= f) ≡ (m >>= g)
+bind-same (through x) f g h = h x refl
+bind-same (halted why) f g h = refl
+bind-same stuck f g h = refl
+
 pub went : {W X Y : Type 0} (m : Attempt W X) (next : X → Attempt W Y) (y : Y) → (m >>= next) ≡ through y
     → (x : X) × (m ≡ through x) × (next x ≡ through y)
 went (through x) next y e = (x, refl, e)

@@ -117,6 +117,18 @@ module _ (A : Arithmetic) where
         | sticks ↦ gotStuck
       ]
 
+  abbrev pub ifItGoesOn : Step → (State → Step) → Step
+  ifItGoesOn (goesOn state) next = next state
+  ifItGoesOn (ended memory) next = ended memory
+  ifItGoesOn (stops row origin why) next = stops row origin why
+  ifItGoesOn sticks next = sticks
+
+  -- what n steps in turn come to, as long as they go on
+  unfoldable pub stateAfter : (n : ℕ) → Setting A → List TableLine → State → Step
+  unfolding step
+  stateAfter zero setting lines state = goesOn state
+  stateAfter (suc n) setting lines state = ifItGoesOn (step setting lines state) (λ next. stateAfter n setting lines next)
+
 -- how many steps a tree takes at most: the fuel that suffices is one more, for the step that ends the run
 unfoldable pub stepsOf : {B F : Type 0} → Tree B F → ℕ
 stepsOf done = 0

@@ -1,2 +1,7 @@
 -- What is proved of the sets.
+pub mod Truths
 pub mod VariableSetLaws
+pub mod VariableSetSizes
+pub mod TransferLaws
+pub mod EquationsLeast
+pub mod SetsLeast

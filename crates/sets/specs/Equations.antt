@@ -7,7 +7,7 @@ use mathlib.Core.List.{List, [], _∷_}
 use lib.ListN.{getD, set, replicate}
 use lib.Dec.{eqb}
 use Rattle.sheet.specs.Tree.{Tree, done, one, fork, again, rows}
-use Rattle.sets.specs.VariableSets.{VariableSet, empty, _∪_}
+use Rattle.sets.specs.VariableSets.{VariableSet, empty, _∪_, _⊆_}
 
 pub data Equation : Type 0 where
   -- at a point stands this set
@@ -72,6 +72,11 @@ module _ {B F : Type 0} where
 
 abbrev pub setAt : List VariableSet → ℕ → VariableSet
 setAt sets p = getD sets p empty
+
+-- "least solutions": these sets satisfy the equations, and lie within any that do
+pub record Least (es : List Equation) (sets : List VariableSet) : Type 0 where
+  pub satisfies : Satisfy es (setAt sets)
+  pub within : (at : ℕ → VariableSet) → Satisfy es at → (p : ℕ) → setAt sets p ⊆ at p
 
 unfoldable pub round : List Equation → List VariableSet → List VariableSet
 unfolding pointOf rightSide

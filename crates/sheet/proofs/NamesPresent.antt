@@ -1,7 +1,7 @@
 -- Every variable and every constant that an accepted sheet names is there: each accepted line names what is there, and the reading
 -- only puts such lines together. Also: how many variables an accepted sheet has.
 use Prim.Native.Nat.{ℕ, zero, suc, _+_, _*_, _≤_, _<_}
-use mathlib.Core.Path.{_≡_, refl, sym, ap, subst, _∙_}
+use mathlib.Core.Path.{_≡_, sym, ap, subst, _∙_}
 use mathlib.Core.Bool.{true, _&&_}
 use mathlib.Core.List.{List, [], _∷_}
 use mathlib.Core.Option.{Option, none, some}

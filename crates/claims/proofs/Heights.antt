@@ -1,0 +1,329 @@
+-- Stacks never stand higher than their rooms, and a machine that does not get stuck does the same with more room.
+use Prim.Native.Nat.{ℕ, zero, suc, _+_, _≤_, _<_}
+use mathlib.Core.Path.{_≡_, refl, sym, ap, subst, _∙_}
+use mathlib.Core.Bool.{Bool, true, false, cond}
+use mathlib.Core.List.{List, [], _∷_}
+use mathlib.Core.Option.{Option, none, some}
+use lib.ListN.{length, drop}
+use lib.Dec.{eqb, ltb, ltb→lt, lt→ltb}
+use native.Mathlib.Omega.{arith}
+use Rattle.number.specs.Arithmetic.{Arithmetic}
+use Rattle.sheet.specs.Tree.{done, one, fork, again, basic, ifLine, elseLine, endIf, repeat, endRepeat}
+use Rattle.sheet.specs.Rows.{_≔_}
+use Rattle.table.specs.TableRows.{Action, assign, save, takeBack, saveTurn, clear, turnRound, whether, onTurn, turnWord, Origin, TableLine, Table, linesOf}
+use Rattle.run.specs.Attempts.{Attempt, through, halted, stuck, _>>=_, present, look, replaced, pushed}
+use Rattle.run.specs.Actions.{Memory, Setting, evaluated, saved, restored, turnedRound, acted, compared, verdictOn, turnTaken, tested}
+use Rattle.run.specs.Machine.{itsElse, itsEnd, oneMore, seek, Repeat, State, Step, goesOn, ended, stops, sticks, jump, afterAction, branchTo, afterTest, afterTurn, stepAt, step, gotStuck, outOfFuel, runFor, ifItGoesOn, stateAfter, stepsOf}
+use Rattle.run.specs.Calls.{runOf}
+use Rattle.claims.specs.Execution.{Stop, from, chosen}
+use Rattle.claims.specs.IdealSweep.{tableRun}
+use Rattle.claims.proofs.MachineFollows.{atRow, endingFrom, run-on, run-through, fuel-suffices}
+
+-- ---- what holds of whatever goes through
+
+abbrev Through : {W X : Type 0} → (X → Type 0) → Attempt W X → Type 0
+Through P (through x) = P x
+Through P (halted why) = Unit {0}
+Through P stuck = Unit {0}
+
+through-then : {W X Y : Type 0} (P : Y → Type 0) (x : Attempt W X) (next : X → Attempt W Y) → ((v : X) → Through P (next v)) → Through P (x >>= next)
+through-then P (through v) next h = h v
+through-then P (halted why) next h = tt
+through-then P stuck next h = tt
+
+-- what was put onto a stack fits its room
+pushed-fits : {W X Y : Type 0} (P : Y → Type 0) (room : ℕ) (x : X) (stack : List X) (next : List X → Attempt W Y)
+    → (length (x ∷ stack) ≤ room → Through P (next (x ∷ stack))) → Through P (pushed {Why = W} room x stack >>= next)
+pushed-fits {W} {X} P room x stack next h = by-test (ltb (length stack) room) refl
+  where
+    by-test : (b : Bool) → ltb (length stack) room ≡ b
+        → Through P (cond {A = Attempt W (List X)} b (through (x ∷ stack)) stuck >>= next)
+    by-test true e = h (ltb→lt (length stack) room (rw e tt))
+    by-test false e = tt
+
+-- ---- the same, unless the first is a thing that means stuck
+
+abbrev SameUnless : {X : Type 0} → X → X → X → Type 0
+SameUnless bad x y = (x ≡ bad → ⊥) → y ≡ x
+
+same-under : {X Y : Type 0} (f : X → Y) (bad x y : X) → SameUnless bad x y → SameUnless (f bad) (f x) (f y)
+same-under f bad x y same unlike = ap f (same (λ e. unlike (ap f e)))
+
+abbrev Alike : {W X : Type 0} → Attempt W X → Attempt W X → Type 0
+Alike x y = SameUnless stuck x y
+
+alike-then : {W X Y : Type 0} (x x′ : Attempt W X) (next next′ : X → Attempt W Y) → Alike x x′ → ((v : X) → Alike (next v) (next′ v))
+    → Alike (x >>= next) (x′ >>= next′)
+alike-then {W} {X} {Y} x x′ next next′ same sameAfter unstuck =
+    ap (λ y. y >>= next′) (same (λ e. unstuck (ap (λ y. y >>= next) e))) ∙ by-first x unstuck
+  where
+    by-first : (y : Attempt W X) → Alike (y >>= next) (y >>= next′)
+    by-first (through v) = sameAfter v
+    by-first (halted why) = λ unstuck′. refl
+    by-first stuck = λ unstuck′. refl
+
+pushed-alike : {W X : Type 0} (room more : ℕ) (x : X) (stack : List X) → room ≤ more
+    → Alike (pushed {Why = W} room x stack) (pushed {Why = W} more x stack)
+pushed-alike {W} {X} room more x stack le = by-tests (ltb (length stack) room) (ltb (length stack) more) refl refl
+  where
+    by-tests : (b c : Bool) → ltb (length stack) room ≡ b → ltb (length stack) more ≡ c
+        → Alike {W = W} {X = List X} (cond b (through (x ∷ stack)) stuck) (cond c (through (x ∷ stack)) stuck)
+    by-tests true true p q unstuck = refl
+    by-tests true false p q unstuck =
+        let fits : length stack < room = ltb→lt (length stack) room (rw p tt) in
+        absurd (rw q at (lt→ltb (length stack) more (omega arith)))
+    by-tests false c p q unstuck = absurd (unstuck refl)
+
+module _ (A : Arithmetic) where
+  pub record Within (values turns : ℕ) (memory : Memory A) : Type 0 where
+    pub valuesFit : length (memory .values) ≤ values
+    pub turnsFit : length (memory .turns) ≤ turns
+
+  -- ---- within their rooms
+
+  module _ (setting : Setting A) where
+    abbrev Fits : Memory A → Type 0
+    Fits memory = Within (setting .valueRoom) (setting .turnRoom) memory
+
+    abbrev FitsAfter : Step A → Type 0
+    FitsAfter (goesOn s) = Fits (s .memory)
+    FitsAfter (ended memory) = Unit {0}
+    FitsAfter (stops row origin why) = Unit {0}
+    FitsAfter sticks = Unit {0}
+
+    restored-within : (memory : Memory A) (d : ℕ) (values : List (A .Carrier)) → length values ≤ setting .valueRoom
+        → length (memory .turns) ≤ setting .turnRoom → Through Fits (restored A memory d values)
+    restored-within memory d [] v t = tt
+    restored-within memory d (x ∷ values) v t =
+        through-then Fits (replaced (memory .store) d x) _ (λ store. record { valuesFit = omega arith; turnsFit = t })
+
+    acted-within : (action : Action) (memory : Memory A) → Fits memory → Through Fits (acted A setting action memory)
+    unfolding acted turnedRound
+    acted-within (assign (d ≔ source)) memory h =
+        through-then Fits (evaluated A (setting .constants) source (memory .store)) _
+        (λ x. through-then Fits (replaced (memory .store) d x) _ (λ store. record { valuesFit = h .valuesFit; turnsFit = h .turnsFit }))
+    acted-within (save d) memory h =
+        through-then Fits (look (memory .store) d) _
+        (λ x. pushed-fits Fits (setting .valueRoom) x (memory .values) _ (λ fits. record { valuesFit = fits; turnsFit = h .turnsFit }))
+    acted-within (takeBack d) memory h = restored-within memory d (memory .values) (h .valuesFit) (h .turnsFit)
+    acted-within (saveTurn first) memory h =
+        pushed-fits Fits (setting .turnRoom) (turnWord first) (memory .turns) _ (λ fits. record { valuesFit = h .valuesFit; turnsFit = fits })
+    acted-within (clear d) memory h =
+        through-then Fits (replaced (memory .store) d (A .zero)) _ (λ store. record { valuesFit = h .valuesFit; turnsFit = h .turnsFit })
+    acted-within turnRound memory h = record { valuesFit = h .valuesFit; turnsFit = h .turnsFit }
+
+    action-within : (s : State A) (origin : Origin) (x : Attempt (A .Why) (Memory A)) → Through Fits x → FitsAfter (afterAction A s origin x)
+    action-within s origin (through memory) h = h
+    action-within s origin (halted why) h = tt
+    action-within s origin stuck h = tt
+
+    jump-within : (s : State A) (memory : Memory A) (o : Option ℕ) → Fits memory → FitsAfter (jump A s memory o)
+    jump-within s memory none h = tt
+    jump-within s memory (some n) h = h
+
+    branch-within : (s : State A) (rest : List TableLine) (first : Bool) (memory : Memory A) → Fits memory
+        → FitsAfter (branchTo A s rest first memory)
+    branch-within s rest true memory h = h
+    branch-within s rest false memory h = jump-within s memory (oneMore (seek itsElse 0 rest)) h
+
+    whether-within : (s : State A) (rest : List TableLine) (o : Option Bool) → Fits (s .memory)
+        → FitsAfter (afterTest A s rest (verdictOn A (s .memory) o))
+    whether-within s rest none h = tt
+    whether-within s rest (some first) h = branch-within s rest first (s .memory) h
+
+    on-turn-within : (s : State A) (rest : List TableLine) (turns : List ℕ) → length turns ≤ setting .turnRoom → Fits (s .memory)
+        → FitsAfter (afterTest A s rest (turnTaken A (s .memory) turns))
+    on-turn-within s rest [] t h = tt
+    on-turn-within s rest (turn ∷ turns) t h =
+        branch-within s rest (eqb turn 1) _ (record { valuesFit = h .valuesFit; turnsFit = omega arith })
+
+    turn-within : (s : State A) (repeats : List Repeat) → Fits (s .memory) → FitsAfter (afterTurn A s repeats)
+    turn-within s [] h = tt
+    turn-within s (r ∷ outer) h = by-left (r .start) (r .left)
+      where
+        by-left : (start left : ℕ) → FitsAfter (afterTurn A s (record { start = start; left = left } ∷ outer))
+        by-left start zero = h
+        by-left start (suc n) = h
+
+    step-at-within : (s : State A) (here : List TableLine) → Fits (s .memory) → FitsAfter (stepAt A setting s here)
+    unfolding stepAt tested
+    step-at-within s [] h = tt
+    step-at-within s (basic row ∷ rest) h =
+        action-within s (row .origin) (acted A setting (row .action) (s .memory)) (acted-within (row .action) (s .memory) h)
+    step-at-within s (ifLine (whether f) ∷ rest) h = whether-within s rest (compared A f (s .memory .store)) h
+    step-at-within s (ifLine onTurn ∷ rest) h = on-turn-within s rest (s .memory .turns) (h .turnsFit) h
+    step-at-within s (elseLine ∷ rest) h = jump-within s (s .memory) (oneMore (seek itsEnd 0 rest)) h
+    step-at-within s (endIf ∷ rest) h = h
+    step-at-within s (repeat m ∷ rest) h = h
+    step-at-within s (endRepeat ∷ rest) h = turn-within s (s .repeats) h
+
+    step-within : (lines : List TableLine) (s : State A) → Fits (s .memory) → FitsAfter (step A setting lines s)
+    unfolding step
+    step-within lines s h = step-at-within s (drop (s .at) lines) h
+
+    steps-within : (n : ℕ) (lines : List TableLine) (s : State A) → Fits (s .memory) → FitsAfter (stateAfter A n setting lines s)
+    unfolding stateAfter
+    steps-within zero lines s h = h
+    steps-within (suc n) lines s h = by-step (step A setting lines s) (step-within lines s h) (λ next fits. steps-within n lines next fits)
+      where
+        by-step : (x : Step A) → FitsAfter x → ((next : State A) → Fits (next .memory) → FitsAfter (stateAfter A n setting lines next))
+            → FitsAfter (ifItGoesOn A x (λ next. stateAfter A n setting lines next))
+        by-step (goesOn next) fits ih = ih next fits
+        by-step (ended memory) fits ih = tt
+        by-step (stops row origin why) fits ih = tt
+        by-step sticks fits ih = tt
+
+    pub within-room : (n : ℕ) (lines : List TableLine) (start s : State A) → Within (setting .valueRoom) (setting .turnRoom) (start .memory)
+        → stateAfter A n setting lines start ≡ goesOn s → Within (setting .valueRoom) (setting .turnRoom) (s .memory)
+    within-room n lines start s h e = subst FitsAfter e (steps-within n lines start h)
+
+  -- ---- with more room
+
+  abbrev pub withRooms : Setting A → (valueRoom turnRoom : ℕ) → Setting A
+  withRooms setting valueRoom turnRoom =
+      record {
+        variables = setting .variables;
+        roles = setting .roles;
+        constants = setting .constants;
+        seeds = setting .seeds;
+        valueRoom = valueRoom;
+        turnRoom = turnRoom;
+      }
+
+  module _ (setting : Setting A) (values turns : ℕ) (moreValues : setting .valueRoom ≤ values) (moreTurns : setting .turnRoom ≤ turns) where
+    abbrev roomier : Setting A
+    roomier = withRooms setting values turns
+
+    acted-alike : (action : Action) (memory : Memory A) → Alike (acted A setting action memory) (acted A roomier action memory)
+    unfolding acted turnedRound
+    acted-alike (assign (d ≔ source)) memory = λ unstuck. refl
+    acted-alike (save d) memory =
+        alike-then (look (memory .store) d) (look (memory .store) d) (λ x. saved A (setting .valueRoom) memory x) (λ x. saved A values memory x)
+        (λ unstuck. refl)
+        (λ x. alike-then (pushed (setting .valueRoom) x (memory .values)) (pushed values x (memory .values)) _ _
+        (pushed-alike (setting .valueRoom) values x (memory .values) moreValues) (λ stack unstuck. refl))
+    acted-alike (takeBack d) memory = λ unstuck. refl
+    acted-alike (saveTurn first) memory =
+        alike-then (pushed (setting .turnRoom) (turnWord first) (memory .turns)) (pushed turns (turnWord first) (memory .turns)) _ _
+        (pushed-alike (setting .turnRoom) turns (turnWord first) (memory .turns) moreTurns) (λ stack unstuck. refl)
+    acted-alike (clear d) memory = λ unstuck. refl
+    acted-alike turnRound memory = λ unstuck. refl
+
+    step-at-alike : (s : State A) (here : List TableLine) → SameUnless sticks (stepAt A setting s here) (stepAt A roomier s here)
+    unfolding stepAt
+    step-at-alike s [] = λ unstuck. refl
+    step-at-alike s (basic row ∷ rest) =
+        same-under (afterAction A s (row .origin)) stuck (acted A setting (row .action) (s .memory)) (acted A roomier (row .action) (s .memory))
+        (acted-alike (row .action) (s .memory))
+    step-at-alike s (ifLine f ∷ rest) = λ unstuck. refl
+    step-at-alike s (elseLine ∷ rest) = λ unstuck. refl
+    step-at-alike s (endIf ∷ rest) = λ unstuck. refl
+    step-at-alike s (repeat m ∷ rest) = λ unstuck. refl
+    step-at-alike s (endRepeat ∷ rest) = λ unstuck. refl
+
+    step-alike : (lines : List TableLine) (s : State A) → SameUnless sticks (step A setting lines s) (step A roomier lines s)
+    unfolding step
+    step-alike lines s = step-at-alike s (drop (s .at) lines)
+
+    pub more-room-same : (n : ℕ) (lines : List TableLine) (s : State A) → (stateAfter A n setting lines s ≡ sticks → ⊥)
+        → stateAfter A n (withRooms setting values turns) lines s ≡ stateAfter A n setting lines s
+    unfolding stateAfter
+    more-room-same zero lines s unstuck = refl
+    more-room-same (suc n) lines s unstuck =
+        ap (λ x. ifItGoesOn A x (λ next. stateAfter A n roomier lines next))
+        (step-alike lines s (λ e. unstuck (ap (λ x. ifItGoesOn A x (λ next. stateAfter A n setting lines next)) e)))
+        ∙ by-step (step A setting lines s) (λ next. more-room-same n lines next) unstuck
+      where
+        by-step : (x : Step A) → ((next : State A) → SameUnless sticks (stateAfter A n setting lines next) (stateAfter A n roomier lines next))
+            → SameUnless sticks (ifItGoesOn A x (λ next. stateAfter A n setting lines next))
+            (ifItGoesOn A x (λ next. stateAfter A n roomier lines next))
+        by-step (goesOn next) ih = ih next
+        by-step (ended memory) ih = λ unstuck′. refl
+        by-step (stops row origin why) ih = λ unstuck′. refl
+        by-step sticks ih = λ unstuck′. refl
+
+    -- without fuel neither goes on
+    no-fuel-alike : (lines : List TableLine) (x : Step A) → endingFrom A roomier lines 0 x ≡ endingFrom A setting lines 0 x
+    unfolding runFor
+    no-fuel-alike lines (goesOn s) = refl
+    no-fuel-alike lines (ended memory) = refl
+    no-fuel-alike lines (stops row origin why) = refl
+    no-fuel-alike lines sticks = refl
+
+    pub more-room-runs-same : (fuel : ℕ) (lines : List TableLine) (s : State A) → (runFor A fuel setting lines s ≡ gotStuck → ⊥)
+        → runFor A fuel (withRooms setting values turns) lines s ≡ runFor A fuel setting lines s
+    more-room-runs-same fuel lines s unstuck =
+        let same = more-room-same fuel lines s (λ e. unstuck (run-through A setting lines fuel s ∙ ap (endingFrom A setting lines 0) e)) in
+        run-through A roomier lines fuel s ∙ ap (endingFrom A roomier lines 0) same ∙ no-fuel-alike lines (stateAfter A fuel setting lines s)
+        ∙ sym (run-through A setting lines fuel s)
+
+    -- the same in the large
+    chosen-alike : (first : Bool) (x x′ y y′ : Attempt (Stop A) (Memory A)) → Alike x x′ → Alike y y′
+        → Alike (chosen A first x y) (chosen A first x′ y′)
+    chosen-alike true x x′ y y′ same other = same
+    chosen-alike false x x′ y y′ same other = other
+
+    tree-alike : (t : Table) (memory : Memory A) → Alike (tableRun A setting t memory) (tableRun A roomier t memory)
+    unfolding tableRun
+    tree-alike done memory = λ unstuck. refl
+    tree-alike (one row k) memory =
+        alike-then (from A (row .origin) (acted A setting (row .action) memory)) (from A (row .origin) (acted A roomier (row .action) memory)) _ _
+        (same-under (from A (row .origin)) stuck (acted A setting (row .action) memory) (acted A roomier (row .action) memory)
+        (acted-alike (row .action) memory))
+        (λ next. tree-alike k next)
+    tree-alike (fork f a b k) memory =
+        alike-then (present (tested A f memory)) (present (tested A f memory)) _ _ (λ unstuck. refl)
+        (λ v. alike-then (chosen A (v .first) (tableRun A setting a (v .memory)) (tableRun A setting b (v .memory))) _ _ _
+        (chosen-alike (v .first) _ _ _ _ (tree-alike a (v .memory)) (tree-alike b (v .memory))) (λ next. tree-alike k next))
+    tree-alike (again zero a k) memory =
+        alike-then (tableRun A setting a memory) (tableRun A roomier a memory) _ _ (tree-alike a memory) (λ next. tree-alike k next)
+    tree-alike (again (suc m) a k) memory =
+        alike-then (tableRun A setting a memory) (tableRun A roomier a memory) _ _ (tree-alike a memory) (λ next. tree-alike (again m a k) next)
+
+    pub more-room-same-in-the-large : (t : Table) (memory : Memory A) → (tableRun A setting t memory ≡ stuck → ⊥)
+        → tableRun A (withRooms setting values turns) t memory ≡ tableRun A setting t memory
+    more-room-same-in-the-large = tree-alike
+
+  -- ---- a run that does not get stuck
+
+  module _ (setting : Setting A) (lines : List TableLine) where
+    more-fuel-same : (fuel more : ℕ) (s : State A) → (runFor A fuel setting lines s ≡ outOfFuel → ⊥)
+        → runFor A (fuel + more) setting lines s ≡ runFor A fuel setting lines s
+    more-fuel-same fuel more s enough =
+        run-on A setting lines fuel more s ∙ by-step (stateAfter A fuel setting lines s) (λ e. enough (run-through A setting lines fuel s ∙ e))
+        ∙ sym (run-through A setting lines fuel s)
+      where
+        by-step : (x : Step A) → (endingFrom A setting lines 0 x ≡ outOfFuel → ⊥) → endingFrom A setting lines more x ≡ endingFrom A setting lines 0 x
+        by-step (goesOn next) h = absurd (h (unfold runFor in refl))
+        by-step (ended memory) h = refl
+        by-step (stops row origin why) h = refl
+        by-step sticks h = refl
+
+    -- if a run ends and not by being stuck, no number of steps is stuck
+    pub never-sticks : (fuel : ℕ) (s : State A) → (runFor A fuel setting lines s ≡ gotStuck → ⊥) → (runFor A fuel setting lines s ≡ outOfFuel → ⊥)
+        → (n : ℕ) → stateAfter A n setting lines s ≡ sticks → ⊥
+    never-sticks fuel s unstuck enough n e =
+        let swap : fuel + n ≡ n + fuel = omega arith in
+        unstuck (sym (more-fuel-same fuel n s enough) ∙ ap (λ m. runFor A m setting lines s) swap ∙ run-on A setting lines n fuel s
+        ∙ ap (endingFrom A setting lines fuel) e)
+
+    pub heights-within : (values turns : ℕ) → setting .valueRoom ≤ values → setting .turnRoom ≤ turns → (start : State A)
+        → Within (setting .valueRoom) (setting .turnRoom) (start .memory) → ((n : ℕ) → stateAfter A n setting lines start ≡ sticks → ⊥)
+        → (n : ℕ) (s : State A) → stateAfter A n (withRooms setting values turns) lines start ≡ goesOn s
+        → Within (setting .valueRoom) (setting .turnRoom) (s .memory)
+    heights-within values turns moreValues moreTurns start h unstuck n s e =
+        within-room setting n lines start s h (sym (more-room-same setting values turns moreValues moreTurns n lines start (unstuck n)) ∙ e)
+
+  -- a table's run that does not get stuck: no number of steps is, and the stacks stay within these rooms whatever more is lent
+  module _ (table : Table) (setting : Setting A) (memory : Memory A) (unstuck : runOf A table setting (atRow A 0 [] memory) ≡ gotStuck → ⊥) where
+    pub table-never-sticks : (n : ℕ) → stateAfter A n setting (linesOf table) (atRow A 0 [] memory) ≡ sticks → ⊥
+    unfolding runOf
+    table-never-sticks =
+        never-sticks setting (linesOf table) (suc (stepsOf table)) (atRow A 0 [] memory) unstuck (fuel-suffices A table setting memory)
+
+    pub table-heights : Within (setting .valueRoom) (setting .turnRoom) memory → (values turns : ℕ)
+        → setting .valueRoom ≤ values → setting .turnRoom ≤ turns
+        → (n : ℕ) (s : State A) → stateAfter A n (withRooms setting values turns) (linesOf table) (atRow A 0 [] memory) ≡ goesOn s
+        → Within (setting .valueRoom) (setting .turnRoom) (s .memory)
+    table-heights h values turns moreValues moreTurns =
+        heights-within setting (linesOf table) values turns moreValues moreTurns (atRow A 0 [] memory) h table-never-sticks

@@ -1,0 +1,401 @@
+-- The row machine on a table's lines does what executing the table's tree in the large gives, and its fuel suffices.
+use Prim.Native.Nat.{ℕ, zero, suc, _+_, _*_, _-_, _≤_, max}
+use mathlib.Core.Path.{_≡_, refl, sym, ap, subst, _∙_}
+use mathlib.Core.Bool.{Bool, true, false}
+use mathlib.Core.List.{List, [], _∷_}
+use mathlib.Core.Option.{Option, none, some}
+use lib.ListN.{drop}
+use lib.Seq.{drop-nil}
+use native.Mathlib.Nat.{zero-add, suc-add, add-zero}
+use native.Mathlib.Omega.{arith}
+use Rattle.number.specs.Arithmetic.{Arithmetic}
+use Rattle.sheet.specs.Tree.{Tree, done, one, fork, again, Line, basic, elseLine, endIf, repeat, endRepeat, flat, rows, RowNumber}
+use Rattle.table.specs.TableRows.{Origin, TableRow, TableLine, Table, linesOf}
+use Rattle.run.specs.Attempts.{Attempt, through, halted, stuck, _>>=_, present}
+use Rattle.run.specs.Actions.{Memory, Setting, Verdict, acted, tested}
+use Rattle.run.specs.Machine.{Mark, itsElse, itsEnd, oneMore, seek, Repeat, State, Step, goesOn, ended, stops, sticks, Ending, finished, stoppedAt, gotStuck, outOfFuel, jump, afterAction, branchTo, afterTest, stepAt, step, runFor, ifItGoesOn, stateAfter, stepsOf}
+use Rattle.run.specs.Calls.{runOf}
+use Rattle.claims.specs.Execution.{Stop, from, chosen}
+use Rattle.claims.specs.IdealSweep.{tableRun}
+
+-- ---- passing over a tree's lines
+
+drop-drop : {X : Type 0} (n m : ℕ) (xs : List X) → drop (n + m) xs ≡ drop m (drop n xs)
+drop-drop zero m xs = rw zero-add
+drop-drop (suc n) m [] = rw suc-add (sym (drop-nil m))
+drop-drop (suc n) m (x ∷ xs) = rw suc-add (drop-drop n m xs)
+
+-- what a search finds so many lines further on
+further : ℕ → Option ℕ → Option ℕ
+further n none = none
+further n (some m) = some (n + m)
+
+further-none : (o : Option ℕ) → further 0 o ≡ o
+unfolding further
+further-none none = refl
+further-none (some m) = rw zero-add
+
+further-row : (i : ℕ) (o : Option ℕ) → oneMore (further i o) ≡ further (1 + i) o
+unfolding further
+further-row i none = refl
+further-row i (some m) = ap {B = Option ℕ} some (omega arith)
+
+further-repeat : (i j : ℕ) (o : Option ℕ) → oneMore (further i (oneMore (further j o))) ≡ further (2 + (i + j)) o
+unfolding further
+further-repeat i j none = refl
+further-repeat i j (some m) = ap {B = Option ℕ} some (omega arith)
+
+further-fork : (i j k : ℕ) (o : Option ℕ) → oneMore (further i (oneMore (further j (oneMore (further k o))))) ≡ further (3 + (i + j + k)) o
+unfolding further
+further-fork i j k none = refl
+further-fork i j k (some m) = ap {B = Option ℕ} some (omega arith)
+
+module _ {B F : Type 0} where
+  past-flat : (t : Tree B F) (rest : List (Line B F)) (n : ℕ) → drop (rows t + n) (flat t rest) ≡ drop n rest
+  unfolding rows flat
+  past-flat done rest n = rw zero-add
+  past-flat (one b k) rest n =
+      let e : 1 + rows k + n ≡ suc (rows k + n) = omega arith in
+      rw e (past-flat k rest n)
+  past-flat (fork f a b k) rest n =
+      let e : 3 + (rows a + rows b + rows k) + n ≡ suc (rows a + suc (rows b + suc (rows k + n))) = omega arith in
+      rw e (past-flat a _ _ ∙ past-flat b _ _ ∙ past-flat k rest n)
+  past-flat (again m a k) rest n =
+      let e : 2 + (rows a + rows k) + n ≡ suc (rows a + suc (rows k + n)) = omega arith in
+      rw e (past-flat a _ _ ∙ past-flat k rest n)
+
+  -- where a line or a tree stands at row p, the rest stands behind it
+  pub past-line : (lines : List (Line B F)) (p : ℕ) (l : Line B F) (rest : List (Line B F)) → drop p lines ≡ l ∷ rest
+      → drop (suc p) lines ≡ rest
+  past-line lines p l rest e =
+      let h : suc p ≡ p + 1 = omega arith in
+      rw h (drop-drop p 1 lines ∙ ap (drop 1) e)
+
+  pub past-tree : (lines : List (Line B F)) (p : ℕ) (t : Tree B F) (rest : List (Line B F)) → drop p lines ≡ flat t rest
+      → drop (p + rows t) lines ≡ rest
+  past-tree lines p t rest e =
+      let h : rows t ≡ rows t + 0 = omega arith in
+      drop-drop p (rows t) lines ∙ ap (drop (rows t)) e ∙ ap (λ n. drop n (flat t rest)) h ∙ past-flat t rest 0
+
+  -- no mark of another block stops a search: it passes over a tree, however deep it is
+  seek-flat : (mark : Mark) (n : ℕ) (t : Tree B F) (rest : List (Line B F)) → seek mark n (flat t rest) ≡ further (rows t) (seek mark n rest)
+  unfolding seek flat rows
+  seek-flat mark n done rest = sym (further-none (seek mark n rest))
+  seek-flat mark n (one b k) rest = ap oneMore (seek-flat mark n k rest) ∙ further-row (rows k) (seek mark n rest)
+  seek-flat mark n (fork f a b k) rest =
+      ap oneMore (seek-flat mark (suc n) a _
+      ∙ ap (λ o. further (rows a) (oneMore o)) (seek-flat mark (suc n) b _
+      ∙ ap (λ o. further (rows b) (oneMore o)) (seek-flat mark n k rest)))
+      ∙ further-fork (rows a) (rows b) (rows k) (seek mark n rest)
+  seek-flat mark n (again m a k) rest =
+      ap oneMore (seek-flat mark n a _ ∙ ap (λ o. further (rows a) (oneMore o)) (seek-flat mark n k rest))
+      ∙ further-repeat (rows a) (rows k) (seek mark n rest)
+
+  seek-else : (t : Tree B F) (rest : List (Line B F)) → seek itsElse 0 (flat t (elseLine ∷ rest)) ≡ some (rows t + 1)
+  unfolding seek further
+  seek-else t rest = seek-flat itsElse 0 t (elseLine ∷ rest)
+
+  seek-end : (t : Tree B F) (rest : List (Line B F)) → seek itsEnd 0 (flat t (endIf ∷ rest)) ≡ some (rows t + 1)
+  unfolding seek further
+  seek-end t rest = seek-flat itsEnd 0 t (endIf ∷ rest)
+
+-- ---- what so many steps come to
+
+module _ (A : Arithmetic) where
+  abbrev pub atRow : ℕ → List Repeat → Memory A → State A
+  atRow p repeats memory = record { at = p; repeats = repeats; memory = memory }
+
+  abbrev pub Result : Type 0
+  Result = Attempt (Stop A) (Memory A)
+
+  -- a step comes to what an execution in the large gives: on to row p, a stop of the same origin, or stuck
+  abbrev pub LandsAt : ℕ → List Repeat → Result → Step A → Type 0
+  LandsAt p repeats (through memory) out = out ≡ goesOn (atRow p repeats memory)
+  LandsAt p repeats (halted s) out = (row : RowNumber) × (out ≡ stops row (s .origin) (s .why))
+  LandsAt p repeats stuck out = out ≡ sticks
+
+  module _ (setting : Setting A) (lines : List TableLine) where
+    -- from this state, within so many steps
+    pub record Reaches (start : State A) (bound : ℕ) (p : ℕ) (repeats : List Repeat) (result : Result) : Type 0 where
+      pub steps : ℕ
+      pub few : steps ≤ bound
+      pub lands : LandsAt p repeats result (stateAfter A steps setting lines start)
+
+    pub steps-add : (n m : ℕ) (s : State A)
+        → stateAfter A (n + m) setting lines s ≡ ifItGoesOn A (stateAfter A n setting lines s) (λ next. stateAfter A m setting lines next)
+    unfolding stateAfter
+    steps-add zero m s = rw zero-add
+    steps-add (suc n) m s = rw suc-add (by-step (step A setting lines s) (λ next. steps-add n m next))
+      where
+        by-step : (x : Step A)
+            → ((next : State A)
+            → stateAfter A (n + m) setting lines next ≡ ifItGoesOn A (stateAfter A n setting lines next) (λ last. stateAfter A m setting lines last))
+            → ifItGoesOn A x (λ next. stateAfter A (n + m) setting lines next)
+            ≡ ifItGoesOn A (ifItGoesOn A x (λ next. stateAfter A n setting lines next)) (λ next. stateAfter A m setting lines next)
+        by-step (goesOn next) ih = ih next
+        by-step (ended memory) ih = refl
+        by-step (stops row origin why) ih = refl
+        by-step sticks ih = refl
+
+    -- one execution after another
+    then-reaches : {s : State A} {n m p q : ℕ} {outer inner : List Repeat} (x : Result)
+        (next : Memory A → Result) → Reaches s n p inner x
+        → ((memory : Memory A) → Reaches (atRow p inner memory) m q outer (next memory)) → Reaches s (n + m) q outer (x >>= next)
+    then-reaches {s} {outer} (through memory) next first second =
+        let h = second memory in
+        record {
+          steps = first .steps + h .steps;
+          few = omega (arith, first .few, h .few);
+          lands = rw (steps-add (first .steps) (h .steps) s, first .lands) (h .lands);
+        }
+    then-reaches {s} (halted why) next first second = record { steps = first .steps; few = omega (arith, first .few); lands = first .lands }
+    then-reaches {s} stuck next first second = record { steps = first .steps; few = omega (arith, first .few); lands = first .lands }
+
+    step-at : (s : State A) (here : List TableLine) → drop (s .at) lines ≡ here → step A setting lines s ≡ stepAt A setting s here
+    unfolding step
+    step-at s here e = ap (stepAt A setting s) e
+
+    -- the first step, and what comes after it
+    one-step : {s : State A} {p : ℕ} {repeats : List Repeat} (x : Result) → LandsAt p repeats x (step A setting lines s)
+        → Reaches s 1 p repeats x
+    unfolding stateAfter
+    one-step (through memory) e = record { steps = 1; few = omega arith; lands = rw e }
+    one-step (halted why) e = record { steps = 1; few = omega arith; lands = (e .0, rw (e .1)) }
+    one-step stuck e = record { steps = 1; few = omega arith; lands = rw e }
+
+    after-step : {s s′ : State A} {n p : ℕ} {repeats : List Repeat} {x : Result} → step A setting lines s ≡ goesOn s′
+        → Reaches s′ n p repeats x → Reaches s (1 + n) p repeats x
+    unfolding stateAfter
+    after-step e h = record { steps = suc (h .steps); few = omega (arith, h .few); lands = rw e (h .lands) }
+
+    -- the bound may be larger, and the row written otherwise
+    within-more : {s : State A} {n m p q : ℕ} {repeats : List Repeat} {x : Result} → n ≤ m → p ≡ q
+        → Reaches s n p repeats x → Reaches s m q repeats x
+    within-more {s} {repeats} {x} few e h =
+        record {
+          steps = h .steps;
+          few = omega (arith, h .few);
+          lands = subst (λ row. LandsAt row repeats x (stateAfter A (h .steps) setting lines s)) e (h .lands);
+        }
+
+    -- ---- a tree's lines, line by line
+
+    action-lands : (p : ℕ) (repeats : List Repeat) (memory : Memory A) (origin : Origin) (x : Attempt (A .Why) (Memory A))
+        → LandsAt (suc p) repeats (from A origin x) (afterAction A (atRow p repeats memory) origin x)
+    action-lands p repeats memory origin (through next) = refl
+    action-lands p repeats memory origin (halted why) = (record { index = p }, refl)
+    action-lands p repeats memory origin stuck = refl
+
+    row-follows : (p : ℕ) (repeats : List Repeat) (memory : Memory A) (row : TableRow) (rest : List TableLine) → drop p lines ≡ basic row ∷ rest
+        → Reaches (atRow p repeats memory) 1 (suc p) repeats (from A (row .origin) (acted A setting (row .action) memory))
+    unfolding stepAt
+    row-follows p repeats memory row rest e =
+        one-step (from A (row .origin) (acted A setting (row .action) memory))
+        (subst (LandsAt (suc p) repeats (from A (row .origin) (acted A setting (row .action) memory))) (sym (step-at (atRow p repeats memory) _ e))
+        (action-lands p repeats memory (row .origin) (acted A setting (row .action) memory)))
+
+    -- a repeat's turns, once its row has been passed: by the turns still to come
+    turns-follow : (p : ℕ) (repeats : List Repeat) (a k : Table) (rest : List TableLine) → drop (suc p) lines ≡ flat a (endRepeat ∷ rest)
+        → ((inner : List Repeat) (memory : Memory A)
+        → Reaches (atRow (suc p) inner memory) (stepsOf a) (suc p + rows a) inner (tableRun A setting a memory))
+        → ((memory : Memory A)
+        → Reaches (atRow (suc (suc p + rows a)) repeats memory) (stepsOf k) (suc (suc p + rows a) + rows k) repeats (tableRun A setting k memory))
+        → (m : ℕ) (memory : Memory A)
+        → Reaches (atRow (suc p) (record { start = p; left = m } ∷ repeats) memory) (suc m * (stepsOf a + 1) + stepsOf k)
+        (suc (suc p + rows a) + rows k) repeats (tableRun A setting (again m a k) memory)
+    unfolding tableRun stepAt
+    turns-follow p repeats a k rest e body after zero memory =
+        within-more (omega arith) refl
+        (then-reaches (tableRun A setting a memory) (tableRun A setting k) (body (record { start = p; left = 0 } ∷ repeats) memory)
+        (λ next. after-step (step-at _ _ (past-tree lines (suc p) a _ e)) (after next)))
+    turns-follow p repeats a k rest e body after (suc m) memory =
+        within-more (omega arith) refl
+        (then-reaches (tableRun A setting a memory) (tableRun A setting (again m a k)) (body (record { start = p; left = suc m } ∷ repeats) memory)
+        (λ next. after-step (step-at _ _ (past-tree lines (suc p) a _ e)) (turns-follow p repeats a k rest e body after m next)))
+
+    -- past a mark that was found
+    jumps : (s : State A) (memory : Memory A) (o : Option ℕ) (n : ℕ) {q : ℕ} → o ≡ some n → s .at + suc n ≡ q
+        → jump A s memory (oneMore o) ≡ goesOn (atRow q (s .repeats) memory)
+    jumps s memory o n e h = ap (λ x. jump A s memory (oneMore x)) e ∙ ap (λ q. goesOn (atRow q (s .repeats) memory)) h
+
+    -- an "if" block, by the branch that its test picks
+    module _ (p : ℕ) (repeats : List Repeat) (a b k : Table) (rest : List TableLine)
+        (standing : drop (suc p) lines ≡ flat a (elseLine ∷ flat b (endIf ∷ rest)))
+        (first : (memory : Memory A)
+        → Reaches (atRow (suc p) repeats memory) (stepsOf a) (suc p + rows a) repeats (tableRun A setting a memory))
+        (second : (memory : Memory A)
+        → Reaches (atRow (suc (suc p + rows a)) repeats memory) (stepsOf b) (suc (suc p + rows a) + rows b) repeats (tableRun A setting b memory))
+        (after : (memory : Memory A)
+        → Reaches (atRow (suc (suc (suc p + rows a) + rows b)) repeats memory) (stepsOf k) (suc (suc (suc p + rows a) + rows b) + rows k) repeats
+        (tableRun A setting k memory)) where
+      branch-follows : (before memory : Memory A) (taken : Bool)
+          → step A setting lines (atRow p repeats before)
+          ≡ branchTo A (atRow p repeats before) (flat a (elseLine ∷ flat b (endIf ∷ rest))) taken memory
+          → Reaches (atRow p repeats before) (2 + max (stepsOf a) (stepsOf b) + stepsOf k) (suc (suc (suc p + rows a) + rows b) + rows k) repeats
+          (chosen A taken (tableRun A setting a memory) (tableRun A setting b memory) >>= tableRun A setting k)
+      unfolding stepAt
+      branch-follows before memory true e =
+          within-more (omega arith) refl
+          (then-reaches (tableRun A setting a memory) (tableRun A setting k) (after-step e (first memory))
+          (λ next. after-step
+          (step-at _ _ (past-tree lines (suc p) a _ standing) ∙ jumps (atRow (suc p + rows a) repeats next) next _ _ (seek-end b rest) (omega arith))
+          (after next)))
+      branch-follows before memory false e =
+          let split = past-line lines (suc p + rows a) elseLine _ (past-tree lines (suc p) a _ standing) in
+          within-more (omega arith) refl
+          (then-reaches (tableRun A setting b memory) (tableRun A setting k)
+          (after-step (e ∙ jumps (atRow p repeats before) memory _ _ (seek-else a _) (omega arith)) (second memory))
+          (λ next. after-step (step-at _ _ (past-tree lines (suc (suc p + rows a)) b _ split)) (after next)))
+
+      test-follows : (memory : Memory A) (verdict : Option (Verdict A))
+          → step A setting lines (atRow p repeats memory)
+          ≡ afterTest A (atRow p repeats memory) (flat a (elseLine ∷ flat b (endIf ∷ rest))) verdict
+          → Reaches (atRow p repeats memory) (2 + max (stepsOf a) (stepsOf b) + stepsOf k) (suc (suc (suc p + rows a) + rows b) + rows k) repeats
+          (present verdict
+          >>= (λ v. chosen A (v .first) (tableRun A setting a (v .memory)) (tableRun A setting b (v .memory)) >>= tableRun A setting k))
+      test-follows memory none e = within-more (omega arith) refl (one-step stuck e)
+      test-follows memory (some v) e = branch-follows memory (v .memory) (v .first) e
+
+    -- the machine on a tree's lines, whatever stands behind them and whatever repeats are open
+    pub reaches : (t : Table) (p : ℕ) (rest : List TableLine) (repeats : List Repeat) (memory : Memory A) → drop p lines ≡ flat t rest
+        → Reaches (atRow p repeats memory) (stepsOf t) (p + rows t) repeats (tableRun A setting t memory)
+    unfolding tableRun stepsOf rows flat stepAt
+    reaches done p rest repeats memory e =
+        record { steps = 0; few = omega arith; lands = unfold stateAfter in ap (λ q. goesOn (atRow q repeats memory)) (sym (add-zero p)) }
+    reaches (one row k) p rest repeats memory e =
+        within-more (omega arith) (omega arith)
+        (then-reaches (from A (row .origin) (acted A setting (row .action) memory)) (tableRun A setting k) (row-follows p repeats memory row _ e)
+        (λ next. reaches k (suc p) rest repeats next (past-line lines p _ _ e)))
+    reaches (fork f a b k) p rest repeats memory e =
+        let atA = past-line lines p _ _ e in
+        let atB = past-line lines (suc p + rows a) elseLine _ (past-tree lines (suc p) a _ atA) in
+        let atK = past-line lines (suc (suc p + rows a) + rows b) endIf _ (past-tree lines (suc (suc p + rows a)) b _ atB) in
+        within-more (omega arith) (omega arith)
+        (test-follows p repeats a b k (flat k rest) atA (λ next. reaches a (suc p) _ repeats next atA)
+        (λ next. reaches b (suc (suc p + rows a)) _ repeats next atB)
+        (λ next. reaches k (suc (suc (suc p + rows a) + rows b)) rest repeats next atK) memory (tested A f memory) (step-at _ _ e))
+    reaches (again m a k) p rest repeats memory e =
+        let atA = past-line lines p _ _ e in
+        let atK = past-line lines (suc p + rows a) endRepeat _ (past-tree lines (suc p) a _ atA) in
+        within-more (omega arith) (omega arith)
+        (after-step (step-at _ _ e)
+        (turns-follow p repeats a k (flat k rest) atA (λ inner next. reaches a (suc p) _ inner next atA)
+        (λ next. reaches k (suc (suc p + rows a)) rest repeats next atK) m memory))
+
+    -- an execution that goes through is a number of steps to the row behind the tree
+    pub goes-through : (t : Table) (p : ℕ) (rest : List TableLine) (repeats : List Repeat) (memory next : Memory A) → drop p lines ≡ flat t rest
+        → tableRun A setting t memory ≡ through next
+        → (n : ℕ) × (n ≤ stepsOf t) × (stateAfter A n setting lines (atRow p repeats memory) ≡ goesOn (atRow (p + rows t) repeats next))
+    goes-through t p rest repeats memory next e went =
+        let h = subst (Reaches (atRow p repeats memory) (stepsOf t) (p + rows t) repeats) went (reaches t p rest repeats memory e) in
+        (h .steps, h .few, h .lands)
+
+    -- ---- the same of a run with fuel
+
+    -- how a run ends after a step, with so much fuel left
+    abbrev pub endingFrom : (fuel : ℕ) → Step A → Ending A
+    endingFrom fuel (goesOn s) = runFor A fuel setting lines s
+    endingFrom fuel (ended memory) = finished memory
+    endingFrom fuel (stops row origin why) = stoppedAt row origin why
+    endingFrom fuel sticks = gotStuck
+
+    pub run-step : (fuel : ℕ) (s : State A) → runFor A (suc fuel) setting lines s ≡ endingFrom fuel (step A setting lines s)
+    unfolding runFor
+    run-step fuel s = by-step (step A setting lines s) refl
+      where
+        by-step : (x : Step A) → step A setting lines s ≡ x → runFor A (suc fuel) setting lines s ≡ endingFrom fuel x
+        by-step (goesOn next) e = rw (runFor, e)
+        by-step (ended memory) e = rw (runFor, e)
+        by-step (stops row origin why) e = rw (runFor, e)
+        by-step sticks e = rw (runFor, e)
+
+    pub run-on : (n fuel : ℕ) (s : State A) → runFor A (n + fuel) setting lines s ≡ endingFrom fuel (stateAfter A n setting lines s)
+    unfolding stateAfter
+    run-on zero fuel s = rw zero-add
+    run-on (suc n) fuel s =
+        rw suc-add (run-step (n + fuel) s ∙ by-step (step A setting lines s) (λ next. run-on n fuel next))
+      where
+        by-step : (x : Step A)
+            → ((next : State A) → runFor A (n + fuel) setting lines next ≡ endingFrom fuel (stateAfter A n setting lines next))
+            → endingFrom (n + fuel) x ≡ endingFrom fuel (ifItGoesOn A x (λ next. stateAfter A n setting lines next))
+        by-step (goesOn next) ih = ih next
+        by-step (ended memory) ih = refl
+        by-step (stops row origin why) ih = refl
+        by-step sticks ih = refl
+
+    -- in particular, with all of the fuel
+    pub run-through : (n : ℕ) (s : State A) → runFor A n setting lines s ≡ endingFrom 0 (stateAfter A n setting lines s)
+    run-through n s = ap (λ fuel. runFor A fuel setting lines s) (sym (add-zero n)) ∙ run-on n 0 s
+
+    -- a run comes to what an execution in the large gives: its rest from row p on with at least so much fuel, a stop of the same origin, or stuck
+    abbrev pub RunsTo : (fuel p : ℕ) → List Repeat → Result → Ending A → Type 0
+    RunsTo fuel p repeats (through memory) ending = (left : ℕ) × (fuel ≤ left) × (ending ≡ runFor A left setting lines (atRow p repeats memory))
+    RunsTo fuel p repeats (halted s) ending = (row : RowNumber) × (ending ≡ stoppedAt row (s .origin) (s .why))
+    RunsTo fuel p repeats stuck ending = ending ≡ gotStuck
+
+    landed-runs : (s : State A) (n more fuel p : ℕ) (repeats : List Repeat) (x : Result) → fuel ≤ more
+        → LandsAt p repeats x (stateAfter A n setting lines s) → RunsTo fuel p repeats x (runFor A (n + more) setting lines s)
+    landed-runs s n more fuel p repeats (through memory) le h = (more, le, run-on n more s ∙ ap (endingFrom more) h)
+    landed-runs s n more fuel p repeats (halted stop) le h = (h .0, run-on n more s ∙ ap (endingFrom more) (h .1))
+    landed-runs s n more fuel p repeats stuck le h = run-on n more s ∙ ap (endingFrom more) h
+
+    pub follows : (t : Table) (p : ℕ) (rest : List TableLine) (repeats : List Repeat) (memory : Memory A) (fuel : ℕ) → drop p lines ≡ flat t rest
+        → RunsTo fuel (p + rows t) repeats (tableRun A setting t memory) (runFor A (stepsOf t + fuel) setting lines (atRow p repeats memory))
+    follows t p rest repeats memory fuel e =
+        let h = reaches t p rest repeats memory e in
+        let few = h .few in
+        let more = stepsOf t - h .steps + fuel in
+        let same : h .steps + more ≡ stepsOf t + fuel = omega arith in
+        subst (λ n. RunsTo fuel (p + rows t) repeats (tableRun A setting t memory) (runFor A n setting lines (atRow p repeats memory))) same
+        (landed-runs (atRow p repeats memory) (h .steps) more fuel (p + rows t) repeats (tableRun A setting t memory) (omega arith) (h .lands))
+
+  -- ---- a whole table
+
+  abbrev pub EndsAs : Result → Ending A → Type 0
+  EndsAs (through memory) ending = ending ≡ finished memory
+  EndsAs (halted s) ending = (row : RowNumber) × (ending ≡ stoppedAt row (s .origin) (s .why))
+  EndsAs stuck ending = ending ≡ gotStuck
+
+  -- behind the last line a run ends, if it has any fuel left
+  ends-behind : (setting : Setting A) (lines : List TableLine) (p : ℕ) (repeats : List Repeat) (memory : Memory A) (fuel : ℕ) → drop p lines ≡ []
+      → 1 ≤ fuel → runFor A fuel setting lines (atRow p repeats memory) ≡ finished memory
+  unfolding stepAt
+  ends-behind setting lines p repeats memory zero e le = absurd (omega arith)
+  ends-behind setting lines p repeats memory (suc fuel) e le =
+      run-step setting lines fuel (atRow p repeats memory) ∙ ap (endingFrom setting lines fuel) (step-at setting lines (atRow p repeats memory) [] e)
+
+  runs-end : (setting : Setting A) (lines : List TableLine) (p : ℕ) (repeats : List Repeat) (x : Result) (ending : Ending A)
+      → drop p lines ≡ [] → RunsTo setting lines 1 p repeats x ending → EndsAs x ending
+  runs-end setting lines p repeats (through memory) ending e h = h .2 ∙ ends-behind setting lines p repeats memory (h .0) e (h .1)
+  runs-end setting lines p repeats (halted s) ending e h = h
+  runs-end setting lines p repeats stuck ending e h = h
+
+  module _ (table : Table) (setting : Setting A) (memory : Memory A) where
+    pub run-follows : EndsAs (tableRun A setting table memory) (runOf A table setting (atRow 0 [] memory))
+    unfolding runOf linesOf
+    run-follows =
+        let lines = flat table [] in
+        let result = tableRun A setting table memory in
+        let same : stepsOf table + 1 ≡ suc (stepsOf table) = omega arith in
+        runs-end setting lines (0 + rows table) [] result _ (past-tree lines 0 table [] refl)
+        (subst (λ fuel. RunsTo setting lines 1 (0 + rows table) [] result (runFor A fuel setting lines (atRow 0 [] memory))) same
+        (follows setting lines table 0 [] [] memory 1 refl))
+
+    pub fuel-suffices : runOf A table setting (atRow 0 [] memory) ≡ outOfFuel → ⊥
+    fuel-suffices = by-result (tableRun A setting table memory) (runOf A table setting (atRow 0 [] memory)) run-follows
+      where
+        by-result : (x : Result) (ending : Ending A) → EndsAs x ending → ending ≡ outOfFuel → ⊥
+        by-result (through next) ending h e = let z : _≡_ {A = ℕ} 0 1 = cc in absurd (omega arith)
+        by-result (halted s) ending h e =
+            let stopped = h .1 in
+            let z : _≡_ {A = ℕ} 0 1 = cc in
+            absurd (omega arith)
+        by-result stuck ending h e = let z : _≡_ {A = ℕ} 0 1 = cc in absurd (omega arith)
+
+    pub stuck-in-the-large : runOf A table setting (atRow 0 [] memory) ≡ gotStuck → tableRun A setting table memory ≡ stuck
+    stuck-in-the-large = by-result (tableRun A setting table memory) (runOf A table setting (atRow 0 [] memory)) run-follows
+      where
+        by-result : (x : Result) (ending : Ending A) → EndsAs x ending → ending ≡ gotStuck → x ≡ stuck
+        by-result (through next) ending h e = cc
+        by-result (halted s) ending h e = let stopped = h .1 in cc
+        by-result stuck ending h e = refl
