@@ -2,6 +2,7 @@
 -- and the sheets that 01 works by hand.
 pub mod Execution
 pub mod IdealSweep
+pub mod ReadLog
 pub mod EquationTwo
 pub mod SavedRows
 pub mod WorkedSheets
