@@ -146,7 +146,7 @@ module _ (known : ℕ → Assignment → Activity) (saved : ℕ → Assignment �
           let there : d < length (store ++ tail) = omega (arith, length-append store tail) in
           rw (T-true {b = ltb d (length (store ++ tail))} (lt→ltb d (length (store ++ tail)) there), set-append-left store tail d x (omega arith))
 
-      replaced-alone : {W : Type 0} (d : ℕ) (x : A .Carrier) → d < v → replaced {Why = W} store d x ≡ through (set store d x)
+      pub replaced-alone : {W : Type 0} (d : ℕ) (x : A .Carrier) → d < v → replaced {Why = W} store d x ≡ through (set store d x)
       replaced-alone d x h =
           let there : d < length store = omega arith in
           rw (T-true {b = ltb d (length store)} (lt→ltb d (length store) there))

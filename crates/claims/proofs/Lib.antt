@@ -8,3 +8,4 @@ pub mod Forward
 pub mod Replay
 pub mod MachineFollows
 pub mod Heights
+pub mod WholeRunMatches

@@ -5,4 +5,5 @@ pub mod IdealSweep
 pub mod ReadLog
 pub mod EquationTwo
 pub mod SavedRows
+pub mod WholeRun
 pub mod WorkedSheets
