@@ -7,5 +7,9 @@ pub mod DerivativesAlike
 pub mod Forward
 pub mod Replay
 pub mod MachineFollows
+pub mod MachineLogs
 pub mod Heights
+pub mod IdealRooms
 pub mod WholeRunMatches
+pub mod RunAccepted
+pub mod RunsAnswer

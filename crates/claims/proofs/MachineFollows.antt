@@ -1,22 +1,24 @@
--- The row machine on a table's lines does what executing the table's tree in the large gives, and its fuel suffices.
+-- The row machine on a table's lines does what executing the table's tree in the large gives, noting the same of what derivative rows
+-- read, and its fuel suffices.
 use Prim.Native.Nat.{ℕ, zero, suc, _+_, _*_, _-_, _≤_, max}
 use mathlib.Core.Path.{_≡_, refl, sym, ap, subst, _∙_}
 use mathlib.Core.Bool.{Bool, true, false}
-use mathlib.Core.List.{List, [], _∷_}
+use mathlib.Core.List.{List, [], _∷_, _++_, append-nil, append-assoc}
 use mathlib.Core.Option.{Option, none, some}
 use lib.ListN.{drop}
 use lib.Seq.{drop-nil}
 use native.Mathlib.Nat.{zero-add, suc-add, add-zero}
 use native.Mathlib.Omega.{arith}
 use Rattle.number.specs.Arithmetic.{Arithmetic}
-use Rattle.sheet.specs.Tree.{Tree, done, one, fork, again, Line, basic, elseLine, endIf, repeat, endRepeat, flat, rows, RowNumber}
-use Rattle.table.specs.TableRows.{Origin, TableRow, TableLine, Table, linesOf}
+use Rattle.sheet.specs.Tree.{Tree, done, one, fork, again, Line, basic, ifLine, elseLine, endIf, repeat, endRepeat, flat, rows, RowNumber}
+use Rattle.table.specs.TableRows.{Origin, TableRow, TableTest, TableLine, Table, linesOf}
 use Rattle.run.specs.Attempts.{Attempt, through, halted, stuck, _>>=_, present}
 use Rattle.run.specs.Actions.{Memory, Setting, Verdict, acted, tested}
 use Rattle.run.specs.Machine.{Mark, itsElse, itsEnd, oneMore, seek, Repeat, State, Step, goesOn, ended, stops, sticks, Ending, finished, stoppedAt, gotStuck, outOfFuel, jump, afterAction, branchTo, afterTest, stepAt, step, runFor, ifItGoesOn, stateAfter, stepsOf}
 use Rattle.run.specs.Calls.{runOf}
 use Rattle.claims.specs.Execution.{Stop, from, chosen}
 use Rattle.claims.specs.IdealSweep.{tableRun}
+use Rattle.claims.specs.ReadLog.{Entry, noted, notedAt, onNext, machineLog, onThrough, chosenLog, tableLog}
 
 -- ---- passing over a tree's lines
 
@@ -115,11 +117,18 @@ module _ (A : Arithmetic) where
   LandsAt p repeats stuck out = out ≡ sticks
 
   module _ (setting : Setting A) (lines : List TableLine) where
-    -- from this state, within so many steps
-    pub record Reaches (start : State A) (bound : ℕ) (p : ℕ) (repeats : List Repeat) (result : Result) : Type 0 where
+    -- from this state, within so many steps. A step that stops or sticks is among them: its row has been noted.
+    pub record Reaches (start : State A) (bound : ℕ) (p : ℕ) (repeats : List Repeat) (result : Result) (log : List (Entry A)) : Type 0 where
       pub steps : ℕ
       pub few : steps ≤ bound
       pub lands : LandsAt p repeats result (stateAfter A steps setting lines start)
+      pub notes : machineLog A steps setting lines start ≡ log
+
+    -- the machine from row p on does what the tree gives in the large
+    abbrev pub Follows : Table → (p : ℕ) → List Repeat → Type 0
+    Follows t p repeats =
+        (memory : Memory A)
+        → Reaches (atRow p repeats memory) (stepsOf t) (p + rows t) repeats (tableRun A setting t memory) (tableLog A setting t memory)
 
     pub steps-add : (n m : ℕ) (s : State A)
         → stateAfter A (n + m) setting lines s ≡ ifItGoesOn A (stateAfter A n setting lines s) (λ next. stateAfter A m setting lines next)
@@ -137,45 +146,101 @@ module _ (A : Arithmetic) where
         by-step (stops row origin why) ih = refl
         by-step sticks ih = refl
 
+    pub log-add : (n m : ℕ) (s : State A)
+        → machineLog A (n + m) setting lines s
+        ≡ machineLog A n setting lines s ++ onNext A (stateAfter A n setting lines s) (λ next. machineLog A m setting lines next)
+    unfolding stateAfter machineLog
+    log-add zero m s = rw zero-add
+    log-add (suc n) m s =
+        let here = notedAt A (setting .variables) (drop (s .at) lines) (s .memory) in
+        let later = onNext A (step A setting lines s) (λ next. machineLog A n setting lines next) in
+        rw suc-add (ap (here ++_) (by-step (step A setting lines s) (λ next. log-add n m next)) ∙ sym (append-assoc here later _))
+      where
+        by-step : (x : Step A)
+            → ((next : State A)
+            → machineLog A (n + m) setting lines next
+            ≡ machineLog A n setting lines next ++ onNext A (stateAfter A n setting lines next) (λ last. machineLog A m setting lines last))
+            → onNext A x (λ next. machineLog A (n + m) setting lines next)
+            ≡ onNext A x (λ next. machineLog A n setting lines next)
+            ++ onNext A (ifItGoesOn A x (λ next. stateAfter A n setting lines next)) (λ next. machineLog A m setting lines next)
+        by-step (goesOn next) ih = ih next
+        by-step (ended memory) ih = refl
+        by-step (stops row origin why) ih = refl
+        by-step sticks ih = refl
+
     -- one execution after another
-    then-reaches : {s : State A} {n m p q : ℕ} {outer inner : List Repeat} (x : Result)
-        (next : Memory A → Result) → Reaches s n p inner x
-        → ((memory : Memory A) → Reaches (atRow p inner memory) m q outer (next memory)) → Reaches s (n + m) q outer (x >>= next)
-    then-reaches {s} {outer} (through memory) next first second =
+    then-reaches : {s : State A} {n m p q : ℕ} {outer inner : List Repeat} {log : List (Entry A)} (x : Result)
+        (next : Memory A → Result) (later : Memory A → List (Entry A)) → Reaches s n p inner x log
+        → ((memory : Memory A) → Reaches (atRow p inner memory) m q outer (next memory) (later memory))
+        → Reaches s (n + m) q outer (x >>= next) (log ++ onThrough A x later)
+    then-reaches {s} {outer} (through memory) next later first second =
         let h = second memory in
         record {
           steps = first .steps + h .steps;
           few = omega (arith, first .few, h .few);
           lands = rw (steps-add (first .steps) (h .steps) s, first .lands) (h .lands);
+          notes = rw (log-add (first .steps) (h .steps) s, first .lands, first .notes, h .notes);
         }
-    then-reaches {s} (halted why) next first second = record { steps = first .steps; few = omega (arith, first .few); lands = first .lands }
-    then-reaches {s} stuck next first second = record { steps = first .steps; few = omega (arith, first .few); lands = first .lands }
+    then-reaches {s} {log} (halted why) next later first second =
+        record { steps = first .steps; few = omega (arith, first .few); lands = first .lands; notes = first .notes ∙ sym (append-nil log) }
+    then-reaches {s} {log} stuck next later first second =
+        record { steps = first .steps; few = omega (arith, first .few); lands = first .lands; notes = first .notes ∙ sym (append-nil log) }
 
     step-at : (s : State A) (here : List TableLine) → drop (s .at) lines ≡ here → step A setting lines s ≡ stepAt A setting s here
     unfolding step
     step-at s here e = ap (stepAt A setting s) e
 
-    -- the first step, and what comes after it
-    one-step : {s : State A} {p : ℕ} {repeats : List Repeat} (x : Result) → LandsAt p repeats x (step A setting lines s)
-        → Reaches s 1 p repeats x
-    unfolding stateAfter
-    one-step (through memory) e = record { steps = 1; few = omega arith; lands = rw e }
-    one-step (halted why) e = record { steps = 1; few = omega arith; lands = (e .0, rw (e .1)) }
-    one-step stuck e = record { steps = 1; few = omega arith; lands = rw e }
+    abbrev notedFrom : State A → List TableLine → List (Entry A)
+    notedFrom s here = notedAt A (setting .variables) here (s .memory)
 
-    after-step : {s s′ : State A} {n p : ℕ} {repeats : List Repeat} {x : Result} → step A setting lines s ≡ goesOn s′
-        → Reaches s′ n p repeats x → Reaches s (1 + n) p repeats x
-    unfolding stateAfter
-    after-step e h = record { steps = suc (h .steps); few = omega (arith, h .few); lands = rw e (h .lands) }
+    -- one step by itself
+    one-step : {s : State A} {here : List TableLine} {p : ℕ} {repeats : List Repeat} (x : Result) → drop (s .at) lines ≡ here
+        → LandsAt p repeats x (stepAt A setting s here) → Reaches s 1 p repeats x (notedFrom s here)
+    unfolding stateAfter machineLog
+    one-step {s} {here} {p} {repeats} x e h =
+        record {
+          steps = 1;
+          few = omega arith;
+          lands = subst (LandsAt p repeats x) (sym (comes-to (step A setting lines s) ∙ step-at s here e)) h;
+          notes = ap (notedFrom s (drop (s .at) lines) ++_) (notes-no-more (step A setting lines s)) ∙ append-nil _ ∙ ap (notedFrom s) e;
+        }
+      where
+        comes-to : (y : Step A) → ifItGoesOn A y (λ next. goesOn next) ≡ y
+        comes-to (goesOn next) = refl
+        comes-to (ended memory) = refl
+        comes-to (stops row origin why) = refl
+        comes-to sticks = refl
+
+        notes-no-more : (y : Step A) → onNext A y (λ next. []) ≡ []
+        notes-no-more (goesOn next) = refl
+        notes-no-more (ended memory) = refl
+        notes-no-more (stops row origin why) = refl
+        notes-no-more sticks = refl
+
+    -- a step that notes nothing, and what comes after it
+    after-step : {s s′ : State A} {here : List TableLine} {n p : ℕ} {repeats : List Repeat} {x : Result} {log : List (Entry A)}
+        → drop (s .at) lines ≡ here → notedFrom s here ≡ [] → stepAt A setting s here ≡ goesOn s′ → Reaches s′ n p repeats x log
+        → Reaches s (1 + n) p repeats x log
+    unfolding stateAfter machineLog
+    after-step {s} {s′} {here} e nothing on h =
+        let next : step A setting lines s ≡ goesOn s′ = step-at s here e ∙ on in
+        let quiet : notedFrom s (drop (s .at) lines) ≡ [] = ap (notedFrom s) e ∙ nothing in
+        record {
+          steps = suc (h .steps);
+          few = omega (arith, h .few);
+          lands = rw next (h .lands);
+          notes = rw (quiet, next) (h .notes);
+        }
 
     -- the bound may be larger, and the row written otherwise
-    within-more : {s : State A} {n m p q : ℕ} {repeats : List Repeat} {x : Result} → n ≤ m → p ≡ q
-        → Reaches s n p repeats x → Reaches s m q repeats x
+    within-more : {s : State A} {n m p q : ℕ} {repeats : List Repeat} {x : Result} {log : List (Entry A)} → n ≤ m → p ≡ q
+        → Reaches s n p repeats x log → Reaches s m q repeats x log
     within-more {s} {repeats} {x} few e h =
         record {
           steps = h .steps;
           few = omega (arith, h .few);
           lands = subst (λ row. LandsAt row repeats x (stateAfter A (h .steps) setting lines s)) e (h .lands);
+          notes = h .notes;
         }
 
     -- ---- a tree's lines, line by line
@@ -188,30 +253,28 @@ module _ (A : Arithmetic) where
 
     row-follows : (p : ℕ) (repeats : List Repeat) (memory : Memory A) (row : TableRow) (rest : List TableLine) → drop p lines ≡ basic row ∷ rest
         → Reaches (atRow p repeats memory) 1 (suc p) repeats (from A (row .origin) (acted A setting (row .action) memory))
+        (noted A (setting .variables) row memory)
     unfolding stepAt
     row-follows p repeats memory row rest e =
-        one-step (from A (row .origin) (acted A setting (row .action) memory))
-        (subst (LandsAt (suc p) repeats (from A (row .origin) (acted A setting (row .action) memory))) (sym (step-at (atRow p repeats memory) _ e))
-        (action-lands p repeats memory (row .origin) (acted A setting (row .action) memory)))
+        one-step (from A (row .origin) (acted A setting (row .action) memory)) e
+        (action-lands p repeats memory (row .origin) (acted A setting (row .action) memory))
 
     -- a repeat's turns, once its row has been passed: by the turns still to come
     turns-follow : (p : ℕ) (repeats : List Repeat) (a k : Table) (rest : List TableLine) → drop (suc p) lines ≡ flat a (endRepeat ∷ rest)
-        → ((inner : List Repeat) (memory : Memory A)
-        → Reaches (atRow (suc p) inner memory) (stepsOf a) (suc p + rows a) inner (tableRun A setting a memory))
-        → ((memory : Memory A)
-        → Reaches (atRow (suc (suc p + rows a)) repeats memory) (stepsOf k) (suc (suc p + rows a) + rows k) repeats (tableRun A setting k memory))
-        → (m : ℕ) (memory : Memory A)
+        → ((inner : List Repeat) → Follows a (suc p) inner) → Follows k (suc (suc p + rows a)) repeats → (m : ℕ) (memory : Memory A)
         → Reaches (atRow (suc p) (record { start = p; left = m } ∷ repeats) memory) (suc m * (stepsOf a + 1) + stepsOf k)
-        (suc (suc p + rows a) + rows k) repeats (tableRun A setting (again m a k) memory)
-    unfolding tableRun stepAt
+        (suc (suc p + rows a) + rows k) repeats (tableRun A setting (again m a k) memory) (tableLog A setting (again m a k) memory)
+    unfolding tableRun tableLog stepAt
     turns-follow p repeats a k rest e body after zero memory =
         within-more (omega arith) refl
-        (then-reaches (tableRun A setting a memory) (tableRun A setting k) (body (record { start = p; left = 0 } ∷ repeats) memory)
-        (λ next. after-step (step-at _ _ (past-tree lines (suc p) a _ e)) (after next)))
+        (then-reaches (tableRun A setting a memory) (tableRun A setting k) (tableLog A setting k)
+        (body (record { start = p; left = 0 } ∷ repeats) memory)
+        (λ next. after-step (past-tree lines (suc p) a _ e) refl refl (after next)))
     turns-follow p repeats a k rest e body after (suc m) memory =
         within-more (omega arith) refl
-        (then-reaches (tableRun A setting a memory) (tableRun A setting (again m a k)) (body (record { start = p; left = suc m } ∷ repeats) memory)
-        (λ next. after-step (step-at _ _ (past-tree lines (suc p) a _ e)) (turns-follow p repeats a k rest e body after m next)))
+        (then-reaches (tableRun A setting a memory) (tableRun A setting (again m a k)) (tableLog A setting (again m a k))
+        (body (record { start = p; left = suc m } ∷ repeats) memory)
+        (λ next. after-step (past-tree lines (suc p) a _ e) refl refl (turns-follow p repeats a k rest e body after m next)))
 
     -- past a mark that was found
     jumps : (s : State A) (memory : Memory A) (o : Option ℕ) (n : ℕ) {q : ℕ} → o ≡ some n → s .at + suc n ≡ q
@@ -219,66 +282,72 @@ module _ (A : Arithmetic) where
     jumps s memory o n e h = ap (λ x. jump A s memory (oneMore x)) e ∙ ap (λ q. goesOn (atRow q (s .repeats) memory)) h
 
     -- an "if" block, by the branch that its test picks
-    module _ (p : ℕ) (repeats : List Repeat) (a b k : Table) (rest : List TableLine)
-        (standing : drop (suc p) lines ≡ flat a (elseLine ∷ flat b (endIf ∷ rest)))
-        (first : (memory : Memory A)
-        → Reaches (atRow (suc p) repeats memory) (stepsOf a) (suc p + rows a) repeats (tableRun A setting a memory))
-        (second : (memory : Memory A)
-        → Reaches (atRow (suc (suc p + rows a)) repeats memory) (stepsOf b) (suc (suc p + rows a) + rows b) repeats (tableRun A setting b memory))
-        (after : (memory : Memory A)
-        → Reaches (atRow (suc (suc (suc p + rows a) + rows b)) repeats memory) (stepsOf k) (suc (suc (suc p + rows a) + rows b) + rows k) repeats
-        (tableRun A setting k memory)) where
+    module _ (p : ℕ) (repeats : List Repeat) (f : TableTest) (a b k : Table) (rest : List TableLine)
+        (standing : drop p lines ≡ ifLine f ∷ flat a (elseLine ∷ flat b (endIf ∷ rest)))
+        (first : Follows a (suc p) repeats) (second : Follows b (suc (suc p + rows a)) repeats)
+        (after : Follows k (suc (suc (suc p + rows a) + rows b)) repeats) where
       branch-follows : (before memory : Memory A) (taken : Bool)
-          → step A setting lines (atRow p repeats before)
+          → stepAt A setting (atRow p repeats before) (ifLine f ∷ flat a (elseLine ∷ flat b (endIf ∷ rest)))
           ≡ branchTo A (atRow p repeats before) (flat a (elseLine ∷ flat b (endIf ∷ rest))) taken memory
           → Reaches (atRow p repeats before) (2 + max (stepsOf a) (stepsOf b) + stepsOf k) (suc (suc (suc p + rows a) + rows b) + rows k) repeats
           (chosen A taken (tableRun A setting a memory) (tableRun A setting b memory) >>= tableRun A setting k)
+          (chosenLog A taken (tableLog A setting a memory) (tableLog A setting b memory)
+          ++ onThrough A (chosen A taken (tableRun A setting a memory) (tableRun A setting b memory)) (tableLog A setting k))
       unfolding stepAt
       branch-follows before memory true e =
+          let atA = past-line lines p _ _ standing in
           within-more (omega arith) refl
-          (then-reaches (tableRun A setting a memory) (tableRun A setting k) (after-step e (first memory))
-          (λ next. after-step
-          (step-at _ _ (past-tree lines (suc p) a _ standing) ∙ jumps (atRow (suc p + rows a) repeats next) next _ _ (seek-end b rest) (omega arith))
-          (after next)))
+          (then-reaches (tableRun A setting a memory) (tableRun A setting k) (tableLog A setting k) (after-step standing refl e (first memory))
+          (λ next. after-step (past-tree lines (suc p) a _ atA) refl
+          (jumps (atRow (suc p + rows a) repeats next) next _ _ (seek-end b rest) (omega arith)) (after next)))
       branch-follows before memory false e =
-          let split = past-line lines (suc p + rows a) elseLine _ (past-tree lines (suc p) a _ standing) in
+          let atA = past-line lines p _ _ standing in
+          let atB = past-line lines (suc p + rows a) elseLine _ (past-tree lines (suc p) a _ atA) in
           within-more (omega arith) refl
-          (then-reaches (tableRun A setting b memory) (tableRun A setting k)
-          (after-step (e ∙ jumps (atRow p repeats before) memory _ _ (seek-else a _) (omega arith)) (second memory))
-          (λ next. after-step (step-at _ _ (past-tree lines (suc (suc p + rows a)) b _ split)) (after next)))
+          (then-reaches (tableRun A setting b memory) (tableRun A setting k) (tableLog A setting k)
+          (after-step standing refl (e ∙ jumps (atRow p repeats before) memory _ _ (seek-else a _) (omega arith)) (second memory))
+          (λ next. after-step (past-tree lines (suc (suc p + rows a)) b _ atB) refl refl (after next)))
 
       test-follows : (memory : Memory A) (verdict : Option (Verdict A))
-          → step A setting lines (atRow p repeats memory)
+          → stepAt A setting (atRow p repeats memory) (ifLine f ∷ flat a (elseLine ∷ flat b (endIf ∷ rest)))
           ≡ afterTest A (atRow p repeats memory) (flat a (elseLine ∷ flat b (endIf ∷ rest))) verdict
           → Reaches (atRow p repeats memory) (2 + max (stepsOf a) (stepsOf b) + stepsOf k) (suc (suc (suc p + rows a) + rows b) + rows k) repeats
           (present verdict
           >>= (λ v. chosen A (v .first) (tableRun A setting a (v .memory)) (tableRun A setting b (v .memory)) >>= tableRun A setting k))
-      test-follows memory none e = within-more (omega arith) refl (one-step stuck e)
+          (onThrough A {W = Stop A} (present verdict)
+          (λ v. chosenLog A (v .first) (tableLog A setting a (v .memory)) (tableLog A setting b (v .memory))
+          ++ onThrough A (chosen A (v .first) (tableRun A setting a (v .memory)) (tableRun A setting b (v .memory))) (tableLog A setting k)))
+      test-follows memory none e = within-more (omega arith) refl (one-step stuck standing e)
       test-follows memory (some v) e = branch-follows memory (v .memory) (v .first) e
 
     -- the machine on a tree's lines, whatever stands behind them and whatever repeats are open
     pub reaches : (t : Table) (p : ℕ) (rest : List TableLine) (repeats : List Repeat) (memory : Memory A) → drop p lines ≡ flat t rest
-        → Reaches (atRow p repeats memory) (stepsOf t) (p + rows t) repeats (tableRun A setting t memory)
-    unfolding tableRun stepsOf rows flat stepAt
+        → Reaches (atRow p repeats memory) (stepsOf t) (p + rows t) repeats (tableRun A setting t memory) (tableLog A setting t memory)
+    unfolding tableRun tableLog stepsOf rows flat stepAt
     reaches done p rest repeats memory e =
-        record { steps = 0; few = omega arith; lands = unfold stateAfter in ap (λ q. goesOn (atRow q repeats memory)) (sym (add-zero p)) }
+        record {
+          steps = 0;
+          few = omega arith;
+          lands = unfold stateAfter in ap (λ q. goesOn (atRow q repeats memory)) (sym (add-zero p));
+          notes = unfold machineLog in refl;
+        }
     reaches (one row k) p rest repeats memory e =
         within-more (omega arith) (omega arith)
-        (then-reaches (from A (row .origin) (acted A setting (row .action) memory)) (tableRun A setting k) (row-follows p repeats memory row _ e)
-        (λ next. reaches k (suc p) rest repeats next (past-line lines p _ _ e)))
+        (then-reaches (from A (row .origin) (acted A setting (row .action) memory)) (tableRun A setting k) (tableLog A setting k)
+        (row-follows p repeats memory row _ e) (λ next. reaches k (suc p) rest repeats next (past-line lines p _ _ e)))
     reaches (fork f a b k) p rest repeats memory e =
         let atA = past-line lines p _ _ e in
         let atB = past-line lines (suc p + rows a) elseLine _ (past-tree lines (suc p) a _ atA) in
         let atK = past-line lines (suc (suc p + rows a) + rows b) endIf _ (past-tree lines (suc (suc p + rows a)) b _ atB) in
         within-more (omega arith) (omega arith)
-        (test-follows p repeats a b k (flat k rest) atA (λ next. reaches a (suc p) _ repeats next atA)
+        (test-follows p repeats f a b k (flat k rest) e (λ next. reaches a (suc p) _ repeats next atA)
         (λ next. reaches b (suc (suc p + rows a)) _ repeats next atB)
-        (λ next. reaches k (suc (suc (suc p + rows a) + rows b)) rest repeats next atK) memory (tested A f memory) (step-at _ _ e))
+        (λ next. reaches k (suc (suc (suc p + rows a) + rows b)) rest repeats next atK) memory (tested A f memory) refl)
     reaches (again m a k) p rest repeats memory e =
         let atA = past-line lines p _ _ e in
         let atK = past-line lines (suc p + rows a) endRepeat _ (past-tree lines (suc p) a _ atA) in
         within-more (omega arith) (omega arith)
-        (after-step (step-at _ _ e)
+        (after-step e refl refl
         (turns-follow p repeats a k (flat k rest) atA (λ inner next. reaches a (suc p) _ inner next atA)
         (λ next. reaches k (suc (suc p + rows a)) rest repeats next atK) m memory))
 
@@ -287,8 +356,8 @@ module _ (A : Arithmetic) where
         → tableRun A setting t memory ≡ through next
         → (n : ℕ) × (n ≤ stepsOf t) × (stateAfter A n setting lines (atRow p repeats memory) ≡ goesOn (atRow (p + rows t) repeats next))
     goes-through t p rest repeats memory next e went =
-        let h = subst (Reaches (atRow p repeats memory) (stepsOf t) (p + rows t) repeats) went (reaches t p rest repeats memory e) in
-        (h .steps, h .few, h .lands)
+        let h = reaches t p rest repeats memory e in
+        (h .steps, h .few, subst (λ x. LandsAt (p + rows t) repeats x (stateAfter A (h .steps) setting lines (atRow p repeats memory))) went (h .lands))
 
     -- ---- the same of a run with fuel
 

@@ -2,10 +2,11 @@
 use Prim.Native.Nat.{ℕ, _≤_}
 use mathlib.Core.Path.{_≡_}
 use mathlib.Core.Bool.{Bool}
-use mathlib.Core.List.{List, []}
+use mathlib.Core.List.{List, [], _++_}
 use lib.ListN.{drop}
 use Rattle.number.specs.Arithmetic.{Arithmetic}
 use Rattle.sheet.specs.Tree.{RowNumber}
+use Rattle.sheet.specs.Refusals.{numberOf, placeOf, notFiniteResult}
 use Rattle.sheet.specs.Reading.{Sheet, variablesOf}
 use Rattle.sets.specs.Marks.{marked}
 use Rattle.table.specs.Adjoint.{adjointTable}
@@ -13,7 +14,7 @@ use Rattle.table.specs.Sizes.{valuesNeeded, turnsNeeded}
 use Rattle.run.specs.Attempts.{Attempt, through, halted, stuck}
 use Rattle.run.specs.Actions.{Memory, Setting}
 use Rattle.run.specs.Machine.{Ending, finished, stoppedAt}
-use Rattle.run.specs.Calls.{settingOf, startOf, runOf}
+use Rattle.run.specs.Calls.{Lent, Ran, settingOf, startOf, runOf, independentAdjoints, lentAfter}
 use Rattle.claims.specs.Execution.{Stop}
 use Rattle.claims.specs.IdealSweep.{Ideal, ideal}
 use Rattle.claims.specs.SavedRows.{alsoSaving}
@@ -44,3 +45,31 @@ module _ (A : Arithmetic) where
   Matches v (through i) ending = Ended v i ending
   Matches v (halted stop) ending = (row : RowNumber) × (ending ≡ stoppedAt row (stop .origin) (stop .why))
   Matches v stuck ending = ⊥
+
+  -- what the call run answers: 0 with the values of the execution and, at the independents, the adjoints of the ideal sweep; or 12 at
+  -- some table row, the result unchanged
+  unfoldable pub AnswersAs : Sheet → Lent A → Attempt (Stop A) (Ideal A) → Ran A → Type 0
+  unfolding lentAfter independentAdjoints numberOf placeOf
+  AnswersAs sheet lent (through i) ran =
+      ran
+      ≡ record {
+        number = 0;
+        place = 0;
+        lent = lentAfter A sheet lent (i .progress .store ++ independentAdjoints A (sheet .roles) (i .adjoints));
+      }
+  AnswersAs sheet lent (halted stop) ran =
+      (row : RowNumber)
+      × (ran
+      ≡ record {
+        number = numberOf (notFiniteResult (row .index));
+        place = placeOf (notFiniteResult (row .index));
+        lent = lentAfter A sheet lent (lent .result);
+      })
+  AnswersAs sheet lent stuck ran = ⊥
+
+  -- two runs that give the same values and the same adjoints, or stop at the same sheet row and operation for the same reason
+  pub data SameOutcome (variables : ℕ) (one other : Ending A) : Type 0 where
+    bothEnd : (first second : Memory A) → one ≡ finished first → other ≡ finished second → first .copied ≡ second .copied
+        → drop variables (first .store) ≡ drop variables (second .store) → SameOutcome variables one other
+    bothStop : (row other-row : RowNumber) (stop : Stop A) → one ≡ stoppedAt row (stop .origin) (stop .why)
+        → other ≡ stoppedAt other-row (stop .origin) (stop .why) → SameOutcome variables one other

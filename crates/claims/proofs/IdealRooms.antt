@@ -1,0 +1,73 @@
+-- The ideal sweep doesn't depend on how many places the stacks have: derivative rows save nothing.
+use Prim.Native.Nat.{ℕ, _+_, _≤_}
+use mathlib.Core.Path.{_≡_, refl, sym, ap, _∙_}
+use mathlib.Core.List.{List, [], _∷_, _++_}
+use native.Mathlib.Omega.{arith}
+use Rattle.number.specs.Arithmetic.{Arithmetic}
+use Rattle.sheet.specs.Tree.{done, RowNumber}
+use Rattle.sheet.specs.Rows.{Assignment, _≔_}
+use Rattle.sheet.specs.Reading.{Sheet}
+use Rattle.sets.specs.Transfers.{Activity}
+use Rattle.table.specs.Adjoint.{derivativeRows}
+use Rattle.run.specs.Attempts.{Attempt, through, halted, stuck, _>>=_}
+use Rattle.run.specs.Actions.{Memory, Setting}
+use Rattle.run.specs.Calls.{settingOf}
+use Rattle.claims.specs.Execution.{Executed, Stop, execution}
+use Rattle.claims.specs.IdealSweep.{tableRun, derivedBy, swept, Ideal, ideal}
+use Rattle.claims.proofs.Heights.{withRooms, more-room-same-in-the-large}
+
+-- what comes after something that is stuck is stuck
+stuck-first : {W X Y : Type 0} (m : Attempt W X) (next : X → Attempt W Y) → ((m >>= next) ≡ stuck → ⊥) → m ≡ stuck → ⊥
+stuck-first m next unstuck e = unstuck (rw e refl)
+
+-- a bind whose parts are the same unless they are stuck
+bind-unless : {W X Y : Type 0} (m m′ : Attempt W X) (f f′ : X → Attempt W Y) → ((m ≡ stuck → ⊥) → m′ ≡ m)
+    → ((x : X) → (f x ≡ stuck → ⊥) → f′ x ≡ f x) → ((m >>= f) ≡ stuck → ⊥) → (m′ >>= f′) ≡ (m >>= f)
+bind-unless m m′ f f′ first then unstuck = rw (first (stuck-first m f unstuck)) (by-outcome m unstuck)
+  where
+    by-outcome : (m : Attempt _ _) → ((m >>= f) ≡ stuck → ⊥) → (m >>= f′) ≡ (m >>= f)
+    by-outcome (through x) unstuck = then x unstuck
+    by-outcome (halted why) unstuck = refl
+    by-outcome stuck unstuck = refl
+
+module _ (A : Arithmetic) (setting : Setting A) (values turns : ℕ) (moreValues : setting .valueRoom ≤ values) (moreTurns : setting .turnRoom ≤ turns) where
+  abbrev larger : Setting A
+  larger = withRooms A setting values turns
+
+  derived-in-more-room : (b : Assignment) (row : RowNumber) (known : Activity) (originals adjoints : List (A .Carrier))
+      → (derivedBy A setting b row known originals adjoints ≡ stuck → ⊥)
+      → derivedBy A larger b row known originals adjoints ≡ derivedBy A setting b row known originals adjoints
+  unfolding derivedBy
+  derived-in-more-room (d ≔ source) row known originals adjoints =
+      bind-unless (tableRun A setting (derivativeRows (setting .variables) (known .active) d source row known done) _)
+      (tableRun A larger (derivativeRows (setting .variables) (known .active) d source row known done) _) _ _
+      (more-room-same-in-the-large A setting values turns moreValues moreTurns (derivativeRows (setting .variables) (known .active) d source row known done) _)
+      (λ x unstuck. refl)
+
+  swept-in-more-room : (known : ℕ → Assignment → Activity) (trace : List (Executed A)) (adjoints : List (A .Carrier))
+      → (swept A setting known trace adjoints ≡ stuck → ⊥) → swept A larger known trace adjoints ≡ swept A setting known trace adjoints
+  unfolding swept
+  swept-in-more-room known [] adjoints = λ unstuck. refl
+  swept-in-more-room known (e ∷ earlier) adjoints =
+      bind-unless (derivedBy A setting (e .assignment) (e .row) (known (e .row .index) (e .assignment)) (e .before) adjoints)
+      (derivedBy A larger (e .assignment) (e .row) (known (e .row .index) (e .assignment)) (e .before) adjoints) _ _
+      (derived-in-more-room (e .assignment) (e .row) (known (e .row .index) (e .assignment)) (e .before) adjoints)
+      (λ next. swept-in-more-room known earlier next)
+
+  ideal-in-more-room : (sheet : Sheet) (starts : List (A .Carrier)) → (ideal A sheet setting starts ≡ stuck → ⊥)
+      → ideal A sheet larger starts ≡ ideal A sheet setting starts
+  unfolding ideal
+  ideal-in-more-room sheet starts =
+      bind-unless (execution A sheet starts) (execution A sheet starts) _ _ (λ unstuck. refl)
+      (λ progress. bind-unless _ _ _ _ (swept-in-more-room _ (progress .trace) _) (λ x unstuck. refl))
+
+module _ (A : Arithmetic) (sheet : Sheet) (starts seeds : List (A .Carrier)) where
+  abbrev idealIn : (values turns : ℕ) → Attempt (Stop A) (Ideal A)
+  idealIn values turns = ideal A sheet (settingOf A sheet seeds values turns) starts
+
+  pub ideal-in-any-room : (values turns values′ turns′ : ℕ) → (idealIn values turns ≡ stuck → ⊥) → (idealIn values′ turns′ ≡ stuck → ⊥)
+      → idealIn values turns ≡ idealIn values′ turns′
+  unfolding settingOf
+  ideal-in-any-room values turns values′ turns′ unstuck unstuck′ =
+      sym (ideal-in-more-room A (settingOf A sheet seeds values turns) (values + values′) (turns + turns′) (omega arith) (omega arith) sheet starts unstuck)
+      ∙ ideal-in-more-room A (settingOf A sheet seeds values′ turns′) (values + values′) (turns + turns′) (omega arith) (omega arith) sheet starts unstuck′

@@ -1,0 +1,43 @@
+-- What the machine on a whole table has noted, of what derivative rows read, is the table's log in the large: `reaches` of MachineFollows
+-- has it for every tree of the table, and behind the last line nothing more is noted.
+use Prim.Native.Nat.{ℕ, zero, suc, _+_, _-_, _≤_}
+use mathlib.Core.Path.{_≡_, refl, ap, _∙_}
+use mathlib.Core.List.{List, [], _++_, append-nil}
+use lib.ListN.{drop}
+use native.Mathlib.Omega.{arith}
+use Rattle.number.specs.Arithmetic.{Arithmetic}
+use Rattle.sheet.specs.Tree.{flat, rows}
+use Rattle.table.specs.TableRows.{TableLine, Table, linesOf}
+use Rattle.run.specs.Attempts.{through, halted, stuck}
+use Rattle.run.specs.Actions.{Memory, Setting}
+use Rattle.run.specs.Machine.{Repeat, Step, step, stepAt, stepsOf}
+use Rattle.claims.specs.IdealSweep.{tableRun}
+use Rattle.claims.specs.ReadLog.{onNext, machineLog, tableLog}
+use Rattle.claims.proofs.MachineFollows.{atRow, Result, LandsAt, past-tree, log-add, reaches}
+
+module _ (A : Arithmetic) (setting : Setting A) where
+  module _ (lines : List TableLine) (p : ℕ) (behind : drop p lines ≡ []) (repeats : List Repeat) where
+    nothing-noted-behind : (n : ℕ) (memory : Memory A) → machineLog A n setting lines (atRow A p repeats memory) ≡ []
+    unfolding machineLog step stepAt
+    nothing-noted-behind zero memory = refl
+    nothing-noted-behind (suc n) memory = rw behind
+
+    nothing-noted-after : (n : ℕ) (x : Result A) (out : Step A) → LandsAt A p repeats x out
+        → onNext A out (λ next. machineLog A n setting lines next) ≡ []
+    nothing-noted-after n (through memory) out h = rw h (nothing-noted-behind n memory)
+    nothing-noted-after n (halted s) out h = rw (h .1)
+    nothing-noted-after n stuck out h = rw h
+
+  pub table-log : (table : Table) (memory : Memory A) (n : ℕ) → stepsOf table ≤ n
+      → machineLog A n setting (linesOf table) (atRow A 0 [] memory) ≡ tableLog A setting table memory
+  unfolding linesOf
+  table-log table memory n enough =
+      let lines = flat table [] in
+      let start = atRow A 0 [] memory in
+      let h = reaches A setting lines table 0 [] [] memory refl in
+      let few = h .few in
+      let more = n - h .steps in
+      let split : n ≡ h .steps + more = omega arith in
+      let last = nothing-noted-after lines (0 + rows table) (past-tree lines 0 table [] refl) [] more (tableRun A setting table memory) _ (h .lands) in
+      ap (λ m. machineLog A m setting lines start) split ∙ log-add A setting lines (h .steps) more start
+      ∙ ap (machineLog A (h .steps) setting lines start ++_) last ∙ append-nil _ ∙ h .notes
