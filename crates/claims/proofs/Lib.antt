@@ -1,6 +1,17 @@
 -- The theorems of the demands, and the laws that they rest on.
+
+-- 01's starred sheets
 pub mod WorkedSheetsHold
+-- demand 1: each refusal exactly when
+pub mod FirstFailing
+pub mod SectionsJudged
+pub mod RowsJudged
+pub mod ReadingExactlyWhen
+pub mod StartExactlyWhen
+pub mod ExactlyWhenHolds
+-- demand 3: the replay
 pub mod Runs
+pub mod RunsKeepSizes
 pub mod Stores
 pub mod DerivativeRows
 pub mod DerivativesAlike
@@ -13,3 +24,9 @@ pub mod IdealRooms
 pub mod WholeRunMatches
 pub mod RunAccepted
 pub mod RunsAnswer
+-- demand 2: equation (2)
+pub mod EquationTwoSolved
+pub mod ResidueDerivatives
+pub mod ResiduesGo
+pub mod LeanStep
+pub mod EquationTwoHolds

@@ -4,4 +4,5 @@ pub mod VariableSetLaws
 pub mod VariableSetSizes
 pub mod TransferLaws
 pub mod EquationsLeast
+pub mod EquationsAlong
 pub mod SetsLeast

@@ -1,0 +1,355 @@
+-- Demand 1's "exactly when": 01's table of refusals as it stands there, a rule for each of its rows, and 01's order in what each rule asks for.
+-- It speaks of words, counts, rows and open blocks, and of no judgement that the calls are made of; the theorems stand at the end.
+use Prim.Native.Nat.{ℕ, zero, suc, _+_, _*_, _≤_, _<_}
+use mathlib.Core.Path.{_≡_}
+use mathlib.Core.Bool.{true, false}
+use mathlib.Core.List.{List, [], _∷_, _++_}
+use mathlib.Core.Option.{some}
+use mathlib.Core.Logic.{_↔_, _≢_, _⊎_}
+use lib.ListN.{length, getD, take, drop, replicate}
+use Rattle.number.specs.Arithmetic.{Arithmetic}
+use Rattle.sheet.specs.Bounds.{limit}
+use Rattle.sheet.specs.Refusals.{Refusal, refused, given, wordsEnd, wordsLeft, countBeyond, roleAbove, badRow, badBlock, tooLong, smallTable, smallValueStack, smallTurnStack, wrongStarts, wrongSeeds, wrongResult, notFiniteGiven, notFiniteResult, numberOf, placeOf}
+use Rattle.sheet.specs.Tree.{Tree, basic, ifLine, elseLine, endIf, repeat, endRepeat, RowNumber}
+use Rattle.sheet.specs.Rows.{Assignment, Test, SheetLine, Row, Slot, variable, constant, turns, unused, Kind, kindOf, treeRows}
+use Rattle.sheet.specs.LongestRun.{longestRun}
+use Rattle.sheet.specs.Reading.{Sheet, variablesOf, rowAt, rowsAt, read}
+use Rattle.sets.specs.Marks.{marked}
+use Rattle.table.specs.TableRows.{Origin, tableWords}
+use Rattle.table.specs.Adjoint.{tableOf}
+use Rattle.table.specs.Sizes.{tableRows, valuesNeeded, turnsNeeded}
+use Rattle.table.specs.Calls.{Sizes, check, tableRoom, write}
+use Rattle.run.specs.Actions.{Memory}
+use Rattle.run.specs.Machine.{Ending, finished, stoppedAt}
+use Rattle.run.specs.Calls.{Lent, settingOf, startOf, runOf, resultOf, Ran, stuckNumber, run}
+
+-- ---- where things stand
+
+-- "three sections in a fixed order, each after its count"
+pub data Section : Type 0 where
+  variables : Section
+  constants : Section
+  rows : Section
+
+-- "V, 1 to 32", "K, 0 to 64", "N, 0 to 512"
+abbrev pub lowest : Section → ℕ
+lowest variables = 1
+lowest constants = 0
+lowest rows = 0
+
+abbrev pub greatest : Section → ℕ
+greatest variables = limit .variables
+greatest constants = limit .constants
+greatest rows = limit .rows
+
+-- "V role words", "K words", "N rows of four words"
+abbrev pub itemWords : Section → ℕ
+itemWords variables = 1
+itemWords constants = 1
+itemWords rows = limit .rowWords
+
+-- the least number of which something holds
+pub record First (Holds : ℕ → Type 0) (i : ℕ) : Type 0 where
+  pub here : Holds i
+  pub before : (j : ℕ) → j < i → ¬ Holds j
+
+-- ---- rows and blocks
+
+-- a variable or a constant that is there, "a from 1 to 1000", "A word not named in a kind's meaning is 0."
+abbrev pub Fits : (variableCount constantCount : ℕ) → Slot → ℕ → Type 0
+Fits v k variable word = word < v
+Fits v k constant word = word < k
+Fits v k turns word = (1 ≤ word) × (word ≤ limit .turns)
+Fits v k unused word = word ≡ 0
+
+-- the line that a row says: its kind is 1 to 11, and each of its words fits its slot in the table of kinds
+pub record Says (variableCount constantCount : ℕ) (row : Row) (line : SheetLine) : Type 0 where
+  pub kind : Kind
+  pub known : kindOf (row .kind) ≡ some kind
+  pub fitD : Fits variableCount constantCount (kind .d) (row .d)
+  pub fitA : Fits variableCount constantCount (kind .a) (row .a)
+  pub fitB : Fits variableCount constantCount (kind .b) (row .b)
+  pub means : kind .means (row .d) (row .a) (row .b) ≡ line
+
+-- an open block, by what stands in it now
+pub data Opening : Type 0 where
+  firstBranch : Opening
+  secondBranch : Opening
+  repeatBody : Opening
+
+-- Which lines may stand where, and what is open after them, nearest first: "else" splits an "if" that is not split yet, "end if" closes one
+-- that is, "end repeat" closes a repeat, and "blocks nest at most 8 deep".
+pub data Takes : SheetLine → (before after : List Opening) → Type 0 where
+  assigns : {b : Assignment} {outer : List Opening} → Takes (basic b) outer outer
+  opensIf : {f : Test} {outer : List Opening} → length outer < limit .depth → Takes (ifLine f) outer (firstBranch ∷ outer)
+  splitsIf : {outer : List Opening} → Takes elseLine (firstBranch ∷ outer) (secondBranch ∷ outer)
+  closesIf : {outer : List Opening} → Takes endIf (secondBranch ∷ outer) outer
+  opensRepeat : {m : ℕ} {outer : List Opening} → length outer < limit .depth → Takes (repeat m) outer (repeatBody ∷ outer)
+  closesRepeat : {outer : List Opening} → Takes endRepeat (repeatBody ∷ outer) outer
+
+-- ---- reading
+
+module _ (words : List ℕ) where
+  abbrev pub word : ℕ → ℕ
+  word place = getD words place 0
+
+  -- V, K and N, each where the section before it ends
+  abbrev pub variableCount : ℕ
+  variableCount = word 0
+
+  abbrev pub constantCountPlace : ℕ
+  constantCountPlace = 1 + variableCount
+
+  abbrev pub constantCount : ℕ
+  constantCount = word constantCountPlace
+
+  abbrev pub rowCountPlace : ℕ
+  rowCountPlace = constantCountPlace + 1 + constantCount
+
+  abbrev pub rowCount : ℕ
+  rowCount = word rowCountPlace
+
+  abbrev pub countPlace : Section → ℕ
+  countPlace variables = 0
+  countPlace constants = constantCountPlace
+  countPlace rows = rowCountPlace
+
+  abbrev pub count : Section → ℕ
+  count section = word (countPlace section)
+
+  abbrev pub firstItem : Section → ℕ
+  firstItem section = suc (countPlace section)
+
+  -- row i, from 0: the place of its first word, and its four words
+  abbrev pub rowPlace : ℕ → ℕ
+  rowPlace i = firstItem rows + i * limit .rowWords
+
+  abbrev pub rowNo : ℕ → Row
+  rowNo i = rowAt words (rowPlace i)
+
+  abbrev pub sheetRows : List Row
+  sheetRows = rowsAt words (firstItem rows) rowCount
+
+  -- "the index after the rows"
+  abbrev pub afterRows : ℕ
+  afterRows = rowPlace rowCount
+
+  -- "A count is judged (1, then 3) before its section's length (1), that before the items"
+  abbrev pub CountThere : Section → Type 0
+  CountThere section = countPlace section < length words
+
+  abbrev pub CountInRange : Section → Type 0
+  CountInRange section = (lowest section ≤ count section) × (count section ≤ greatest section)
+
+  abbrev pub ItemsThere : Section → Type 0
+  ItemsThere section = firstItem section + count section * itemWords section ≤ length words
+
+  abbrev pub InOrder : Section → Type 0
+  InOrder section = CountThere section × CountInRange section × ItemsThere section
+
+  -- "role above 3"
+  abbrev pub RoleAbove : ℕ → Type 0
+  RoleAbove i = (i < variableCount) × (limit .greatestRole < word (1 + i))
+
+  -- "The words are read left to right": a section is come to where all before it is in order
+  abbrev pub Reached : Section → Type 0
+  Reached variables = Unit {0}
+  Reached constants = InOrder variables × ((i : ℕ) → ¬ RoleAbove i)
+  Reached rows = InOrder variables × ((i : ℕ) → ¬ RoleAbove i) × InOrder constants
+
+  abbrev pub RowsReached : Type 0
+  RowsReached = Reached rows × InOrder rows
+
+  abbrev pub RowSays : ℕ → SheetLine → Type 0
+  RowSays i = Says variableCount constantCount (rowNo i)
+
+  -- the first so many rows could all be taken, and what is open after them
+  pub data OpenAfter : ℕ → List Opening → Type 0 where
+    start : OpenAfter zero []
+    next : {i : ℕ} {line : SheetLine} {before after : List Opening} → OpenAfter i before → RowSays i line → Takes line before after
+        → OpenAfter (suc i) after
+
+  -- "After the rows: 6 for never closed, then 2, 7"
+  abbrev pub AllClosed : Type 0
+  AllClosed = RowsReached × OpenAfter rowCount []
+
+  abbrev pub NothingLeft : Type 0
+  NothingLeft = AllClosed × (length words ≤ afterRows)
+
+  -- refusals 1 to 7: "given when", "place returned"
+  pub data ReadingRefuses : Refusal → Type 0 where
+    -- 1 | words end before a count, or before all of a section's items | index of the missing count, or of that section's first item
+    countMissing : (section : Section) → Reached section → ¬ CountThere section → ReadingRefuses (wordsEnd (countPlace section))
+    itemsMissing : (section : Section) → Reached section → CountThere section → CountInRange section → ¬ ItemsThere section
+        → ReadingRefuses (wordsEnd (firstItem section))
+    -- 2 | words left after the rows | first such word
+    wordsAfterRows : AllClosed → afterRows < length words → ReadingRefuses (wordsLeft afterRows)
+    -- 3 | V, K or N beyond its range | the count
+    countOutOfRange : (section : Section) → Reached section → CountThere section → ¬ CountInRange section → ReadingRefuses (countBeyond (countPlace section))
+    -- 4 | role above 3 | the word
+    roleTooGreat : (i : ℕ) → InOrder variables → First RoleAbove i → ReadingRefuses (roleAbove (1 + i))
+    -- 5 | kind not 1 to 11, absent variable or constant, repeat count not 1 to 1000, unused word not 0 | the row's first word
+    rowSaysNothing : (i : ℕ) (before : List Opening) → RowsReached → i < rowCount → OpenAfter i before → ((line : SheetLine) → ¬ RowSays i line)
+        → ReadingRefuses (badRow (rowPlace i))
+    -- 6 | a block closed or split wrongly, never closed, or a ninth level opened | that row's first word; never closed: the index after the rows
+    blockWrong : (i : ℕ) (before : List Opening) (line : SheetLine) → RowsReached → i < rowCount → OpenAfter i before → RowSays i line
+        → ((after : List Opening) → ¬ Takes line before after) → ReadingRefuses (badBlock (rowPlace i))
+    neverClosed : (opening : Opening) (outer : List Opening) → RowsReached → OpenAfter rowCount (opening ∷ outer) → ReadingRefuses (badBlock afterRows)
+    -- 7 | W above 4,096 | 0
+    runTooLong : (body : Tree Assignment Test) → NothingLeft → treeRows body ≡ sheetRows → limit .longestRun < longestRun body → ReadingRefuses tooLong
+
+  -- what is read where none of these is given
+  pub record Read (sheet : Sheet) : Type 0 where
+    pub nothingLeft : NothingLeft
+    pub roles : sheet .roles ≡ take variableCount (drop (firstItem variables) words)
+    pub constants : sheet .constants ≡ take constantCount (drop (firstItem constants) words)
+    pub rows : sheet .rows ≡ sheetRows
+    pub body : treeRows (sheet .body) ≡ sheetRows
+    pub short : longestRun (sheet .body) ≤ limit .longestRun
+
+-- ---- writing
+
+-- R, S and T of a sheet
+abbrev pub rowsNeeded : Sheet → ℕ
+rowsNeeded sheet = tableRows (variablesOf sheet) (marked sheet)
+
+abbrev pub valuesFor : Sheet → ℕ
+valuesFor sheet = valuesNeeded (marked sheet)
+
+abbrev pub turnsFor : Sheet → ℕ
+turnsFor sheet = turnsNeeded (marked sheet)
+
+module _ (words : List ℕ) (buffer : List ℕ) where
+  -- "Writing a table uses 1 to 8"
+  pub data WritingRefuses : Refusal → Type 0 where
+    whileReading : {r : Refusal} → ReadingRefuses words r → WritingRefuses r
+    -- 8 | table buffer below 1 + 4R words | 0
+    tableTooSmall : (sheet : Sheet) → Read words sheet → length buffer < tableRoom (rowsNeeded sheet) → WritingRefuses smallTable
+
+  -- a sheet whose table fits
+  pub record Writable (sheet : Sheet) : Type 0 where
+    pub isRead : Read words sheet
+    pub tableFits : tableRoom (rowsNeeded sheet) ≤ length buffer
+
+-- ---- a run
+
+-- "a start value or seed not finite": a start value by its index, a seed by its index "from V"
+abbrev pub NotFinite : (A : Arithmetic) → (starts seeds : List (A .Carrier)) → ℕ → Type 0
+NotFinite A starts seeds i = (i < length (starts ++ seeds)) × (A .admits (getD (starts ++ seeds) i (A .zero)) ≡ false)
+
+module _ (A : Arithmetic) (words : List ℕ) (starts seeds : List (A .Carrier)) (lent : Lent A) where
+  -- "and the rest in number order": each of these asks for the one before it
+  pub record StacksSuffice (sheet : Sheet) : Type 0 where
+    pub writable : Writable words (lent .table) sheet
+    pub values : valuesFor sheet ≤ length (lent .values)
+    pub turns : turnsFor sheet ≤ length (lent .turns)
+
+  pub record LengthsRight (sheet : Sheet) : Type 0 where
+    pub stacks : StacksSuffice sheet
+    pub startValues : length starts ≡ variablesOf sheet
+    pub seedValues : length seeds ≡ variablesOf sheet
+    pub results : length (lent .result) ≡ 2 * variablesOf sheet
+
+  pub record Runnable (sheet : Sheet) : Type 0 where
+    pub lengths : LengthsRight sheet
+    pub finite : (i : ℕ) → ¬ NotFinite A starts seeds i
+
+  -- the machine over the sheet's table
+  abbrev pub endingOf : Sheet → Ending A
+  endingOf sheet =
+      runOf A (tableOf sheet) (settingOf A sheet seeds (length (lent .values)) (length (lent .turns))) (startOf A sheet starts)
+
+  -- refusals before the machine starts: 1 to 11
+  pub data StartRefused : Refusal → Type 0 where
+    whileWriting : {r : Refusal} → WritingRefuses words (lent .table) r → StartRefused r
+    -- 9 | value stack below S, or turn stack below T | 0 for the first, else 1
+    valueStackTooSmall : (sheet : Sheet) → Writable words (lent .table) sheet → length (lent .values) < valuesFor sheet → StartRefused smallValueStack
+    turnStackTooSmall : (sheet : Sheet) → Writable words (lent .table) sheet → valuesFor sheet ≤ length (lent .values)
+        → length (lent .turns) < turnsFor sheet → StartRefused smallTurnStack
+    -- 10 | start values or seeds not V long, result not 2V | 0, 1, 2, first wrong
+    startsNotV : (sheet : Sheet) → StacksSuffice sheet → length starts ≢ variablesOf sheet → StartRefused wrongStarts
+    seedsNotV : (sheet : Sheet) → StacksSuffice sheet → length starts ≡ variablesOf sheet → length seeds ≢ variablesOf sheet → StartRefused wrongSeeds
+    resultNot2V : (sheet : Sheet) → StacksSuffice sheet → length starts ≡ variablesOf sheet → length seeds ≡ variablesOf sheet
+        → length (lent .result) ≢ 2 * variablesOf sheet → StartRefused wrongResult
+    -- 11 | a start value or seed not finite (doubles) | the first one's index; seeds from V
+    givenNotFinite : (sheet : Sheet) (i : ℕ) → LengthsRight sheet → First (NotFinite A starts seeds) i → StartRefused (notFiniteGiven i)
+
+  -- 12: the machine was stopped at a row
+  pub record Stops (sheet : Sheet) (row : RowNumber) : Type 0 where
+    pub runnable : Runnable sheet
+    pub origin : Origin
+    pub why : A .Why
+    pub ending : endingOf sheet ≡ stoppedAt row origin why
+
+  -- "a run .. uses all"
+  pub data RunRefuses : Refusal → Type 0 where
+    beforeStart : {r : Refusal} → StartRefused r → RunRefuses r
+    -- 12 | a result not finite (doubles) | table row, from 0
+    resultNotFinite : (sheet : Sheet) (row : RowNumber) → Stops sheet row → RunRefuses (notFiniteResult (row .index))
+
+  -- 0 | done | 0
+  pub record Finishes (sheet : Sheet) (memory : Memory A) : Type 0 where
+    pub runnable : Runnable sheet
+    pub ending : endingOf sheet ≡ finished memory
+
+-- ---- what each call answers, and what it leaves in the lent buffers
+
+-- an answer's number and place are a refusal's
+abbrev pub Names : (number place : ℕ) → Refusal → Type 0
+Names number place r = (number ≡ numberOf r) × (place ≡ placeOf r)
+
+pub record ReadExactly (words : List ℕ) : Type 0 where
+  pub refuses : (r : Refusal) → (read words ≡ refused r) ↔ ReadingRefuses words r
+  pub gives : (sheet : Sheet) → (read words ≡ given sheet) ↔ Read words sheet
+
+-- "Checking a sheet uses 1 to 7 and answers W, R, S and T, all 0 when refused."
+abbrev pub sizesOf : Sheet → Sizes
+sizesOf sheet = record { longest = longestRun (sheet .body); rows = rowsNeeded sheet; values = valuesFor sheet; turns = turnsFor sheet }
+
+abbrev pub noSizes : Sizes
+noSizes = record { longest = 0; rows = 0; values = 0; turns = 0 }
+
+pub record CheckExactly (words : List ℕ) : Type 0 where
+  pub refuses : (r : Refusal) → Names (check words .number) (check words .place) r ↔ ReadingRefuses words r
+  pub done : (check words .number ≡ 0) ↔ ((sheet : Sheet) × Read words sheet)
+  pub numbers : check words .number ≤ 7
+  pub whenRefused : 1 ≤ check words .number → check words .sizes ≡ noSizes
+  pub whenDone : (sheet : Sheet) → Read words sheet → (check words .place ≡ 0) × (check words .sizes ≡ sizesOf sheet)
+
+-- "the table buffer starts with the table and keeps its other words"
+pub record StartsWith (table before after : List ℕ) : Type 0 where
+  pub starts : take (length table) after ≡ table
+  pub keeps : drop (length table) after ≡ drop (length table) before
+  pub sameLength : length after ≡ length before
+
+-- "Writing a table uses 1 to 8"; "Refusals 1 to 11 change no buffer."
+pub record WriteExactly (words buffer : List ℕ) : Type 0 where
+  pub refuses : (r : Refusal) → Names (write words buffer .number) (write words buffer .place) r ↔ WritingRefuses words buffer r
+  pub done : (write words buffer .number ≡ 0) ↔ ((sheet : Sheet) × Writable words buffer sheet)
+  pub numbers : write words buffer .number ≤ 8
+  pub whenRefused : 1 ≤ write words buffer .number → write words buffer .table ≡ buffer
+  pub whenDone : (sheet : Sheet) → Writable words buffer sheet
+      → (write words buffer .place ≡ 0) × StartsWith (tableWords (tableOf sheet)) buffer (write words buffer .table)
+
+-- "On 0 and 12 the table buffer starts with the table and keeps its other words, and both stacks are all zeros over their lent length."
+pub record LeftBehind (A : Arithmetic) (sheet : Sheet) (before after : Lent A) : Type 0 where
+  pub table : StartsWith (tableWords (tableOf sheet)) (before .table) (after .table)
+  pub values : after .values ≡ replicate (length (before .values)) (A .zero)
+  pub turns : after .turns ≡ replicate (length (before .turns)) 0
+
+-- "Refusals 1 to 11 change no buffer." "On 12 the result is unchanged."
+module _ (A : Arithmetic) (words : List ℕ) (starts seeds : List (A .Carrier)) (lent : Lent A) where
+  abbrev pub ran : Ran A
+  ran = run A words starts seeds lent
+
+  pub record RunExactly : Type 0 where
+    pub refuses : (r : Refusal) → Names (ran .number) (ran .place) r ↔ RunRefuses A words starts seeds lent r
+    pub done : (ran .number ≡ 0) ↔ ((sheet : Sheet) × (memory : Memory A) × Finishes A words starts seeds lent sheet memory)
+    pub stopped : (ran .number ≡ 12) ↔ ((sheet : Sheet) × (row : RowNumber) × Stops A words starts seeds lent sheet row)
+    -- the second is what no run answers (claims, "never stuck")
+    pub numbers : (ran .number ≤ 12) ⊎ (ran .number ≡ stuckNumber A)
+    pub whenRefused : 1 ≤ ran .number → ran .number ≤ 11 → ran .lent ≡ lent
+    pub whenStopped : (sheet : Sheet) (row : RowNumber) → Stops A words starts seeds lent sheet row
+        → LeftBehind A sheet lent (ran .lent) × (ran .lent .result ≡ lent .result)
+    pub whenDone : (sheet : Sheet) (memory : Memory A) → Finishes A words starts seeds lent sheet memory
+        → (ran .place ≡ 0) × LeftBehind A sheet lent (ran .lent) × (ran .lent .result ≡ resultOf A sheet memory)

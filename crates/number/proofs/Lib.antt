@@ -1,0 +1,2 @@
+-- Laws of the arithmetics.
+pub mod ResidueLaws

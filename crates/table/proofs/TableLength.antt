@@ -1,0 +1,29 @@
+-- A table has 1 + 4R words.
+use Prim.Native.Nat.{_*_}
+use mathlib.Core.Path.{_≡_, refl}
+use mathlib.Core.List.{List, [], _∷_, map}
+use lib.ListN.{length, length-map}
+use native.Mathlib.Omega.{arith}
+use Rattle.sheet.specs.Tree.{rows}
+use Rattle.sheet.specs.Rows.{Row}
+use Rattle.sheet.specs.Reading.{Sheet, variablesOf}
+use Rattle.sheet.proofs.RowsCounted.{lines-counted}
+use Rattle.sets.specs.Marks.{marked}
+use Rattle.table.specs.TableRows.{Table, linesOf, tableRowOf, wordsOf, tableWords}
+use Rattle.table.specs.Adjoint.{tableOf}
+use Rattle.table.specs.Sizes.{tableRows}
+use Rattle.table.specs.Calls.{tableRoom}
+
+four-each : (rs : List Row) → length (wordsOf rs) ≡ 4 * length rs
+unfolding wordsOf
+four-each [] = refl
+four-each (r ∷ rs) = omega (arith, four-each rs)
+
+pub table-words : (table : Table) → length (tableWords table) ≡ tableRoom (rows table)
+unfolding tableWords linesOf
+table-words table =
+    omega (arith, four-each (map tableRowOf (linesOf table)), length-map (linesOf table) tableRowOf, lines-counted table)
+
+pub table-length : (sheet : Sheet) → length (tableWords (tableOf sheet)) ≡ tableRoom (tableRows (variablesOf sheet) (marked sheet))
+unfolding tableOf tableRows
+table-length sheet = table-words (tableOf sheet)
