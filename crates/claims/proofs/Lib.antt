@@ -30,3 +30,4 @@ pub mod ResidueDerivatives
 pub mod ResiduesGo
 pub mod LeanStep
 pub mod EquationTwoHolds
+pub mod AuditSolves

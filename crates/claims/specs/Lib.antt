@@ -7,4 +7,5 @@ pub mod ReadLog
 pub mod EquationTwo
 pub mod SavedRows
 pub mod WholeRun
+pub mod Demands
 pub mod WorkedSheets
