@@ -1,5 +1,5 @@
 -- The derivative rows of an assignment work on the adjoints alone and read no original outside its adjoint use: on two stores that
--- agree on the use they do the same.
+-- agree on the use they do the same and read the same.
 use Prim.Native.Nat.{ℕ, zero, suc, _+_, _-_, _*_, _≤_, _<_}
 use mathlib.Core.Path.{_≡_, refl, sym, ap, subst, _∙_}
 use mathlib.Core.Logic.{_⊎_, inl, inr}
@@ -15,7 +15,8 @@ use Rattle.sets.specs.VariableSets.{VariableSet, has}
 use Rattle.table.specs.TableRows.{Action, assign, save, takeBack, saveTurn, clear, turnRound, tableVariables}
 use Rattle.run.specs.Attempts.{Attempt, through, halted, stuck, _>>=_, whole, look, present, replaced}
 use Rattle.run.specs.Actions.{Memory, Setting, evaluated, acted, stored, withStore}
-use Rattle.claims.proofs.Stores.{at-known, at-first-part, at-second-part, set-second-part}
+use Rattle.claims.specs.ReadLog.{originalAt, readsOf}
+use Rattle.claims.proofs.Stores.{same-default, at-known, at-first-part, at-second-part, set-second-part}
 
 -- ---- rows that work on the adjoints
 
@@ -133,14 +134,32 @@ module _ (A : Arithmetic) where
       same-evaluated constants (product a b) p = rw (same-at a (p .0), same-at b (p .1))
       same-evaluated constants (negation a) p = rw (same-at a p)
 
+      same-original : (i : ℕ) → Readable v needed i → originalAt A v i (originals ++ adjoints) ≡ originalAt A v i (others ++ adjoints)
+      same-original i h = ap (λ x. cond (ltb i v) (x ∷ []) []) (same-default (originals ++ adjoints) (others ++ adjoints) i (A .zero) (same-at i h))
+
+      -- what a row is noted to read
+      pub same-reads : (action : Action) → OnAdjoints v needed action → readsOf A v action (originals ++ adjoints) ≡ readsOf A v action (others ++ adjoints)
+      unfolding readsOf
+      same-reads (assign (d ≔ copy a)) p = same-original a (p .2)
+      same-reads (assign (d ≔ fixed c)) p = refl
+      same-reads (assign (d ≔ sum a b)) p = rw (same-original a (p .2 .0), same-original b (p .2 .1))
+      same-reads (assign (d ≔ difference a b)) p = rw (same-original a (p .2 .0), same-original b (p .2 .1))
+      same-reads (assign (d ≔ product a b)) p = rw (same-original a (p .2 .0), same-original b (p .2 .1))
+      same-reads (assign (d ≔ negation a)) p = same-original a (p .2)
+      same-reads (save d) p = refl
+      same-reads (takeBack d) p = refl
+      same-reads (saveTurn first) p = refl
+      same-reads (clear d) p = refl
+      same-reads turnRound p = refl
+
   -- ---- one row, on both stores
 
   module _ (setting : Setting A) where
     -- what a row on the adjoints does to a store, whatever the stacks
-    abbrev Does : Action → (from to : List (A .Carrier)) → Type 0
+    abbrev pub Does : Action → (from to : List (A .Carrier)) → Type 0
     Does action store next = (memory : Memory A) → acted A setting action (withStore A memory store) ≡ through (withStore A memory next)
 
-    abbrev Halts : Action → List (A .Carrier) → A .Why → Type 0
+    abbrev pub Halts : Action → List (A .Carrier) → A .Why → Type 0
     Halts action store why = (memory : Memory A) → acted A setting action (withStore A memory store) ≡ halted why
 
     pub data Alike (v : ℕ) (originals others : List (A .Carrier)) (action : Action) (adjoints : List (A .Carrier)) : Type 0 where

@@ -1,8 +1,9 @@
--- All derivative rows of an assignment, as one list of rows on the adjoints: on stores that agree on the adjoint use they come to the same.
-use Prim.Native.Nat.{ℕ, zero, suc, _+_, _-_, _*_, _≤_, _<_}
-use mathlib.Core.Path.{_≡_, refl, sym, ap, subst, _∙_}
-use mathlib.Core.Logic.{_⊎_, inl, inr}
-use mathlib.Core.Bool.{Bool, true, false, cond, _||_}
+-- All derivative rows of an assignment, as one list of rows on the adjoints: on stores that agree on the adjoint use they come to the same,
+-- and what they read of the originals is the same.
+use Prim.Native.Nat.{ℕ, _<_}
+use mathlib.Core.Path.{_≡_, refl, sym, ap, _∙_}
+use mathlib.Core.Logic.{inl, inr}
+use mathlib.Core.Bool.{Bool, true, false}
 use mathlib.Core.List.{List, [], _∷_, _++_}
 use lib.ListN.{length, drop}
 use lib.Seq.{drop-at}
@@ -12,17 +13,18 @@ use Rattle.number.specs.Arithmetic.{Arithmetic}
 use Rattle.sheet.specs.Tree.{done, one, RowNumber}
 use Rattle.sheet.specs.Rows.{_≔_, Source, copy, fixed, sum, difference, product, negation}
 use Rattle.sheet.specs.Names.{SourcePresent}
-use Rattle.sets.specs.VariableSets.{VariableSet, has, single, _∪_}
+use Rattle.sets.specs.VariableSets.{VariableSet, has, single}
 use Rattle.sets.specs.Transfers.{Activity, adjointUse}
 use Rattle.sets.proofs.VariableSetLaws.{single-has, union-left, union-right}
-use Rattle.table.specs.TableRows.{Table, TableRow, Action, assign, clear, adjointOf, t, u, tableVariables, Operation, ofRow}
+use Rattle.table.specs.TableRows.{Table, TableRow, Action, assign, clear, adjointOf, t, u, Operation, Origin, ofRow, ofTurningRound}
 use Rattle.table.specs.Adjoint.{put, putIf, partsOf, derivativeRows}
-use Rattle.run.specs.Attempts.{Attempt, through, halted}
+use Rattle.run.specs.Attempts.{Attempt, through, _>>=_}
 use Rattle.run.specs.Actions.{Memory, Setting, acted, withStore}
 use Rattle.claims.specs.Execution.{Stop, from}
 use Rattle.claims.specs.IdealSweep.{tableRun, derivedBy}
-use Rattle.claims.proofs.Runs.{bind-same}
-use Rattle.claims.proofs.DerivativeRows.{Readable, OnAdjoints, Agree, AdjointSize, Alike, bothDo, bothHalt, row-alike}
+use Rattle.claims.specs.ReadLog.{Entry, isDerivative, readsOf, entryIf, notedBy, noted, tableLog, derivedLog}
+use Rattle.claims.proofs.Accounts.{Account, account, Same, derived, inTurn, noting, stopping, nothing-more, noting-more, in-turn-same}
+use Rattle.claims.proofs.DerivativeRows.{Readable, OnAdjoints, Agree, AdjointSize, Does, Halts, Alike, bothDo, bothHalt, same-reads, row-alike}
 
 -- ---- rows in a list
 
@@ -125,86 +127,133 @@ derivative-listed v k d source row known h p = by-activity (known .active) refl
 
 -- ---- what they come to
 
+-- what a row notes, by what it reads
+module _ (A : Arithmetic) where
+  abbrev entries : Origin → List (A .Carrier) → List (Entry A)
+  entries (ofRow row operation) reads = entryIf A (isDerivative operation) (record { origin = ofRow row operation; reads = reads })
+  entries ofTurningRound reads = []
+
+  noted-entries : (v : ℕ) (origin : Origin) (action : Action) (memory : Memory A)
+      → notedBy A v origin action memory ≡ entries origin (readsOf A v action (memory .store))
+  noted-entries v (ofRow row operation) action memory = refl
+  noted-entries v ofTurningRound action memory = refl
+
 module _ (A : Arithmetic) (setting : Setting A) where
-  abbrev Reaches : (Table → Table) → (from to : List (A .Carrier)) → Type 0
-  Reaches part store next =
-      (memory : Memory A) (rest : Table) → tableRun A setting (part rest) (withStore A memory store) ≡ tableRun A setting rest (withStore A memory next)
+  abbrev v : ℕ
+  v = setting .variables
 
-  abbrev StopsIn : (Table → Table) → List (A .Carrier) → Stop A → Type 0
-  StopsIn part store at = (memory : Memory A) (rest : Table) → tableRun A setting (part rest) (withStore A memory store) ≡ halted at
+  abbrev Reaches : (Table → Table) → (from to : List (A .Carrier)) → List (Entry A) → Type 0
+  Reaches part store next log =
+      (memory : Memory A) (rest : Table)
+      → account A setting (part rest) (withStore A memory store) ≡ noting A log (account A setting rest (withStore A memory next))
 
-  pub data PartAlike (v : ℕ) (originals others : List (A .Carrier)) (part : Table → Table) (adjoints : List (A .Carrier)) : Type 0 where
-    bothReach : (next : List (A .Carrier)) → AdjointSize A v next → Reaches part (originals ++ adjoints) (originals ++ next)
-        → Reaches part (others ++ adjoints) (others ++ next) → PartAlike v originals others part adjoints
-    bothStop : (at : Stop A) → StopsIn part (originals ++ adjoints) at → StopsIn part (others ++ adjoints) at
-        → PartAlike v originals others part adjoints
+  abbrev StopsIn : (Table → Table) → List (A .Carrier) → List (Entry A) → Stop A → Type 0
+  StopsIn part store log at = (memory : Memory A) (rest : Table) → account A setting (part rest) (withStore A memory store) ≡ stopping A log at
 
-  module _ (v : ℕ) (needed : VariableSet) (originals others : List (A .Carrier)) (n : length originals ≡ v) (k : length others ≡ v)
+  pub data PartAlike (originals others : List (A .Carrier)) (part : Table → Table) (adjoints : List (A .Carrier)) : Type 0 where
+    bothReach : (next : List (A .Carrier)) → AdjointSize A v next → (log : List (Entry A)) → Reaches part (originals ++ adjoints) (originals ++ next) log
+        → Reaches part (others ++ adjoints) (others ++ next) log → PartAlike originals others part adjoints
+    bothStop : (at : Stop A) (log : List (Entry A)) → StopsIn part (originals ++ adjoints) log at → StopsIn part (others ++ adjoints) log at
+        → PartAlike originals others part adjoints
+
+  -- one row before others, on a store of which it reads this
+  module _ (r : TableRow) (rs : List TableRow) (store reads : List (A .Carrier)) (h : readsOf A v (r .action) store ≡ reads) where
+    row-before : (memory : Memory A) (rest : Table) (result : Attempt (A .Why) (Memory A)) → acted A setting (r .action) (withStore A memory store) ≡ result
+        → account A setting (puts (r ∷ rs) rest) (withStore A memory store)
+        ≡ inTurn A (record { log = entries A (r .origin) reads; outcome = from A (r .origin) result }) (account A setting (puts rs rest))
+    unfolding puts tableRun tableLog
+    row-before memory rest result e = rw (e, noted-entries A v (r .origin) (r .action) (withStore A memory store), h) refl
+
+    row-halts : (why : A .Why) → Halts A setting (r .action) store why
+        → StopsIn (puts (r ∷ rs)) store (entries A (r .origin) reads) (record { origin = r .origin; why = why })
+    row-halts why e memory rest = row-before memory rest _ (e memory) ∙ nothing-more A (entries A (r .origin) reads) _
+
+    row-reaches : (next last : List (A .Carrier)) (log : List (Entry A)) → Does A setting (r .action) store next → Reaches (puts rs) next last log
+        → Reaches (puts (r ∷ rs)) store last (entries A (r .origin) reads ++ log)
+    row-reaches next last log e f memory rest =
+        row-before memory rest _ (e memory) ∙ ap (noting A (entries A (r .origin) reads)) (f memory rest) ∙ noting-more A (entries A (r .origin) reads) log _
+
+    row-stops : (next : List (A .Carrier)) (log : List (Entry A)) (at : Stop A) → Does A setting (r .action) store next → StopsIn (puts rs) next log at
+        → StopsIn (puts (r ∷ rs)) store (entries A (r .origin) reads ++ log) at
+    row-stops next log at e f memory rest = row-before memory rest _ (e memory) ∙ ap (noting A (entries A (r .origin) reads)) (f memory rest)
+
+  module _ (needed : VariableSet) (originals others : List (A .Carrier)) (n : length originals ≡ v) (k : length others ≡ v)
       (agree : Agree A originals others needed) where
-    -- one row before the others
-    first-alike : (r : TableRow) (rs : List TableRow) (adjoints : List (A .Carrier)) → Alike A setting v originals others (r .action) adjoints
-        → ((next : List (A .Carrier)) → AdjointSize A v next → PartAlike v originals others (puts rs) next)
-        → PartAlike v originals others (puts (r ∷ rs)) adjoints
-    unfolding tableRun puts
-    first-alike r rs adjoints (bothHalt why p q) rest-alike =
-        bothStop (record { origin = r .origin; why = why }) (λ memory rest. rw (p memory) refl) (λ memory rest. rw (q memory) refl)
-    first-alike r rs adjoints (bothDo next m p q) rest-alike = after (rest-alike next m)
+    first-alike : (r : TableRow) (rs : List TableRow) (adjoints reads : List (A .Carrier)) → readsOf A v (r .action) (originals ++ adjoints) ≡ reads
+        → readsOf A v (r .action) (others ++ adjoints) ≡ reads → Alike A setting v originals others (r .action) adjoints
+        → ((next : List (A .Carrier)) → AdjointSize A v next → PartAlike originals others (puts rs) next)
+        → PartAlike originals others (puts (r ∷ rs)) adjoints
+    first-alike r rs adjoints reads h l (bothHalt why p q) rest-alike =
+        bothStop _ _ (row-halts r rs (originals ++ adjoints) reads h why p) (row-halts r rs (others ++ adjoints) reads l why q)
+    first-alike r rs adjoints reads h l (bothDo next m p q) rest-alike = after (rest-alike next m)
       where
-        after : PartAlike v originals others (puts rs) next → PartAlike v originals others (puts (r ∷ rs)) adjoints
-        after (bothReach last z f g) = bothReach last z (λ memory rest. rw (p memory) (f memory rest)) (λ memory rest. rw (q memory) (g memory rest))
-        after (bothStop at f g) = bothStop at (λ memory rest. rw (p memory) (f memory rest)) (λ memory rest. rw (q memory) (g memory rest))
+        after : PartAlike originals others (puts rs) next → PartAlike originals others (puts (r ∷ rs)) adjoints
+        after (bothReach last z log f g) =
+            bothReach last z (entries A (r .origin) reads ++ log)
+            (row-reaches r rs (originals ++ adjoints) reads h (originals ++ next) (originals ++ last) log p f)
+            (row-reaches r rs (others ++ adjoints) reads l (others ++ next) (others ++ last) log q g)
+        after (bothStop at log f g) =
+            bothStop at (entries A (r .origin) reads ++ log)
+            (row-stops r rs (originals ++ adjoints) reads h (originals ++ next) log at p f)
+            (row-stops r rs (others ++ adjoints) reads l (others ++ next) log at q g)
 
     puts-alike : (rs : List TableRow) → AllOnAdjoints v needed rs → (adjoints : List (A .Carrier)) → AdjointSize A v adjoints
-        → PartAlike v originals others (puts rs) adjoints
+        → PartAlike originals others (puts rs) adjoints
     unfolding puts AllOnAdjoints
-    puts-alike [] all adjoints m = bothReach adjoints m (λ memory rest. refl) (λ memory rest. refl)
+    puts-alike [] all adjoints m = bothReach adjoints m [] (λ memory rest. refl) (λ memory rest. refl)
     puts-alike (r ∷ rs) all adjoints m =
-        first-alike r rs adjoints (row-alike A setting v needed originals others n k agree (r .action) adjoints m (all .0))
+        first-alike r rs adjoints _ refl (sym (same-reads A v needed originals others adjoints n k agree (r .action) (all .0)))
+        (row-alike A setting v needed originals others n k agree (r .action) adjoints m (all .0))
         (λ next z. puts-alike rs (all .1) next z)
 
     listed-alike : (part : Table → Table) → Listed v needed part → (adjoints : List (A .Carrier)) → AdjointSize A v adjoints
-        → PartAlike v originals others part adjoints
+        → PartAlike originals others part adjoints
     listed-alike part listed adjoints m = along (puts-alike (listed .list) (listed .all) adjoints m)
       where
-        along : PartAlike v originals others (puts (listed .list)) adjoints → PartAlike v originals others part adjoints
-        along (bothReach next z f g) =
-            bothReach next z (λ memory rest. rw (listed .is rest) (f memory rest)) (λ memory rest. rw (listed .is rest) (g memory rest))
-        along (bothStop at f g) =
-            bothStop at (λ memory rest. rw (listed .is rest) (f memory rest)) (λ memory rest. rw (listed .is rest) (g memory rest))
+        along : PartAlike originals others (puts (listed .list)) adjoints → PartAlike originals others part adjoints
+        along (bothReach next z log f g) =
+            bothReach next z log (λ memory rest. rw (listed .is rest) (f memory rest)) (λ memory rest. rw (listed .is rest) (g memory rest))
+        along (bothStop at log f g) =
+            bothStop at log (λ memory rest. rw (listed .is rest) (f memory rest)) (λ memory rest. rw (listed .is rest) (g memory rest))
 
   -- The derivative rows on a store that agrees with the values before the assignment on its adjoint use, against the ideal sweep.
   pub data Derives (d : ℕ) (source : Source) (row : RowNumber) (known : Activity) (originals before adjoints : List (A .Carrier)) : Type 0 where
-    derives : (next : List (A .Carrier)) → AdjointSize A (setting .variables) next
-        → Reaches (derivativeRows (setting .variables) (known .active) d source row known) (originals ++ adjoints) (originals ++ next)
-        → derivedBy A setting (d ≔ source) row known before adjoints ≡ through next → Derives d source row known originals before adjoints
-    breaks : (at : Stop A) → StopsIn (derivativeRows (setting .variables) (known .active) d source row known) (originals ++ adjoints) at
-        → derivedBy A setting (d ≔ source) row known before adjoints ≡ halted at → Derives d source row known originals before adjoints
+    derives : (next : List (A .Carrier)) → AdjointSize A v next → (log : List (Entry A))
+        → Reaches (derivativeRows v (known .active) d source row known) (originals ++ adjoints) (originals ++ next) log
+        → derived A setting (d ≔ source) row known before adjoints ≡ record { log = log; outcome = through next }
+        → Derives d source row known originals before adjoints
+    breaks : (at : Stop A) (log : List (Entry A)) → StopsIn (derivativeRows v (known .active) d source row known) (originals ++ adjoints) log at
+        → derived A setting (d ≔ source) row known before adjoints ≡ stopping A log at → Derives d source row known originals before adjoints
 
-  pub derivatives-alike : (k d : ℕ) (source : Source) (row : RowNumber) (known : Activity) → d < setting .variables
-      → SourcePresent (setting .variables) k source → (originals before adjoints : List (A .Carrier)) → length originals ≡ setting .variables
-      → length before ≡ setting .variables → AdjointSize A (setting .variables) adjoints → Agree A originals before (adjointUse source known)
-      → Derives d source row known originals before adjoints
-  unfolding derivedBy tableRun
+  pub derivatives-alike : (k d : ℕ) (source : Source) (row : RowNumber) (known : Activity) → d < v → SourcePresent v k source
+      → (originals before adjoints : List (A .Carrier)) → length originals ≡ v → length before ≡ v → AdjointSize A v adjoints
+      → Agree A originals before (adjointUse source known) → Derives d source row known originals before adjoints
+  unfolding derivedBy derivedLog tableRun tableLog
   derivatives-alike k d source row known h p originals before adjoints n m z agree =
-      against (listed-alike (setting .variables) (adjointUse source known) originals before n m agree _ (derivative-listed (setting .variables) k d source row known h p) adjoints z)
+      against (listed-alike (adjointUse source known) originals before n m agree _ (derivative-listed v k d source row known h p) adjoints z)
     where
-      against : PartAlike (setting .variables) originals before (derivativeRows (setting .variables) (known .active) d source row known) adjoints
-          → Derives d source row known originals before adjoints
-      against (bothReach next size f g) = derives next size f (rw (g (record { store = []; values = []; turns = []; copied = [] }) done) (ap through (drop-at before next (setting .variables) m)))
-      against (bothStop at f g) = breaks at f (rw (g (record { store = []; values = []; turns = []; copied = [] }) done) refl)
+      alone : Memory A
+      alone = record { store = []; values = []; turns = []; copied = [] }
+
+      adjointsOf : Account A (Memory A) → Account A (List (A .Carrier))
+      adjointsOf after = record { log = after .log; outcome = after .outcome >>= λ x. through (drop v (x .store)) }
+
+      against : PartAlike originals before (derivativeRows v (known .active) d source row known) adjoints → Derives d source row known originals before adjoints
+      against (bothReach next size log f g) =
+          derives next size log f
+          (ap adjointsOf (g alone done) ∙ nothing-more A log _ ∙ ap (λ x. record { log = log; outcome = through x }) (drop-at before next v m))
+      against (bothStop at log f g) = breaks at log f (ap adjointsOf (g alone done))
 
   -- what stands after derivative rows may be exchanged for what does the same
-  puts-same : (rs : List TableRow) (rest other : Table) → ((x : Memory A) → tableRun A setting rest x ≡ tableRun A setting other x)
-      → (x : Memory A) → tableRun A setting (puts rs rest) x ≡ tableRun A setting (puts rs other) x
-  unfolding puts tableRun
+  puts-same : (rs : List TableRow) (rest other : Table) → Same A setting rest other → Same A setting (puts rs rest) (puts rs other)
+  unfolding puts tableRun tableLog
   puts-same [] rest other h x = h x
-  puts-same (r ∷ rs) rest other h x = bind-same (from A (r .origin) (acted A setting (r .action) x)) _ _ (λ y e. puts-same rs rest other h y)
+  puts-same (r ∷ rs) rest other h x =
+      in-turn-same A (record { log = noted A v r x; outcome = from A (r .origin) (acted A setting (r .action) x) }) _ _ (puts-same rs rest other h)
 
-  pub derivative-rows-same : (k d : ℕ) (source : Source) (row : RowNumber) (known : Activity) → d < setting .variables
-      → SourcePresent (setting .variables) k source → (rest other : Table) → ((x : Memory A) → tableRun A setting rest x ≡ tableRun A setting other x)
-      → (x : Memory A)
-      → tableRun A setting (derivativeRows (setting .variables) (known .active) d source row known rest) x
-      ≡ tableRun A setting (derivativeRows (setting .variables) (known .active) d source row known other) x
+  pub derivative-rows-same : (k d : ℕ) (source : Source) (row : RowNumber) (known : Activity) → d < v → SourcePresent v k source
+      → (rest other : Table) → Same A setting rest other
+      → Same A setting (derivativeRows v (known .active) d source row known rest) (derivativeRows v (known .active) d source row known other)
   derivative-rows-same k d source row known h p rest other same x =
-      let listed = derivative-listed (setting .variables) k d source row known h p in
+      let listed = derivative-listed v k d source row known h p in
       rw (listed .is rest, listed .is other) (puts-same (listed .list) rest other same x)

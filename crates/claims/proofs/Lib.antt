@@ -13,9 +13,11 @@ pub mod ExactlyWhenHolds
 pub mod Runs
 pub mod RunsKeepSizes
 pub mod Stores
+pub mod Accounts
 pub mod DerivativeRows
 pub mod DerivativesAlike
 pub mod Forward
+pub mod ForwardLog
 pub mod Replay
 pub mod MachineFollows
 pub mod MachineLogs
@@ -24,6 +26,7 @@ pub mod IdealRooms
 pub mod WholeRunMatches
 pub mod RunAccepted
 pub mod RunsAnswer
+pub mod AtTurningRound
 -- demand 2: equation (2)
 pub mod EquationTwoSolved
 pub mod ResidueDerivatives

@@ -1,17 +1,17 @@
 -- The backward part, for any choice of saved rows that includes the recorded ones: it takes the executed assignments in reverse, each by
--- its derivative rows, as if the values were what they were just before that assignment.
-use Prim.Native.Nat.{ℕ, zero, suc, _+_, _≤_, _<_}
+-- its derivative rows, as if the values were what they were just before that assignment. Every value that these rows read is that value.
+use Prim.Native.Nat.{ℕ, zero, suc, _+_, _<_}
 use mathlib.Core.Path.{_≡_, refl, sym, ap, subst, _∙_}
 use mathlib.Core.Logic.{_≢_}
 use mathlib.Core.Bool.{Bool, true, false, not, _||_, _&&_}
-use mathlib.Core.List.{List, [], _∷_, _++_, map}
-use mathlib.Core.Option.{Option, none, some}
+use mathlib.Core.List.{List, [], _++_, map}
+use mathlib.Core.Option.{some}
 use lib.ListN.{length, set, getD, getElem?, length-set}
 use lib.Dec.{T, eqb, eqb→eq}
 use native.Mathlib.Decide.{ℕ-discrete}
 use native.Mathlib.Omega.{arith}
 use Rattle.number.specs.Arithmetic.{Arithmetic}
-use Rattle.sheet.specs.Tree.{Tree, done, one, fork, again, rows, RowNumber}
+use Rattle.sheet.specs.Tree.{Tree, done, one, fork, again, rows}
 use Rattle.sheet.specs.Rows.{Assignment, _≔_, Source, Test}
 use Rattle.sheet.specs.Names.{AssignmentPresent, Present}
 use Rattle.sets.specs.VariableSets.{VariableSet, has, _∪_, without, _⊆_}
@@ -21,13 +21,15 @@ use Rattle.sets.specs.Marks.{numbered}
 use Rattle.sets.proofs.VariableSetLaws.{union-has, without-has, union-left, union-right}
 use Rattle.table.specs.TableRows.{Table, ofRow, turnWord, takeBack, takingBack, onTurn}
 use Rattle.table.specs.Adjoint.{putIf, derivativeRows, backwardOf, backwardPart}
-use Rattle.run.specs.Attempts.{Attempt, through, halted, stuck, _>>=_, present}
-use Rattle.run.specs.Actions.{Memory, Setting, acted, tested, restored, stored}
+use Rattle.run.specs.Attempts.{through, halted, present}
+use Rattle.run.specs.Actions.{Memory, Setting, acted, tested}
 use Rattle.claims.specs.Execution.{Executed, Progress, Stop, from, onward, turned, chosen}
-use Rattle.claims.specs.IdealSweep.{tableRun, derivedBy, swept}
-use Rattle.claims.proofs.Runs.{bind-same, Performed, was-performed, Runs, stay, row, left, right, last, more}
+use Rattle.claims.specs.IdealSweep.{tableRun, swept}
+use Rattle.claims.specs.ReadLog.{Entry, chosenLog, tableLog, sweptLog}
+use Rattle.claims.proofs.Runs.{was-performed, Runs, stay, row, left, right, last, more}
 use Rattle.claims.proofs.Stores.{at-set-same, at-set-other, known-at}
-use Rattle.claims.proofs.DerivativeRows.{Agree, AdjointSize, T-true}
+use Rattle.claims.proofs.Accounts.{Account, account, Same, derived, sweeping, quiet, stopping, noting, nothing-more, noting-more, noting-then, inTurn, in-turn-same}
+use Rattle.claims.proofs.DerivativeRows.{Agree, AdjointSize}
 use Rattle.claims.proofs.DerivativesAlike.{Derives, derives, breaks, derivatives-alike, derivative-rows-same}
 use Rattle.claims.proofs.Forward.{body, savedBy, grown, replaced-original}
 
@@ -109,21 +111,23 @@ module _ (known : ℕ → Assignment → Activity) (saved : ℕ → Assignment �
     memoryBack originals adjoints now =
         record { store = originals ++ adjoints; values = savedBy known saved A (now .trace); turns = map turnWord (now .turns); copied = copied }
 
-    abbrev sweep : List (Executed A) → List (A .Carrier) → Attempt (Stop A) (List (A .Carrier))
-    sweep trace adjoints = swept A setting known trace adjoints
+    abbrev sweep : List (Executed A) → List (A .Carrier) → Account A (List (A .Carrier))
+    sweep trace adjoints = sweeping A setting known trace adjoints
 
     -- ---- one assignment taken back
 
     data Undone (p d : ℕ) (source : Source) (s m : Progress A) (originals adjoints : List (A .Carrier)) (rest : Table) : Type 0 where
-      undone : (others next : List (A .Carrier)) → length others ≡ v → AdjointSize A v next → Agree A others (s .store) (at p)
-          → derivedBy A setting (d ≔ source) (record { index = p }) (known p (d ≔ source)) (s .store) adjoints ≡ through next
-          → tableRun A setting (backwardOf v (d ≔ source) (record { index = p }) (known p (d ≔ source)) (saved p (d ≔ source)) rest) (memoryBack originals adjoints m)
-          ≡ tableRun A setting rest (memoryBack others next s)
+      undone : (others next : List (A .Carrier)) → length others ≡ v → AdjointSize A v next → Agree A others (s .store) (at p) → (log : List (Entry A))
+          → derived A setting (d ≔ source) (record { index = p }) (known p (d ≔ source)) (s .store) adjoints ≡ record { log = log; outcome = through next }
+          → account A setting (backwardOf v (d ≔ source) (record { index = p }) (known p (d ≔ source)) (saved p (d ≔ source)) rest)
+          (memoryBack originals adjoints m)
+          ≡ noting A log (account A setting rest (memoryBack others next s))
           → Undone p d source s m originals adjoints rest
-      stopped : (stop : Stop A)
-          → derivedBy A setting (d ≔ source) (record { index = p }) (known p (d ≔ source)) (s .store) adjoints ≡ halted stop
-          → tableRun A setting (backwardOf v (d ≔ source) (record { index = p }) (known p (d ≔ source)) (saved p (d ≔ source)) rest) (memoryBack originals adjoints m)
-          ≡ halted stop
+      stopped : (stop : Stop A) (log : List (Entry A))
+          → derived A setting (d ≔ source) (record { index = p }) (known p (d ≔ source)) (s .store) adjoints ≡ stopping A log stop
+          → account A setting (backwardOf v (d ≔ source) (record { index = p }) (known p (d ≔ source)) (saved p (d ≔ source)) rest)
+          (memoryBack originals adjoints m)
+          ≡ stopping A log stop
           → Undone p d source s m originals adjoints rest
 
     module _ (p d : ℕ) (source : Source) (s : Progress A) (x : A .Carrier) (originals adjoints : List (A .Carrier)) (rest : Table)
@@ -140,8 +144,8 @@ module _ (known : ℕ → Assignment → Activity) (saved : ℕ → Assignment �
 
       -- the derivative rows, once the originals agree on what is needed
       derive : (others : List (A .Carrier)) → length others ≡ v → Agree A others (s .store) needed
-          → tableRun A setting (backwardOf v (d ≔ source) (record { index = p }) is (saved p (d ≔ source)) rest) (memoryBack originals adjoints m)
-          ≡ tableRun A setting (derivativeRows v (is .active) d source (record { index = p }) is rest) (memoryBack others adjoints s)
+          → account A setting (backwardOf v (d ≔ source) (record { index = p }) is (saved p (d ≔ source)) rest) (memoryBack originals adjoints m)
+          ≡ account A setting (derivativeRows v (is .active) d source (record { index = p }) is rest) (memoryBack others adjoints s)
           → Undone p d source s m originals adjoints rest
       unfolding AssignmentPresent
       derive others l fit e =
@@ -150,12 +154,12 @@ module _ (known : ℕ → Assignment → Activity) (saved : ℕ → Assignment �
           (λ i h. fit i (union-right (at p) (adjointUse source is) i h)))
         where
           against : Derives A setting d source (record { index = p }) is others (s .store) adjoints → Undone p d source s m originals adjoints rest
-          against (derives next size f g) =
-              undone others next l size (λ i h. fit i (union-left (at p) (adjointUse source is) i h)) g (e ∙ f (memoryBack others adjoints s) rest)
-          against (breaks stop f g) = stopped stop g (e ∙ f (memoryBack others adjoints s) rest)
+          against (derives next size log f g) =
+              undone others next l size (λ i h. fit i (union-left (at p) (adjointUse source is) i h)) log g (e ∙ f (memoryBack others adjoints s) rest)
+          against (breaks stop log f g) = stopped stop log g (e ∙ f (memoryBack others adjoints s) rest)
 
       undo : Undone p d source s m originals adjoints rest
-      unfolding savedBy backwardOf tableRun acted AssignmentPresent
+      unfolding savedBy backwardOf tableRun tableLog acted AssignmentPresent
       undo = by-choice (saved p (d ≔ source)) refl
         where
           before : A .Carrier
@@ -171,43 +175,49 @@ module _ (known : ℕ → Assignment → Activity) (saved : ℕ → Assignment �
 
     -- ---- what stands after a backward part may be exchanged for what does the same
 
-    abbrev SameRun : Table → Table → Type 0
-    SameRun rest other = (x : Memory A) → tableRun A setting rest x ≡ tableRun A setting other x
-
-    repeat-same : (n : ℕ) (a rest other : Table) → SameRun rest other → SameRun (again n a rest) (again n a other)
-    unfolding tableRun
-    repeat-same zero a rest other same x = bind-same (tableRun A setting a x) _ _ (λ y e. same y)
-    repeat-same (suc n) a rest other same x = bind-same (tableRun A setting a x) _ _ (λ y e. repeat-same n a rest other same y)
+    repeat-same : (n : ℕ) (a rest other : Table) → Same A setting rest other → Same A setting (again n a rest) (again n a other)
+    unfolding tableRun tableLog
+    repeat-same zero a rest other same x = in-turn-same A (account A setting a x) _ _ same
+    repeat-same (suc n) a rest other same x = in-turn-same A (account A setting a x) _ _ (repeat-same n a rest other same)
 
     -- the last turn of a repeat is a turn like any other
-    last-turn : (n : ℕ) (a rest : Table) → SameRun (again (suc n) a rest) (again n a (again zero a rest))
-    unfolding tableRun
+    last-turn : (n : ℕ) (a rest : Table) → Same A setting (again (suc n) a rest) (again n a (again zero a rest))
+    unfolding tableRun tableLog
     last-turn zero a rest x = refl
-    last-turn (suc n) a rest x = bind-same (tableRun A setting a x) _ _ (λ y e. last-turn n a rest y)
+    last-turn (suc n) a rest x = in-turn-same A (account A setting a x) _ _ (last-turn n a rest)
 
-    branches-same : (a b rest other : Table) → SameRun rest other → SameRun (fork onTurn a b rest) (fork onTurn a b other)
-    unfolding tableRun
+    branches-same : (a b rest other : Table) → Same A setting rest other → Same A setting (fork onTurn a b rest) (fork onTurn a b other)
+    unfolding tableRun tableLog
     branches-same a b rest other same x =
-        bind-same (present (tested A onTurn x)) _ _
-        (λ w e. bind-same (chosen A (w .first) (tableRun A setting a (w .memory)) (tableRun A setting b (w .memory))) _ _ (λ y h. same y))
+        in-turn-same A (quiet A (present (tested A onTurn x))) _ _
+        (λ w.
+        in-turn-same A
+        (record {
+          log = chosenLog A (w .first) (tableLog A setting a (w .memory)) (tableLog A setting b (w .memory));
+          outcome = chosen A (w .first) (tableRun A setting a (w .memory)) (tableRun A setting b (w .memory));
+        })
+        _ _ same)
 
-    row-same : (p : ℕ) (b : Assignment) → AssignmentPresent v k b → (rest other : Table) → SameRun rest other
-        → SameRun (backwardOf v b (record { index = p }) (known p b) (saved p b) rest) (backwardOf v b (record { index = p }) (known p b) (saved p b) other)
-    unfolding backwardOf AssignmentPresent tableRun
+    row-same : (p : ℕ) (b : Assignment) → AssignmentPresent v k b → (rest other : Table) → Same A setting rest other
+        → Same A setting (backwardOf v b (record { index = p }) (known p b) (saved p b) rest)
+        (backwardOf v b (record { index = p }) (known p b) (saved p b) other)
+    unfolding backwardOf AssignmentPresent tableRun tableLog
     row-same p (d ≔ source) named rest other same x = by-choice (saved p (d ≔ source))
       where
-        inside : SameRun (derivativeRows v (known p (d ≔ source) .active) d source (record { index = p }) (known p (d ≔ source)) rest)
-            (derivativeRows v (known p (d ≔ source) .active) d source (record { index = p }) (known p (d ≔ source)) other)
+        derivatives : Table → Table
+        derivatives = derivativeRows v (known p (d ≔ source) .active) d source (record { index = p }) (known p (d ≔ source))
+
+        inside : Same A setting (derivatives rest) (derivatives other)
         inside = derivative-rows-same A setting k d source (record { index = p }) (known p (d ≔ source)) (named .0) (named .1) rest other same
 
         by-choice : (choice : Bool)
-            → tableRun A setting (putIf choice (record { index = p }) takingBack (takeBack d) (derivativeRows v (known p (d ≔ source) .active) d source (record { index = p }) (known p (d ≔ source)) rest)) x
-            ≡ tableRun A setting (putIf choice (record { index = p }) takingBack (takeBack d) (derivativeRows v (known p (d ≔ source) .active) d source (record { index = p }) (known p (d ≔ source)) other)) x
-        by-choice true = bind-same (from A (ofRow (record { index = p }) takingBack) (acted A setting (takeBack d) x)) _ _ (λ y e. inside y)
+            → account A setting (putIf choice (record { index = p }) takingBack (takeBack d) (derivatives rest)) x
+            ≡ account A setting (putIf choice (record { index = p }) takingBack (takeBack d) (derivatives other)) x
+        by-choice true = in-turn-same A (quiet A (from A (ofRow (record { index = p }) takingBack) (acted A setting (takeBack d) x))) _ _ inside
         by-choice false = inside x
 
-    back-same : (t : Tree Assignment Test) (p : ℕ) → Present v k t → (rest other : Table) → SameRun rest other
-        → SameRun (backwardPart v (body known saved t p) rest) (backwardPart v (body known saved t p) other)
+    back-same : (t : Tree Assignment Test) (p : ℕ) → Present v k t → (rest other : Table) → Same A setting rest other
+        → Same A setting (backwardPart v (body known saved t p) rest) (backwardPart v (body known saved t p) other)
     unfolding numbered backwardPart Present
     back-same done p named rest other same = same
     back-same (one b kk) p named rest other same = back-same kk (suc p) (named .1) _ _ (row-same p b (named .0) rest other same)
@@ -235,86 +245,101 @@ module _ (known : ℕ → Assignment → Activity) (saved : ℕ → Assignment �
     enough-covers (fork f a b kk) p es h i m = m
     enough-covers (again n a kk) p es h i m = rw (h .0) (union-left (at p) (at (suc p + rows a)) i m)
 
-    pub data Replays (t : Tree Assignment Test) (p : ℕ) (s e : Progress A) (originals adjoints : List (A .Carrier)) (rest : Table) : Type 0 where
-      replayed : (others next : List (A .Carrier)) → length others ≡ v → AdjointSize A v next → Agree A others (s .store) (enough t p)
-          → sweep (e .trace) adjoints ≡ sweep (s .trace) next
-          → tableRun A setting (backwardPart v (body known saved t p) rest) (memoryBack originals adjoints e) ≡ tableRun A setting rest (memoryBack others next s)
-          → Replays t p s e originals adjoints rest
-      stoppedShort : (stop : Stop A) → sweep (e .trace) adjoints ≡ halted stop
-          → tableRun A setting (backwardPart v (body known saved t p) rest) (memoryBack originals adjoints e) ≡ halted stop
-          → Replays t p s e originals adjoints rest
+    -- Against the ideal sweep, from the end of a tree's execution to its start: the same is noted, and the same adjoints or the same stop come out.
+    data Retraces (t : Tree Assignment Test) (p : ℕ) (s e : Progress A) (originals adjoints : List (A .Carrier)) (rest : Table) : Type 0 where
+      retraced : (others next : List (A .Carrier)) → length others ≡ v → AdjointSize A v next → Agree A others (s .store) (enough t p)
+          → (log : List (Entry A)) → sweep (e .trace) adjoints ≡ noting A log (sweep (s .trace) next)
+          → account A setting (backwardPart v (body known saved t p) rest) (memoryBack originals adjoints e)
+          ≡ noting A log (account A setting rest (memoryBack others next s))
+          → Retraces t p s e originals adjoints rest
+      cutShort : (stop : Stop A) (log : List (Entry A)) → sweep (e .trace) adjoints ≡ stopping A log stop
+          → account A setting (backwardPart v (body known saved t p) rest) (memoryBack originals adjoints e) ≡ stopping A log stop
+          → Retraces t p s e originals adjoints rest
 
-    -- an assignment before a tree that is replayed
-    row-replays : (p d : ℕ) (source : Source) (kk : Tree Assignment Test) (s e : Progress A) (x : A .Carrier) (originals adjoints : List (A .Carrier)) (rest : Table)
+    -- an assignment before a tree that is retraced
+    row-retraces : (p d : ℕ) (source : Source) (kk : Tree Assignment Test) (s e : Progress A) (x : A .Carrier) (originals adjoints : List (A .Carrier)) (rest : Table)
         (es : List Equation) → AssignmentPresent v k (d ≔ source) → length (s .store) ≡ v → Holds (one (d ≔ source) kk) p es
-        → Replays kk (suc p) (onward A p (d ≔ source) s (set (s .store) d x)) e originals adjoints
+        → Retraces kk (suc p) (onward A p (d ≔ source) s (set (s .store) d x)) e originals adjoints
         (backwardOf v (d ≔ source) (record { index = p }) (known p (d ≔ source)) (saved p (d ≔ source)) rest)
-        → Replays (one (d ≔ source) kk) p s e originals adjoints rest
-    unfolding numbered backwardPart swept forward Satisfy requiredAfter
-    row-replays p d source kk s e x originals adjoints rest es named n h (stoppedShort stop sw ran) = stoppedShort stop sw ran
-    row-replays p d source kk s e x originals adjoints rest es named n h (replayed others next o z agree sw ran) =
+        → Retraces (one (d ≔ source) kk) p s e originals adjoints rest
+    unfolding numbered backwardPart swept sweptLog forward Satisfy requiredAfter
+    row-retraces p d source kk s e x originals adjoints rest es named n h (cutShort stop log sw ran) = cutShort stop log sw ran
+    row-retraces p d source kk s e x originals adjoints rest es named n h (retraced others next o z agree log sw ran) =
         combine
         (undo p d source s x others next rest n o z named
         (subst (Agree A others (set (s .store) d x)) (h .0) (λ i m. agree i (enough-covers kk (suc p) es (h .1) i m))))
       where
-        combine : Undone p d source s (onward A p (d ≔ source) s (set (s .store) d x)) others next rest → Replays (one (d ≔ source) kk) p s e originals adjoints rest
-        combine (undone olds final l q fit g then) = replayed olds final l q fit (sw ∙ rw g refl) (ran ∙ then)
-        combine (stopped stop g then) = stoppedShort stop (sw ∙ rw g refl) (ran ∙ then)
+        combine : Undone p d source s (onward A p (d ≔ source) s (set (s .store) d x)) others next rest → Retraces (one (d ≔ source) kk) p s e originals adjoints rest
+        combine (undone olds final l q fit earlier g then) =
+            retraced olds final l q fit (log ++ earlier) (sw ∙ ap (λ y. noting A log (inTurn A y (sweep (s .trace)))) g ∙ noting-more A log earlier _)
+            (ran ∙ ap (noting A log) then ∙ noting-more A log earlier _)
+        combine (stopped stop earlier g then) =
+            cutShort stop (log ++ earlier) (sw ∙ ap (λ y. noting A log (inTurn A y (sweep (s .trace)))) g ∙ ap (noting A log) (nothing-more A earlier _))
+            (ran ∙ ap (noting A log) then)
 
     -- a block's inner part after what follows the block
     around : (t a kk : Tree Assignment Test) (p pa pk : ℕ) (s m w e : Progress A) (originals adjoints : List (A .Carrier)) (rest opening : Table)
         → sweep (w .trace) ≡ sweep (m .trace)
-        → tableRun A setting (backwardPart v (body known saved t p) rest) (memoryBack originals adjoints e)
-        ≡ tableRun A setting (backwardPart v (body known saved kk pk) opening) (memoryBack originals adjoints e)
-        → ((others next : List (A .Carrier)) → tableRun A setting opening (memoryBack others next w)
-        ≡ (tableRun A setting (backwardPart v (body known saved a pa) done) (memoryBack others next m) >>= λ x. tableRun A setting rest x))
+        → account A setting (backwardPart v (body known saved t p) rest) (memoryBack originals adjoints e)
+        ≡ account A setting (backwardPart v (body known saved kk pk) opening) (memoryBack originals adjoints e)
+        → ((others next : List (A .Carrier)) → account A setting opening (memoryBack others next w)
+        ≡ inTurn A (account A setting (backwardPart v (body known saved a pa) done) (memoryBack others next m)) (account A setting rest))
         → enough t p ⊆ enough a pa
-        → ((others next : List (A .Carrier)) → length others ≡ v → AdjointSize A v next → Agree A others (w .store) (enough kk pk) → Replays a pa s m others next done)
-        → Replays kk pk w e originals adjoints opening → Replays t p s e originals adjoints rest
-    unfolding tableRun
-    around t a kk p pa pk s m w e originals adjoints rest opening same whole opens covered inner (stoppedShort stop sw ran) = stoppedShort stop sw (whole ∙ ran)
-    around t a kk p pa pk s m w e originals adjoints rest opening same whole opens covered inner (replayed others next o z agree sw ran) =
+        → ((others next : List (A .Carrier)) → length others ≡ v → AdjointSize A v next → Agree A others (w .store) (enough kk pk) → Retraces a pa s m others next done)
+        → Retraces kk pk w e originals adjoints opening → Retraces t p s e originals adjoints rest
+    unfolding tableRun tableLog
+    around t a kk p pa pk s m w e originals adjoints rest opening same whole opens covered inner (cutShort stop log sw ran) = cutShort stop log sw (whole ∙ ran)
+    around t a kk p pa pk s m w e originals adjoints rest opening same whole opens covered inner (retraced others next o z agree log sw ran) =
         within (inner others next o z agree)
       where
-        within : Replays a pa s m others next done → Replays t p s e originals adjoints rest
-        within (replayed olds final l q fit sw′ ran′) =
-            replayed olds final l q (λ i h. fit i (covered i h)) (sw ∙ ap (λ f. f next) same ∙ sw′) (whole ∙ ran ∙ opens others next ∙ rw ran′ refl)
-        within (stoppedShort stop sw′ ran′) = stoppedShort stop (sw ∙ ap (λ f. f next) same ∙ sw′) (whole ∙ ran ∙ opens others next ∙ rw ran′ refl)
+        within : Retraces a pa s m others next done → Retraces t p s e originals adjoints rest
+        within (retraced olds final l q fit earlier sw′ ran′) =
+            retraced olds final l q (λ i h. fit i (covered i h)) (log ++ earlier)
+            (sw ∙ ap (λ f. noting A log (f next)) same ∙ ap (noting A log) sw′ ∙ noting-more A log earlier _)
+            (whole ∙ ran
+            ∙ ap (noting A log)
+            (opens others next ∙ ap (λ y. inTurn A y (account A setting rest)) ran′ ∙ noting-then A earlier (memoryBack olds final s) (account A setting rest))
+            ∙ noting-more A log earlier _)
+        within (cutShort stop earlier sw′ ran′) =
+            cutShort stop (log ++ earlier) (sw ∙ ap (λ f. noting A log (f next)) same ∙ ap (noting A log) sw′)
+            (whole ∙ ran ∙ ap (noting A log) (opens others next ∙ ap (λ y. inTurn A y (account A setting rest)) ran′ ∙ nothing-more A earlier _))
 
     opens-left : (a b rest : Table) (others next : List (A .Carrier)) (m : Progress A)
-        → tableRun A setting (fork onTurn a b rest) (memoryBack others next (turned A true m)) ≡ (tableRun A setting a (memoryBack others next m) >>= λ x. tableRun A setting rest x)
-    unfolding tableRun
+        → account A setting (fork onTurn a b rest) (memoryBack others next (turned A true m))
+        ≡ inTurn A (account A setting a (memoryBack others next m)) (account A setting rest)
+    unfolding tableRun tableLog
     opens-left a b rest others next m = refl
 
     opens-right : (a b rest : Table) (others next : List (A .Carrier)) (m : Progress A)
-        → tableRun A setting (fork onTurn a b rest) (memoryBack others next (turned A false m)) ≡ (tableRun A setting b (memoryBack others next m) >>= λ x. tableRun A setting rest x)
-    unfolding tableRun
+        → account A setting (fork onTurn a b rest) (memoryBack others next (turned A false m))
+        ≡ inTurn A (account A setting b (memoryBack others next m)) (account A setting rest)
+    unfolding tableRun tableLog
     opens-right a b rest others next m = refl
 
-    opens-turn : (a rest : Table) (x : Memory A) → tableRun A setting (again zero a rest) x ≡ (tableRun A setting a x >>= λ y. tableRun A setting rest y)
-    unfolding tableRun
+    opens-turn : (a rest : Table) (x : Memory A) → account A setting (again zero a rest) x ≡ inTurn A (account A setting a x) (account A setting rest)
+    unfolding tableRun tableLog
     opens-turn a rest x = refl
 
     abbrev back : Tree Assignment Test → ℕ → Table
     back t p = backwardPart v (body known saved t p) done
 
-    pub replays : {t : Tree Assignment Test} {p : ℕ} {s e : Progress A} → Runs A (setting .constants) t p s e → Present v k t → length (s .store) ≡ v
+    retraces : {t : Tree Assignment Test} {p : ℕ} {s e : Progress A} → Runs A (setting .constants) t p s e → Present v k t → length (s .store) ≡ v
         → (es : List Equation) → Holds t p es → (originals adjoints : List (A .Carrier)) → length originals ≡ v → AdjointSize A v adjoints
-        → Agree A originals (e .store) (at (p + rows t)) → (rest : Table) → Replays t p s e originals adjoints rest
+        → Agree A originals (e .store) (at (p + rows t)) → (rest : Table) → Retraces t p s e originals adjoints rest
     unfolding rows Present forward Satisfy numbered backwardPart
-    replays (stay {p = p} {s = s}) named n es h originals adjoints o z agree rest =
-        replayed originals adjoints o z (subst (λ q. Agree A originals (s .store) (at q)) (omega arith) agree) refl refl
-    replays (row {b = d ≔ source} {k = kk} {p = p} {s = s} {m = m} {e = e} perf r) named n es h originals adjoints o z agree rest =
+    retraces (stay {p = p} {s = s}) named n es h originals adjoints o z agree rest =
+        retraced originals adjoints o z (subst (λ q. Agree A originals (s .store) (at q)) (omega arith) agree) [] refl refl
+    retraces (row {b = d ≔ source} {k = kk} {p = p} {s = s} {m = m} {e = e} perf r) named n es h originals adjoints o z agree rest =
         let did = was-performed A (setting .constants) p d source s m perf in
         let size : length (m .store) ≡ v = ap (λ y. length (y .store)) (did .goes) ∙ length-set (s .store) d (did .value) ∙ n in
-        let later = replays r (named .1) size es (h .1) originals adjoints o z (subst (λ q. Agree A originals (e .store) (at q)) (omega arith) agree)
+        let later = retraces r (named .1) size es (h .1) originals adjoints o z (subst (λ q. Agree A originals (e .store) (at q)) (omega arith) agree)
         (backwardOf v (d ≔ source) (record { index = p }) (known p (d ≔ source)) (saved p (d ≔ source)) rest) in
-        row-replays p d source kk s e (did .value) originals adjoints rest es (named .0) n h
+        row-retraces p d source kk s e (did .value) originals adjoints rest es (named .0) n h
         (subst
-        (λ y. Replays kk (suc p) y e originals adjoints
+        (λ y. Retraces kk (suc p) y e originals adjoints
         (backwardOf v (d ≔ source) (record { index = p }) (known p (d ≔ source)) (saved p (d ≔ source)) rest))
         (did .goes) later)
-    replays (left {f = g} {a = a} {b = b} {k = kk} {p = p} {s = s} {m = m} {e = e} test f r) named n es h originals adjoints o z agree rest =
+    retraces (left {f = g} {a = a} {b = b} {k = kk} {p = p} {s = s} {m = m} {e = e} test f r) named n es h originals adjoints o z agree rest =
         let split : ℕ = suc p + rows a in
         let end : ℕ = suc split + rows b in
         let hb = holds-after a (suc p) _ (h .1) in
@@ -324,10 +349,10 @@ module _ (known : ℕ → Assignment → Activity) (saved : ℕ → Assignment �
         around (fork g a b kk) a kk p (suc p) (suc end) s m (turned A true m) e originals adjoints rest rest-of refl refl
         (λ others next. opens-left (back a (suc p)) (back b (suc split)) rest others next m)
         (λ i w. enough-covers a (suc p) _ (h .1) i (rw (h .0) w))
-        (λ others next l q fit. replays f (named .1) n _ (h .1) others next l q
+        (λ others next l q fit. retraces f (named .1) n _ (h .1) others next l q
         (λ i w. fit i (enough-covers kk (suc end) es (hk .1) i (rw (hk .0) (union-left (at split) (at end) i w)))) done)
-        (replays r (named .3) (grew .store ∙ n) es (hk .1) originals adjoints o z (subst (λ q. Agree A originals (e .store) (at q)) (omega arith) agree) rest-of)
-    replays (right {f = g} {a = a} {b = b} {k = kk} {p = p} {s = s} {m = m} {e = e} test f r) named n es h originals adjoints o z agree rest =
+        (retraces r (named .3) (grew .store ∙ n) es (hk .1) originals adjoints o z (subst (λ q. Agree A originals (e .store) (at q)) (omega arith) agree) rest-of)
+    retraces (right {f = g} {a = a} {b = b} {k = kk} {p = p} {s = s} {m = m} {e = e} test f r) named n es h originals adjoints o z agree rest =
         let split : ℕ = suc p + rows a in
         let end : ℕ = suc split + rows b in
         let hb = holds-after a (suc p) _ (h .1) in
@@ -337,21 +362,21 @@ module _ (known : ℕ → Assignment → Activity) (saved : ℕ → Assignment �
         around (fork g a b kk) b kk p (suc split) (suc end) s m (turned A false m) e originals adjoints rest rest-of refl refl
         (λ others next. opens-right (back a (suc p)) (back b (suc split)) rest others next m)
         (λ i w. enough-covers b (suc split) _ (hb .1) i (rw (hb .0) w))
-        (λ others next l q fit. replays f (named .2) n _ (hb .1) others next l q
+        (λ others next l q fit. retraces f (named .2) n _ (hb .1) others next l q
         (λ i w. fit i (enough-covers kk (suc end) es (hk .1) i (rw (hk .0) (union-right (at split) (at end) i w)))) done)
-        (replays r (named .3) (grew .store ∙ n) es (hk .1) originals adjoints o z (subst (λ q. Agree A originals (e .store) (at q)) (omega arith) agree) rest-of)
-    replays (last {a = a} {k = kk} {p = p} {s = s} {m = m} {e = e} f r) named n es h originals adjoints o z agree rest =
+        (retraces r (named .3) (grew .store ∙ n) es (hk .1) originals adjoints o z (subst (λ q. Agree A originals (e .store) (at q)) (omega arith) agree) rest-of)
+    retraces (last {a = a} {k = kk} {p = p} {s = s} {m = m} {e = e} f r) named n es h originals adjoints o z agree rest =
         let end : ℕ = suc p + rows a in
         let hk = holds-after a (suc p) _ (h .1) in
         let grew = grown known saved A (setting .constants) f in
         around (again zero a kk) a kk p (suc p) (suc end) s m m e originals adjoints rest (again zero (back a (suc p)) rest) refl refl
         (λ others next. opens-turn (back a (suc p)) rest (memoryBack others next m))
         (λ i w. enough-covers a (suc p) _ (h .1) i w)
-        (λ others next l q fit. replays f (named .0) n _ (h .1) others next l q
+        (λ others next l q fit. retraces f (named .0) n _ (h .1) others next l q
         (λ i w. fit i (enough-covers kk (suc end) es (hk .1) i (rw (hk .0) w))) done)
-        (replays r (named .1) (grew .store ∙ n) es (hk .1) originals adjoints o z (subst (λ q. Agree A originals (e .store) (at q)) (omega arith) agree)
+        (retraces r (named .1) (grew .store ∙ n) es (hk .1) originals adjoints o z (subst (λ q. Agree A originals (e .store) (at q)) (omega arith) agree)
         (again zero (back a (suc p)) rest))
-    replays (more {n = c} {a = a} {k = kk} {p = p} {s = s} {m = m} {e = e} f r) named n es h originals adjoints o z agree rest =
+    retraces (more {n = c} {a = a} {k = kk} {p = p} {s = s} {m = m} {e = e} f r) named n es h originals adjoints o z agree rest =
         let end : ℕ = suc p + rows a in
         let grew = grown known saved A (setting .constants) f in
         around (again (suc c) a kk) a (again c a kk) p (suc p) p s m m e originals adjoints rest (again zero (back a (suc p)) rest) refl
@@ -359,5 +384,47 @@ module _ (known : ℕ → Assignment → Activity) (saved : ℕ → Assignment �
         (last-turn c (back a (suc p)) rest) (memoryBack originals adjoints e))
         (λ others next. opens-turn (back a (suc p)) rest (memoryBack others next m))
         (λ i w. enough-covers a (suc p) _ (h .1) i w)
-        (λ others next l q fit. replays f (named .0) n _ (h .1) others next l q (λ i w. fit i (rw (h .0) (union-right (at p) (at end) i w))) done)
-        (replays r named (grew .store ∙ n) es h originals adjoints o z agree (again zero (back a (suc p)) rest))
+        (λ others next l q fit. retraces f (named .0) n _ (h .1) others next l q (λ i w. fit i (rw (h .0) (union-right (at p) (at end) i w))) done)
+        (retraces r named (grew .store ∙ n) es h originals adjoints o z agree (again zero (back a (suc p)) rest))
+
+    -- ---- the run and the log, each by itself
+
+    pub data Replays (t : Tree Assignment Test) (p : ℕ) (s e : Progress A) (originals adjoints : List (A .Carrier)) (rest : Table) : Type 0 where
+      replayed : (others next : List (A .Carrier)) → length others ≡ v → AdjointSize A v next → Agree A others (s .store) (enough t p)
+          → swept A setting known (e .trace) adjoints ≡ swept A setting known (s .trace) next
+          → tableRun A setting (backwardPart v (body known saved t p) rest) (memoryBack originals adjoints e)
+          ≡ tableRun A setting rest (memoryBack others next s)
+          → (log : List (Entry A)) → sweptLog A setting known (e .trace) adjoints ≡ log ++ sweptLog A setting known (s .trace) next
+          → tableLog A setting (backwardPart v (body known saved t p) rest) (memoryBack originals adjoints e)
+          ≡ log ++ tableLog A setting rest (memoryBack others next s)
+          → Replays t p s e originals adjoints rest
+      stoppedShort : (stop : Stop A) → swept A setting known (e .trace) adjoints ≡ halted stop
+          → tableRun A setting (backwardPart v (body known saved t p) rest) (memoryBack originals adjoints e) ≡ halted stop
+          → sweptLog A setting known (e .trace) adjoints
+          ≡ tableLog A setting (backwardPart v (body known saved t p) rest) (memoryBack originals adjoints e)
+          → Replays t p s e originals adjoints rest
+
+    pub replays : {t : Tree Assignment Test} {p : ℕ} {s e : Progress A} → Runs A (setting .constants) t p s e → Present v k t → length (s .store) ≡ v
+        → (es : List Equation) → Holds t p es → (originals adjoints : List (A .Carrier)) → length originals ≡ v → AdjointSize A v adjoints
+        → Agree A originals (e .store) (at (p + rows t)) → (rest : Table) → Replays t p s e originals adjoints rest
+    replays {t} {p} {s} {e} run named n es h originals adjoints o z agree rest = apart (retraces run named n es h originals adjoints o z agree rest)
+      where
+        apart : Retraces t p s e originals adjoints rest → Replays t p s e originals adjoints rest
+        apart (retraced others next l q fit log sw ran) =
+            replayed others next l q fit (λ i. sw i .outcome) (λ i. ran i .outcome) log (λ i. sw i .log) (λ i. ran i .log)
+        apart (cutShort stop log sw ran) = stoppedShort stop (λ i. sw i .outcome) (λ i. ran i .outcome) (ap (λ y. y .log) sw ∙ sym (ap (λ y. y .log) ran))
+
+    -- The backward part of a whole body notes what the ideal sweep notes: every value that a derivative rule reads is the value before that
+    -- assignment, in the order of the executed assignments in reverse.
+    pub backward-notes : {t : Tree Assignment Test} {starts : List (A .Carrier)} {e : Progress A}
+        → Runs A (setting .constants) t 0 (record { store = starts; trace = []; turns = [] }) e → Present v k t → length starts ≡ v
+        → (es : List Equation) → Holds t 0 es → (adjoints : List (A .Carrier)) → AdjointSize A v adjoints
+        → tableLog A setting (backwardPart v (body known saved t 0) done) (memoryBack (e .store) adjoints e) ≡ sweptLog A setting known (e .trace) adjoints
+    unfolding tableLog sweptLog
+    backward-notes {t} {starts} {e} run named n es h adjoints z =
+        by-end (replays run named n es h (e .store) adjoints (grown known saved A (setting .constants) run .store ∙ n) z (λ i m. refl) done)
+      where
+        by-end : Replays t 0 (record { store = starts; trace = []; turns = [] }) e (e .store) adjoints done
+            → tableLog A setting (backwardPart v (body known saved t 0) done) (memoryBack (e .store) adjoints e) ≡ sweptLog A setting known (e .trace) adjoints
+        by-end (replayed others next l q fit sw ran log notes noted) = noted ∙ sym notes
+        by-end (stoppedShort stop sw ran same) = sym same

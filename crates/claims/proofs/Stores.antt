@@ -1,9 +1,9 @@
 -- A store is the originals and then the adjoints, t and u: looking and putting in either part.
 use Prim.Native.Nat.{ℕ, zero, suc, _+_, _-_, _≤_, _<_, zero-le, suc-le-suc}
-use mathlib.Core.Path.{_≡_, refl, ap, _∙_}
+use mathlib.Core.Path.{_≡_, refl, sym, ap, _∙_}
 use mathlib.Core.Logic.{_≢_}
 use mathlib.Core.List.{List, [], _∷_, _++_}
-use mathlib.Core.Option.{Option, none, some}
+use mathlib.Core.Option.{Option, none, some, Option·getD}
 use lib.ListN.{length, set, getD, getElem?}
 use native.Mathlib.Nat.{suc-add, zero-add, not-suc-le-zero, le-of-suc-le-suc}
 use native.Mathlib.Omega.{arith}
@@ -18,6 +18,15 @@ module _ {X : Type 0} where
   known-at [] i d h = absurd (not-suc-le-zero h)
   known-at (x ∷ xs) zero d h = refl
   known-at (x ∷ xs) (suc i) d h = known-at xs i d (le-of-suc-le-suc h)
+
+  -- lists with the same at a place give the same there, whatever stands for an unknown place
+  pub same-default : (xs ys : List X) (i : ℕ) (d : X) → getElem? xs i ≡ getElem? ys i → getD xs i d ≡ getD ys i d
+  same-default xs ys i d e = by-option xs i ∙ ap (λ o. Option·getD o d) e ∙ sym (by-option ys i)
+    where
+      by-option : (zs : List X) (j : ℕ) → getD zs j d ≡ Option·getD (getElem? zs j) d
+      by-option [] j = refl
+      by-option (z ∷ zs) zero = refl
+      by-option (z ∷ zs) (suc j) = by-option zs j
 
   pub at-is-known : (xs : List X) (i : ℕ) (x : X) → getElem? xs i ≡ some x → i < length xs
   at-is-known [] i x e = let z : _≡_ {A = ℕ} 0 1 = cc in absurd (omega arith)

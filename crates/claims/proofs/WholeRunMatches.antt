@@ -251,8 +251,8 @@ module _ (A : Arithmetic) (words : List ℕ) (sheet : Sheet) (accepted : read wo
 
       after : Replays (known sheet choice) (saved sheet choice) (setAt (required sheet)) A setting (length (sheet .constants)) (e .store)
           (recorded-saved sheet choice) (sheet .body) 0 start e (e .store) first done → FromTurning e
-      after (replayed originals adjoints o z agree sw ran) = endsIn originals adjoints o (sw ∙ nothing-left adjoints) (turning-runs e size ∙ ran ∙ at-the-end originals adjoints (e .store))
-      after (stoppedShort stop sw ran) = stopsIn stop sw (turning-runs e size ∙ ran)
+      after (replayed originals adjoints o z agree sw ran log swept-notes table-notes) = endsIn originals adjoints o (sw ∙ nothing-left adjoints) (turning-runs e size ∙ ran ∙ at-the-end originals adjoints (e .store))
+      after (stoppedShort stop sw ran same-notes) = stopsIn stop sw (turning-runs e size ∙ ran)
 
   -- the machine does what the table does in the large
   machine-follows : (result : Attempt (Stop A) (Memory A)) → tableRun A setting table (memoryAt start) ≡ result

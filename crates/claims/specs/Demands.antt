@@ -5,7 +5,8 @@ use mathlib.Core.Bool.{Bool, cond}
 use mathlib.Core.List.{List, [], _∷_}
 use lib.ListN.{length, getD, take, drop}
 use Rattle.number.specs.Residues.{modulus, residues}
-use Rattle.sheet.specs.Rows.{isIndependent}
+use Rattle.sheet.specs.Tree.{Tree, done, one, fork, again}
+use Rattle.sheet.specs.Rows.{Assignment, Test, isIndependent}
 use Rattle.sheet.specs.Reading.{Sheet, variablesOf}
 use Rattle.run.specs.Attempts.{through}
 use Rattle.run.specs.Calls.{Ran}
@@ -21,3 +22,12 @@ pub record AuditSolves (sheet : Sheet) (starts seeds : List ℕ) (ran : Ran resi
   pub values : take (variablesOf sheet) (ran .lent .result) ≡ progress .store
   pub adjoints : (bar : Instance → ℕ) → EquationTwo (sheet .roles) seeds (progress .trace) bar → (x : ℕ) → x < variablesOf sheet
       → getD (drop (variablesOf sheet) (ran .lent .result)) x 0 ≡ cond (isIndependent (getD (sheet .roles) x 0)) (bar (valueNo x 0)) 0
+
+-- ---- demand 3
+
+-- a body with no "if" in it
+unfoldable pub WithoutIf : Tree Assignment Test → Type 0
+WithoutIf done = Unit {0}
+WithoutIf (one b k) = WithoutIf k
+WithoutIf (fork f a b k) = ⊥
+WithoutIf (again n a k) = WithoutIf a × WithoutIf k
