@@ -1,13 +1,13 @@
 -- The machine at row 17: the sheet has been executed, and the stacks hold the recorded values and the turns, the latest on top.
-use Prim.Native.Nat.{ℕ, zero, suc, _+_, _*_, _≤_}
-use mathlib.Core.Path.{_≡_, refl, sym, ap, subst, _∙_}
+use Prim.Native.Nat.{ℕ, suc, _+_}
+use mathlib.Core.Path.{_≡_, refl, ap}
 use mathlib.Core.Bool.{Bool, true, false}
-use mathlib.Core.List.{List, [], _∷_, _++_, map}
-use lib.ListN.{length, drop, replicate}
-use native.Mathlib.Nat.{suc-mul, zero-add}
+use mathlib.Core.List.{List, _∷_}
+use lib.ListN.{length}
+use native.Mathlib.Nat.{suc-mul}
 use native.Mathlib.Omega.{arith}
 use Rattle.number.specs.Arithmetic.{Arithmetic}
-use Rattle.sheet.specs.Tree.{Tree, done, one, fork, again, Line, basic, rows, flat, RowNumber}
+use Rattle.sheet.specs.Tree.{Tree, done, one, fork, again, basic, flat, RowNumber}
 use Rattle.sheet.specs.Rows.{Assignment, Test}
 use Rattle.sets.specs.Transfers.{Activity}
 use Rattle.sets.specs.Marks.{numbered}
@@ -16,8 +16,9 @@ use Rattle.table.specs.Adjoint.{Body, putIf, targetOf, forwardRow, forwardPart}
 use Rattle.table.specs.Sizes.{valuesNeeded}
 use Rattle.claims.specs.Execution.{Progress}
 use Rattle.claims.specs.Demands.{WithoutIf}
+use Rattle.claims.specs.SavedRows.{savedValues}
 use Rattle.claims.proofs.Runs.{Runs, stay, row, left, right, last, more}
-use Rattle.claims.proofs.Forward.{body, savedBy, one-more}
+use Rattle.claims.proofs.Forward.{body, one-more}
 
 -- ---- the lines of the forward part, and then the rest
 
@@ -40,7 +41,7 @@ forward-lines (again n a k) rest after = rw (forward-lines k rest after) refl
 
 module _ (known : ℕ → Assignment → Activity) (saved : ℕ → Assignment → Bool) (A : Arithmetic) (constants : List ℕ) where
   pub saved-exactly : {t : Tree Assignment Test} {p : ℕ} {s e : Progress A} → Runs A constants t p s e → WithoutIf t
-      → length (savedBy known saved A (e .trace)) ≡ length (savedBy known saved A (s .trace)) + valuesNeeded (body known saved t p)
+      → length (savedValues A saved (e .trace)) ≡ length (savedValues A saved (s .trace)) + valuesNeeded (body known saved t p)
   unfolding numbered valuesNeeded WithoutIf
   saved-exactly stay none = omega arith
   saved-exactly (row {b = b} {p = p} {s = s} {m = m} h r) none =

@@ -1,6 +1,6 @@
 -- In audit a run's result holds the values of executing the sheet and, at every independent, the adjoint of equation (2); 0 at the others.
-use Prim.Native.Nat.{ℕ, zero, suc, _+_, _<_}
-use mathlib.Core.Path.{_≡_, refl, sym, ap, subst, _∙_}
+use Prim.Native.Nat.{ℕ, zero, suc, _<_}
+use mathlib.Core.Path.{_≡_, refl, ap, subst, _∙_}
 use mathlib.Core.Bool.{Bool, true, false, cond}
 use mathlib.Core.List.{List, [], _∷_, _++_}
 use lib.ListN.{length, getD, take, drop}
@@ -26,7 +26,7 @@ use Rattle.claims.proofs.Runs.{went, same-through, runs}
 use Rattle.claims.proofs.RunsKeepSizes.{runs-keep}
 use Rattle.claims.proofs.RunAccepted.{RunAccepted, run-accepted}
 use Rattle.claims.proofs.RunsAnswer.{run-answers}
-use Rattle.claims.proofs.EquationTwoHolds.{Sound, Given, ideal-goes, ideal-solves}
+use Rattle.claims.proofs.EquationTwoHolds.{Sound, ideal-goes, ideal-solves}
 
 pub sound : (words : List ℕ) (sheet : Sheet) → read words ≡ given sheet → Sound sheet
 sound words sheet accepted =

@@ -1,22 +1,22 @@
 -- The derivative rows of an assignment work on the adjoints alone and read no original outside its adjoint use: on two stores that
 -- agree on the use they do the same and read the same.
-use Prim.Native.Nat.{ℕ, zero, suc, _+_, _-_, _*_, _≤_, _<_}
-use mathlib.Core.Path.{_≡_, refl, sym, ap, subst, _∙_}
+use Prim.Native.Nat.{ℕ, zero, _+_, _-_, _≤_, _<_}
+use mathlib.Core.Path.{_≡_, refl, sym, ap, _∙_}
 use mathlib.Core.Logic.{_⊎_, inl, inr}
-use mathlib.Core.Bool.{Bool, true, false, cond}
+use mathlib.Core.Bool.{true, cond}
 use mathlib.Core.List.{List, [], _∷_, _++_}
-use mathlib.Core.Option.{Option, none, some}
+use mathlib.Core.Option.{some}
 use lib.ListN.{length, set, getElem?, length-append, length-set}
-use lib.Dec.{T, ltb, lt→ltb}
+use lib.Dec.{T, ltb}
 use native.Mathlib.Omega.{arith}
 use Rattle.number.specs.Arithmetic.{Arithmetic, Outcome, value, stop}
 use Rattle.sheet.specs.Rows.{_≔_, Source, copy, fixed, sum, difference, product, negation}
 use Rattle.sets.specs.VariableSets.{VariableSet, has}
 use Rattle.table.specs.TableRows.{Action, assign, save, takeBack, saveTurn, clear, turnRound, tableVariables}
-use Rattle.run.specs.Attempts.{Attempt, through, halted, stuck, _>>=_, whole, look, present, replaced}
+use Rattle.run.specs.Attempts.{Attempt, through, halted, _>>=_, whole, look}
 use Rattle.run.specs.Actions.{Memory, Setting, evaluated, acted, stored, withStore}
 use Rattle.claims.specs.ReadLog.{originalAt, readsOf}
-use Rattle.claims.proofs.Stores.{same-default, at-known, at-first-part, at-second-part, set-second-part}
+use Rattle.claims.proofs.Stores.{is-below, same-default, at-known, at-first-part, at-second-part, set-second-part}
 
 -- ---- rows that work on the adjoints
 
@@ -39,13 +39,6 @@ OnAdjoints v needed (takeBack d) = ⊥
 OnAdjoints v needed (saveTurn first) = ⊥
 OnAdjoints v needed (clear d) = (v ≤ d) × (d < tableVariables v)
 OnAdjoints v needed turnRound = ⊥
-
-pub T-true : {b : Bool} → T b → b ≡ true
-T-true {b} t = by-value b t
-  where
-    by-value : (b : Bool) → T b → b ≡ true
-    by-value true t = refl
-    by-value false t = absurd t
 
 -- ---- what an attempt that isn't stuck comes to
 
@@ -113,7 +106,7 @@ module _ (A : Arithmetic) where
           rw (there, set-adjoint originals adjoints d x n low)
         where
           passes : d < length (originals ++ adjoints) → ltb d (length (originals ++ adjoints)) ≡ true
-          passes h = T-true (lt→ltb d (length (originals ++ adjoints)) h)
+          passes h = is-below d (length (originals ++ adjoints)) h
 
     -- ---- two stores that agree on what is needed, with the same adjoints
 

@@ -1,31 +1,30 @@
 -- The forward part of a table, for any choice of saved rows: it executes the sheet, and its stacks hold what was saved.
-use Prim.Native.Nat.{ℕ, zero, suc, _+_, _-_, _*_, _≤_, _<_, max}
+use Prim.Native.Nat.{ℕ, zero, suc, _+_, _≤_, _<_}
 use mathlib.Core.Path.{_≡_, refl, sym, ap, subst, _∙_}
 use mathlib.Core.Bool.{Bool, true, false, cond}
-use mathlib.Core.List.{List, [], _∷_, _++_, map}
+use mathlib.Core.List.{List, _∷_, _++_, map}
 use mathlib.Core.Option.{Option, none, some}
-use lib.ListN.{length, set, getElem?, length-set, length-append, length-map, getD}
-use lib.Seq.{set-append-left}
-use lib.Dec.{T, ltb, lt→ltb}
+use lib.ListN.{length, length-map, getD}
 use native.Mathlib.Nat.{suc-mul}
 use native.Mathlib.Omega.{arith}
-use Rattle.number.specs.Arithmetic.{Arithmetic, Outcome, value, stop}
-use Rattle.number.specs.Constants.{signed}
+use Rattle.number.specs.Arithmetic.{Arithmetic}
 use Rattle.sheet.specs.Tree.{Tree, done, one, fork, again, rows, RowNumber}
-use Rattle.sheet.specs.Rows.{Assignment, _≔_, Source, copy, fixed, sum, difference, product, negation, Test, less}
-use Rattle.sheet.specs.Names.{SourcePresent, AssignmentPresent, TestPresent, Present}
+use Rattle.sheet.specs.Rows.{Assignment, _≔_, Source, Test}
+use Rattle.sheet.specs.Names.{SourcePresent, AssignmentPresent, Present}
 use Rattle.sets.specs.Transfers.{Activity}
 use Rattle.sets.specs.Marks.{Marked, MarkedTest, numbered}
-use Rattle.table.specs.TableRows.{Table, ofRow, itself, turning, saving, Action, assign, save, takeBack, saveTurn, clear, turnRound, turnWord, tableVariables}
-use Rattle.table.specs.Adjoint.{put, putIf, targetOf, forwardRow, forwardPart}
+use Rattle.table.specs.TableRows.{Table, ofRow, itself, turning, saving, assign, save, saveTurn, turnWord}
+use Rattle.table.specs.Adjoint.{put, putIf, forwardRow, forwardPart}
 use Rattle.table.specs.Sizes.{valuesNeeded, turnsNeeded}
-use Rattle.run.specs.Attempts.{Attempt, through, halted, stuck, _>>=_, whole, look, present, replaced, pushed}
-use Rattle.run.specs.Actions.{Memory, Setting, evaluated, acted, tested, compared, verdictOn, stored}
-use Rattle.claims.specs.Execution.{Executed, Progress, Stop, from, onward, performed, turned, chosen, executed}
+use Rattle.run.specs.Attempts.{Attempt, through, halted, stuck, _>>=_, present, replaced}
+use Rattle.run.specs.Actions.{Memory, Setting, evaluated, acted, compared, verdictOn, stored}
+use Rattle.claims.specs.Execution.{Progress, Stop, from, onward, performed, turned, chosen, executed}
 use Rattle.claims.specs.IdealSweep.{tableRun}
-use Rattle.claims.proofs.Runs.{bind-assoc, bind-same, Performed, was-performed, Runs, stay, row, left, right, last, more, runs}
-use Rattle.claims.proofs.Stores.{at-first-part, known-at}
-use Rattle.claims.proofs.DerivativeRows.{T-true}
+use Rattle.claims.specs.SavedRows.{onto, savedValues}
+use Rattle.claims.proofs.Runs.{bind-assoc, bind-same, was-performed, Runs, stay, row, left, right, last, more, runs}
+use Rattle.claims.proofs.Stores.{is-below}
+use Rattle.claims.proofs.RunsKeepSizes.{performed-keeps, runs-keep}
+use Rattle.claims.proofs.Originals.{evaluated-originals, compared-originals, replaced-original, replaced-alone, looked-up}
 
 -- ---- attempts in turn
 
@@ -47,112 +46,62 @@ module _ (known : ℕ → Assignment → Activity) (saved : ℕ → Assignment �
   body t p = numbered marking t p
 
   module _ (A : Arithmetic) where
-    abbrev valueBefore : Assignment → List (A .Carrier) → A .Carrier
-    valueBefore (d ≔ source) store = getD store d (A .zero)
-
-    abbrev onto : Bool → A .Carrier → List (A .Carrier) → List (A .Carrier)
-    onto true x xs = x ∷ xs
-    onto false x xs = xs
-
-    -- the values that a trace saved, the latest first
-    unfoldable pub savedBy : List (Executed A) → List (A .Carrier)
-    savedBy [] = []
-    savedBy (e ∷ earlier) = onto (saved (e .row .index) (e .assignment)) (valueBefore (e .assignment) (e .before)) (savedBy earlier)
-
     -- what the machine's memory is once the forward part has come so far
     abbrev pub memoryOf : (rest copied : List (A .Carrier)) → Progress A → Memory A
-    memoryOf rest copied now = record { store = now .store ++ rest; values = savedBy (now .trace); turns = map turnWord (now .turns); copied = copied }
+    memoryOf rest copied now = record { store = now .store ++ rest; values = savedValues A saved (now .trace); turns = map turnWord (now .turns); copied = copied }
 
     -- ---- an execution keeps the store's size, and saves no more than is counted
 
     module _ (constants : List ℕ) where
-      onto-length : (test : Bool) (x : A .Carrier) (xs : List (A .Carrier)) → length (onto test x xs) ≡ cond test 1 0 + length xs
+      onto-length : (test : Bool) (x : A .Carrier) (xs : List (A .Carrier)) → length (onto A saved test x xs) ≡ cond test 1 0 + length xs
       onto-length true x xs = omega arith
       onto-length false x xs = omega arith
 
       pub record Grown (t : Tree Assignment Test) (p : ℕ) (s e : Progress A) : Type 0 where
-        pub store : length (e .store) ≡ length (s .store)
-        pub values : length (savedBy (e .trace)) ≤ length (savedBy (s .trace)) + valuesNeeded (body t p)
+        pub values : length (savedValues A saved (e .trace)) ≤ length (savedValues A saved (s .trace)) + valuesNeeded (body t p)
         pub turns : length (e .turns) ≤ length (s .turns) + turnsNeeded (body t p)
 
       -- one assignment
       pub record OneMore (p : ℕ) (b : Assignment) (s m : Progress A) : Type 0 where
-        pub store : length (m .store) ≡ length (s .store)
-        pub values : length (savedBy (m .trace)) ≡ cond (saved p b) 1 0 + length (savedBy (s .trace))
+        pub values : length (savedValues A saved (m .trace)) ≡ cond (saved p b) 1 0 + length (savedValues A saved (s .trace))
         pub turns : m .turns ≡ s .turns
 
       pub one-more : (p : ℕ) (b : Assignment) (s m : Progress A) → performed A constants p b s ≡ through m → OneMore p b s m
-      unfolding savedBy
+      unfolding savedValues
       one-more p (d ≔ source) s m e =
           let done = was-performed A constants p d source s m e in
           subst (OneMore p (d ≔ source) s) (sym (done .goes))
           (record {
-            store = length-set (s .store) d (done .value);
-            values = onto-length (saved p (d ≔ source)) (getD (s .store) d (A .zero)) (savedBy (s .trace));
+            values = onto-length (saved p (d ≔ source)) (getD (s .store) d (A .zero)) (savedValues A saved (s .trace));
             turns = refl;
           })
 
       pub grown : {t : Tree Assignment Test} {p : ℕ} {s e : Progress A} → Runs A constants t p s e → Grown t p s e
       unfolding numbered valuesNeeded turnsNeeded
-      grown stay = record { store = refl; values = omega arith; turns = omega arith }
+      grown stay = record { values = omega arith; turns = omega arith }
       grown (row {b = b} {p = p} {s = s} {m = m} h r) =
           let one = one-more p b s m h in
           let rest = grown r in
-          record { store = rest .store ∙ one .store; values = omega (arith, one .values, rest .values); turns = omega (arith, ap length (one .turns), rest .turns) }
+          record { values = omega (arith, one .values, rest .values); turns = omega (arith, ap length (one .turns), rest .turns) }
       grown (left h f r) =
           let first = grown f in
           let rest = grown r in
-          record { store = rest .store ∙ first .store; values = omega arith; turns = omega arith }
+          record { values = omega arith; turns = omega arith }
       grown (right h f r) =
           let second = grown f in
           let rest = grown r in
-          record { store = rest .store ∙ second .store; values = omega arith; turns = omega arith }
+          record { values = omega arith; turns = omega arith }
       grown (last f r) =
           let turn = grown f in
           let rest = grown r in
-          record { store = rest .store ∙ turn .store; values = omega arith; turns = omega arith }
+          record { values = omega arith; turns = omega arith }
       grown (more {n = n} {a = a} {p = p} f r) =
           let turn = grown f in
           let rest = grown r in
           record {
-            store = rest .store ∙ turn .store;
             values = omega (arith, suc-mul (suc n) (valuesNeeded (body a (suc p))));
             turns = omega (arith, suc-mul (suc n) (turnsNeeded (body a (suc p))));
           }
-
-    -- ---- looking among the originals
-
-    module _ (v k : ℕ) (store tail : List (A .Carrier)) (n : length store ≡ v) where
-      same-original : (i : ℕ) → i < v → getElem? (store ++ tail) i ≡ getElem? store i
-      same-original i h = at-first-part store tail i (omega arith)
-
-      evaluated-originals : (constants : List ℕ) (source : Source) → SourcePresent v k source
-          → evaluated A constants source (store ++ tail) ≡ evaluated A constants source store
-      unfolding evaluated SourcePresent
-      evaluated-originals constants (copy a) p = rw (same-original a p)
-      evaluated-originals constants (fixed c) p = refl
-      evaluated-originals constants (sum a b) p = rw (same-original a (p .0), same-original b (p .1))
-      evaluated-originals constants (difference a b) p = rw (same-original a (p .0), same-original b (p .1))
-      evaluated-originals constants (product a b) p = rw (same-original a (p .0), same-original b (p .1))
-      evaluated-originals constants (negation a) p = rw (same-original a p)
-
-      compared-originals : (f : Test) → TestPresent v f → compared A f (store ++ tail) ≡ compared A f store
-      unfolding compared TestPresent
-      compared-originals (less a b) p = rw (same-original a (p .0), same-original b (p .1))
-
-      -- a number put among the originals goes where it goes without the tail
-      pub replaced-original : {W : Type 0} (d : ℕ) (x : A .Carrier) → d < v → replaced {Why = W} (store ++ tail) d x ≡ through (set store d x ++ tail)
-      replaced-original d x h =
-          let there : d < length (store ++ tail) = omega (arith, length-append store tail) in
-          rw (T-true {b = ltb d (length (store ++ tail))} (lt→ltb d (length (store ++ tail)) there), set-append-left store tail d x (omega arith))
-
-      pub replaced-alone : {W : Type 0} (d : ℕ) (x : A .Carrier) → d < v → replaced {Why = W} store d x ≡ through (set store d x)
-      replaced-alone d x h =
-          let there : d < length store = omega arith in
-          rw (T-true {b = ltb d (length store)} (lt→ltb d (length store) there))
-
-      looked-up : (d : ℕ) → d < v → getElem? (store ++ tail) d ≡ some (getD store d (A .zero))
-      looked-up d h = same-original d h ∙ known-at store d (A .zero) (omega arith)
 
     -- ---- the forward part
 
@@ -163,17 +112,17 @@ module _ (known : ℕ → Assignment → Activity) (saved : ℕ → Assignment �
       -- room on both stacks for what is still to come
       abbrev Room : Progress A → (values turns : ℕ) → Type 0
       Room now values turns =
-          (length (savedBy (now .trace)) + values ≤ setting .valueRoom) × (length (now .turns) + turns ≤ setting .turnRoom)
+          (length (savedValues A saved (now .trace)) + values ≤ setting .valueRoom) × (length (now .turns) + turns ≤ setting .turnRoom)
 
       assigned : (rest : Table) (p d : ℕ) (source : Source) (now : Progress A) (values : List (A .Carrier)) → length (now .store) ≡ setting .variables
           → d < setting .variables → SourcePresent (setting .variables) k source
-          → savedBy (record { row = record { index = p }; assignment = d ≔ source; before = now .store } ∷ now .trace) ≡ values
+          → savedValues A saved (record { row = record { index = p }; assignment = d ≔ source; before = now .store } ∷ now .trace) ≡ values
           → tableRun A setting (put (record { index = p }) itself (assign (d ≔ source)) rest)
           (record { store = now .store ++ tail; values = values; turns = map turnWord (now .turns); copied = copied })
           ≡ (performed A (setting .constants) p (d ≔ source) now >>= λ m. tableRun A setting rest (memory m))
       unfolding tableRun acted performed
       assigned rest p d source now values n h q e =
-          rw (evaluated-originals (setting .variables) k (now .store) tail n (setting .constants) source q)
+          rw (evaluated-originals A (setting .variables) k (now .store) tail n (setting .constants) source q)
           (by-value (evaluated A (setting .constants) source (now .store)))
         where
           before : Memory A
@@ -187,37 +136,37 @@ module _ (known : ℕ → Assignment → Activity) (saved : ℕ → Assignment �
           by-value (halted why) = refl
           by-value stuck = refl
           by-value (through x) =
-              rw (replaced-original (setting .variables) k (now .store) tail n {W = A .Why} d x h, replaced-alone (setting .variables) k (now .store) tail n {W = Stop A} d x h, e)
+              rw (replaced-original A (setting .variables) k (now .store) tail n {W = A .Why} d x h, replaced-alone A (setting .variables) k (now .store) tail n {W = Stop A} d x h, e)
 
       saved-first : (rest : Table) (row : RowNumber) (d : ℕ) (now : Progress A) → length (now .store) ≡ setting .variables → d < setting .variables
-          → length (savedBy (now .trace)) < setting .valueRoom
+          → length (savedValues A saved (now .trace)) < setting .valueRoom
           → tableRun A setting (put row saving (save d) rest) (memory now)
           ≡ tableRun A setting rest
           (record {
             store = now .store ++ tail;
-            values = getD (now .store) d (A .zero) ∷ savedBy (now .trace);
+            values = getD (now .store) d (A .zero) ∷ savedValues A saved (now .trace);
             turns = map turnWord (now .turns);
             copied = copied;
           })
       unfolding tableRun acted
       saved-first rest r d now n h room =
-          rw (looked-up (setting .variables) k (now .store) tail n d h, T-true {b = ltb (length (savedBy (now .trace))) (setting .valueRoom)} (lt→ltb _ _ room))
+          rw (looked-up A (setting .variables) k (now .store) tail n d h, is-below (length (savedValues A saved (now .trace))) (setting .valueRoom) room)
 
       -- an assignment's rows: the save, if it is saved, and itself
       forward-row : (rest : Table) (p : ℕ) (b : Assignment) (now : Progress A) → length (now .store) ≡ setting .variables
-          → AssignmentPresent (setting .variables) k b → length (savedBy (now .trace)) + cond (saved p b) 1 0 ≤ setting .valueRoom
+          → AssignmentPresent (setting .variables) k b → length (savedValues A saved (now .trace)) + cond (saved p b) 1 0 ≤ setting .valueRoom
           → tableRun A setting (forwardRow (marking p b) rest) (memory now)
           ≡ (performed A (setting .constants) p b now >>= λ m. tableRun A setting rest (memory m))
-      unfolding forwardRow AssignmentPresent savedBy
+      unfolding forwardRow AssignmentPresent savedValues
       forward-row rest p (d ≔ source) now n named room = by-choice (saved p (d ≔ source)) refl
         where
           by-choice : (choice : Bool) → saved p (d ≔ source) ≡ choice
               → tableRun A setting
               (putIf choice (record { index = p }) saving (save d) (put (record { index = p }) itself (assign (d ≔ source)) rest)) (memory now)
               ≡ (performed A (setting .constants) p (d ≔ source) now >>= λ m. tableRun A setting rest (memory m))
-          by-choice false e = assigned rest p d source now (savedBy (now .trace)) n (named .0) (named .1) (rw e refl)
+          by-choice false e = assigned rest p d source now (savedValues A saved (now .trace)) n (named .0) (named .1) (rw e refl)
           by-choice true e =
-              let enough : length (savedBy (now .trace)) < setting .valueRoom = omega (arith, rw e at room) in
+              let enough : length (savedValues A saved (now .trace)) < setting .valueRoom = omega (arith, rw e at room) in
               saved-first _ (record { index = p }) d now n (named .0) enough
               ∙ assigned rest p d source now _ n (named .0) (named .1) (rw e refl)
 
@@ -227,7 +176,7 @@ module _ (known : ℕ → Assignment → Activity) (saved : ℕ → Assignment �
       unfolding tableRun acted
       turn-saved rest r first now room =
           let enough : length (map turnWord (now .turns)) < setting .turnRoom = omega (arith, length-map (now .turns) turnWord) in
-          rw (T-true {b = ltb (length (map turnWord (now .turns))) (setting .turnRoom)} (lt→ltb _ _ enough))
+          rw (is-below (length (map turnWord (now .turns))) (setting .turnRoom) enough)
 
       -- a branch with its turn saved
       branch-executes : (t : Tree Assignment Test) (at : ℕ) (r : RowNumber) (first : Bool) (now : Progress A)
@@ -269,13 +218,13 @@ module _ (known : ℕ → Assignment → Activity) (saved : ℕ → Assignment �
           ∙ bind-same (performed A (setting .constants) p b now) _ _
           (λ m e.
           let more = one-more (setting .constants) p b now m e in
-          forward-executes kk (suc p) m rest (named .1) (more .store ∙ n)
+          forward-executes kk (suc p) m rest (named .1) (performed-keeps A (setting .constants) p b now m e ∙ n)
           (omega (arith, more .values, room .0), omega (arith, ap length (more .turns), room .1)))
           ∙ sym (bind-assoc (performed A (setting .constants) p b now) _ _)
       forward-executes (fork f a b kk) p now rest named n room =
           let there : RowNumber = record { index = p } in
           let split : ℕ = suc p + rows a in
-          rw (compared-originals (setting .variables) k (now .store) tail n f (named .0))
+          rw (compared-originals A (setting .variables) k (now .store) tail n f (named .0))
           (fork-executes (compared A f (now .store)) now
           (λ x. tableRun A setting (forwardPart (body a (suc p)) (put there turning (saveTurn true) done)) x)
           (λ x. tableRun A setting (forwardPart (body b (suc split)) (put there turning (saveTurn false) done)) x)
@@ -287,19 +236,22 @@ module _ (known : ℕ → Assignment → Activity) (saved : ℕ → Assignment �
           (branch-executes b (suc split) there false now (omega (arith, room .1))
           (forward-executes b (suc split) now _ (named .2) n (omega (arith, room .0), omega (arith, room .1))))
           (λ m e.
-          let grew = grown (setting .constants) (runs A (setting .constants) a (suc p) now m e) in
-          forward-executes kk (suc (suc split + rows b)) (turned A true m) rest (named .3) (grew .store ∙ n)
+          let went = runs A (setting .constants) a (suc p) now m e in
+          let grew = grown (setting .constants) went in
+          forward-executes kk (suc (suc split + rows b)) (turned A true m) rest (named .3) (runs-keep A (setting .constants) went ∙ n)
           (omega (arith, grew .values, room .0), omega (arith, grew .turns, room .1)))
           (λ m e.
-          let grew = grown (setting .constants) (runs A (setting .constants) b (suc split) now m e) in
-          forward-executes kk (suc (suc split + rows b)) (turned A false m) rest (named .3) (grew .store ∙ n)
+          let went = runs A (setting .constants) b (suc split) now m e in
+          let grew = grown (setting .constants) went in
+          forward-executes kk (suc (suc split + rows b)) (turned A false m) rest (named .3) (runs-keep A (setting .constants) went ∙ n)
           (omega (arith, grew .values, room .0), omega (arith, grew .turns, room .1))))
       forward-executes (again zero a kk) p now rest named n room =
           in-turn _ (executed A (setting .constants) a (suc p) now) memory _ _ _
           (forward-executes a (suc p) now done (named .0) n (omega (arith, room .0), omega (arith, room .1)))
           (λ m e.
-          let grew = grown (setting .constants) (runs A (setting .constants) a (suc p) now m e) in
-          forward-executes kk (suc (suc p + rows a)) m rest (named .1) (grew .store ∙ n)
+          let went = runs A (setting .constants) a (suc p) now m e in
+          let grew = grown (setting .constants) went in
+          forward-executes kk (suc (suc p + rows a)) m rest (named .1) (runs-keep A (setting .constants) went ∙ n)
           (omega (arith, grew .values, room .0), omega (arith, grew .turns, room .1)))
       forward-executes (again (suc m) a kk) p now rest named n room =
           let values = suc-mul (suc m) (valuesNeeded (body a (suc p))) in
@@ -307,6 +259,7 @@ module _ (known : ℕ → Assignment → Activity) (saved : ℕ → Assignment �
           in-turn _ (executed A (setting .constants) a (suc p) now) memory _ _ _
           (forward-executes a (suc p) now done (named .0) n (omega (arith, values, room .0), omega (arith, turns, room .1)))
           (λ x e.
-          let grew = grown (setting .constants) (runs A (setting .constants) a (suc p) now x e) in
-          forward-executes (again m a kk) p x rest named (grew .store ∙ n)
+          let went = runs A (setting .constants) a (suc p) now x e in
+          let grew = grown (setting .constants) went in
+          forward-executes (again m a kk) p x rest named (runs-keep A (setting .constants) went ∙ n)
           (omega (arith, values, grew .values, room .0), omega (arith, turns, grew .turns, room .1)))

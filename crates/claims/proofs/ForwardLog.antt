@@ -17,7 +17,8 @@ use Rattle.run.specs.Actions.{Memory, Setting, acted, tested}
 use Rattle.claims.specs.Execution.{Progress, Stop, from, chosen, executed}
 use Rattle.claims.specs.IdealSweep.{tableRun}
 use Rattle.claims.specs.ReadLog.{Entry, isDerivative, notedBy, onThrough, chosenLog, tableLog}
-use Rattle.claims.proofs.Forward.{body, savedBy, memoryOf, forward-executes}
+use Rattle.claims.specs.SavedRows.{savedValues}
+use Rattle.claims.proofs.Forward.{body, memoryOf, forward-executes}
 
 module _ (A : Arithmetic) where
   -- where what is noted first is nothing, and what follows is noted at its end only
@@ -96,7 +97,7 @@ module _ (A : Arithmetic) where
     module _ (known : ℕ → Assignment → Activity) (saved : ℕ → Assignment → Bool) (k : ℕ) (tail copied : List (A .Carrier)) where
       pub forward-notes-nothing : (t : Tree Assignment Test) (p : ℕ) (now : Progress A) (rest : Table) → Present (setting .variables) k t
           → length (now .store) ≡ setting .variables
-          → (length (savedBy known saved A (now .trace)) + valuesNeeded (body known saved t p) ≤ setting .valueRoom)
+          → (length (savedValues A saved (now .trace)) + valuesNeeded (body known saved t p) ≤ setting .valueRoom)
           × (length (now .turns) + turnsNeeded (body known saved t p) ≤ setting .turnRoom)
           → tableLog A setting (forwardPart (body known saved t p) rest) (memoryOf known saved A tail copied now)
           ≡ onThrough A (executed A (setting .constants) t p now) (λ m. tableLog A setting rest (memoryOf known saved A tail copied m))

@@ -1,7 +1,7 @@
 -- The ideal sweep doesn't depend on how many places the stacks have: derivative rows save nothing.
 use Prim.Native.Nat.{ℕ, _+_, _≤_}
-use mathlib.Core.Path.{_≡_, refl, sym, ap, _∙_}
-use mathlib.Core.List.{List, [], _∷_, _++_}
+use mathlib.Core.Path.{_≡_, refl, sym, _∙_}
+use mathlib.Core.List.{List, [], _∷_}
 use native.Mathlib.Omega.{arith}
 use Rattle.number.specs.Arithmetic.{Arithmetic}
 use Rattle.sheet.specs.Tree.{done, RowNumber}
@@ -10,7 +10,7 @@ use Rattle.sheet.specs.Reading.{Sheet}
 use Rattle.sets.specs.Transfers.{Activity}
 use Rattle.table.specs.Adjoint.{derivativeRows}
 use Rattle.run.specs.Attempts.{Attempt, through, halted, stuck, _>>=_}
-use Rattle.run.specs.Actions.{Memory, Setting}
+use Rattle.run.specs.Actions.{Setting}
 use Rattle.run.specs.Calls.{settingOf}
 use Rattle.claims.specs.Execution.{Executed, Stop, execution}
 use Rattle.claims.specs.IdealSweep.{tableRun, derivedBy, swept, Ideal, ideal}

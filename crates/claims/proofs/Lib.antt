@@ -16,6 +16,8 @@ pub mod Stores
 pub mod Accounts
 pub mod DerivativeRows
 pub mod DerivativesAlike
+pub mod Originals
+pub mod ExecutionReady
 pub mod Forward
 pub mod ForwardLog
 pub mod Replay

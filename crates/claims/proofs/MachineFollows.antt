@@ -10,7 +10,7 @@ use lib.Seq.{drop-nil}
 use native.Mathlib.Nat.{zero-add, suc-add, add-zero}
 use native.Mathlib.Omega.{arith}
 use Rattle.number.specs.Arithmetic.{Arithmetic}
-use Rattle.sheet.specs.Tree.{Tree, done, one, fork, again, Line, basic, ifLine, elseLine, endIf, repeat, endRepeat, flat, rows, RowNumber}
+use Rattle.sheet.specs.Tree.{Tree, done, one, fork, again, Line, basic, ifLine, elseLine, endIf, endRepeat, flat, rows, RowNumber}
 use Rattle.table.specs.TableRows.{Origin, TableRow, TableTest, TableLine, Table, linesOf}
 use Rattle.run.specs.Attempts.{Attempt, through, halted, stuck, _>>=_, present}
 use Rattle.run.specs.Actions.{Memory, Setting, Verdict, acted, tested}

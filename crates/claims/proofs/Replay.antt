@@ -26,17 +26,17 @@ use Rattle.run.specs.Actions.{Memory, Setting, acted, tested}
 use Rattle.claims.specs.Execution.{Executed, Progress, Stop, from, onward, turned, chosen}
 use Rattle.claims.specs.IdealSweep.{tableRun, swept}
 use Rattle.claims.specs.ReadLog.{Entry, chosenLog, tableLog, sweptLog}
+use Rattle.claims.specs.SavedRows.{savedValues}
 use Rattle.claims.proofs.Runs.{was-performed, Runs, stay, row, left, right, last, more}
 use Rattle.claims.proofs.Stores.{at-set-same, at-set-other, known-at}
 use Rattle.claims.proofs.Accounts.{Account, account, Same, derived, sweeping, quiet, stopping, noting, nothing-more, noting-more, noting-then, inTurn, in-turn-same}
 use Rattle.claims.proofs.DerivativeRows.{Agree, AdjointSize}
 use Rattle.claims.proofs.DerivativesAlike.{Derives, derives, breaks, derivatives-alike, derivative-rows-same}
-use Rattle.claims.proofs.Forward.{body, savedBy, grown, replaced-original}
+use Rattle.claims.proofs.RunsKeepSizes.{runs-keep}
+use Rattle.claims.proofs.Originals.{replaced-original}
+use Rattle.claims.proofs.Forward.{body}
 
 -- ---- agreement across an assignment
-
-T-of : {b : Bool} → b ≡ true → T b
-T-of {b} e = rw e tt
 
 module _ (A : Arithmetic) (d : ℕ) (x : A .Carrier) (now then : List (A .Carrier)) (s : VariableSet)
     (agree : Agree A now (set then d x) (without d s)) where
@@ -109,7 +109,7 @@ module _ (known : ℕ → Assignment → Activity) (saved : ℕ → Assignment �
     -- the machine's memory on the way back: other originals, these adjoints, and what is still saved
     abbrev pub memoryBack : (originals adjoints : List (A .Carrier)) → Progress A → Memory A
     memoryBack originals adjoints now =
-        record { store = originals ++ adjoints; values = savedBy known saved A (now .trace); turns = map turnWord (now .turns); copied = copied }
+        record { store = originals ++ adjoints; values = savedValues A saved (now .trace); turns = map turnWord (now .turns); copied = copied }
 
     abbrev sweep : List (Executed A) → List (A .Carrier) → Account A (List (A .Carrier))
     sweep trace adjoints = sweeping A setting known trace adjoints
@@ -159,7 +159,7 @@ module _ (known : ℕ → Assignment → Activity) (saved : ℕ → Assignment �
           against (breaks stop log f g) = stopped stop log g (e ∙ f (memoryBack others adjoints s) rest)
 
       undo : Undone p d source s m originals adjoints rest
-      unfolding savedBy backwardOf tableRun tableLog acted AssignmentPresent
+      unfolding savedValues backwardOf tableRun tableLog acted AssignmentPresent
       undo = by-choice (saved p (d ≔ source)) refl
         where
           before : A .Carrier
@@ -169,7 +169,7 @@ module _ (known : ℕ → Assignment → Activity) (saved : ℕ → Assignment �
           by-choice true e =
               derive (set originals d before) (length-set originals d before ∙ o)
               (agree-restored A d x originals (s .store) needed agree before (omega (arith, named .0)) (known-at (s .store) d (A .zero) (omega (arith, named .0))))
-              (rw (e, replaced-original known saved A v k originals adjoints o {W = A .Why} d before (named .0)) refl)
+              (rw (e, replaced-original A v k originals adjoints o {W = A .Why} d before (named .0)) refl)
           by-choice false e =
               derive originals o (agree-kept A d x originals (s .store) needed agree (unneeded covers p d source e)) (rw e refl)
 
@@ -344,48 +344,44 @@ module _ (known : ℕ → Assignment → Activity) (saved : ℕ → Assignment �
         let end : ℕ = suc split + rows b in
         let hb = holds-after a (suc p) _ (h .1) in
         let hk = holds-after b (suc split) _ (hb .1) in
-        let grew = grown known saved A (setting .constants) f in
         let rest-of = fork onTurn (back a (suc p)) (back b (suc split)) rest in
         around (fork g a b kk) a kk p (suc p) (suc end) s m (turned A true m) e originals adjoints rest rest-of refl refl
         (λ others next. opens-left (back a (suc p)) (back b (suc split)) rest others next m)
         (λ i w. enough-covers a (suc p) _ (h .1) i (rw (h .0) w))
         (λ others next l q fit. retraces f (named .1) n _ (h .1) others next l q
         (λ i w. fit i (enough-covers kk (suc end) es (hk .1) i (rw (hk .0) (union-left (at split) (at end) i w)))) done)
-        (retraces r (named .3) (grew .store ∙ n) es (hk .1) originals adjoints o z (subst (λ q. Agree A originals (e .store) (at q)) (omega arith) agree) rest-of)
+        (retraces r (named .3) (runs-keep A (setting .constants) f ∙ n) es (hk .1) originals adjoints o z (subst (λ q. Agree A originals (e .store) (at q)) (omega arith) agree) rest-of)
     retraces (right {f = g} {a = a} {b = b} {k = kk} {p = p} {s = s} {m = m} {e = e} test f r) named n es h originals adjoints o z agree rest =
         let split : ℕ = suc p + rows a in
         let end : ℕ = suc split + rows b in
         let hb = holds-after a (suc p) _ (h .1) in
         let hk = holds-after b (suc split) _ (hb .1) in
-        let grew = grown known saved A (setting .constants) f in
         let rest-of = fork onTurn (back a (suc p)) (back b (suc split)) rest in
         around (fork g a b kk) b kk p (suc split) (suc end) s m (turned A false m) e originals adjoints rest rest-of refl refl
         (λ others next. opens-right (back a (suc p)) (back b (suc split)) rest others next m)
         (λ i w. enough-covers b (suc split) _ (hb .1) i (rw (hb .0) w))
         (λ others next l q fit. retraces f (named .2) n _ (hb .1) others next l q
         (λ i w. fit i (enough-covers kk (suc end) es (hk .1) i (rw (hk .0) (union-right (at split) (at end) i w)))) done)
-        (retraces r (named .3) (grew .store ∙ n) es (hk .1) originals adjoints o z (subst (λ q. Agree A originals (e .store) (at q)) (omega arith) agree) rest-of)
+        (retraces r (named .3) (runs-keep A (setting .constants) f ∙ n) es (hk .1) originals adjoints o z (subst (λ q. Agree A originals (e .store) (at q)) (omega arith) agree) rest-of)
     retraces (last {a = a} {k = kk} {p = p} {s = s} {m = m} {e = e} f r) named n es h originals adjoints o z agree rest =
         let end : ℕ = suc p + rows a in
         let hk = holds-after a (suc p) _ (h .1) in
-        let grew = grown known saved A (setting .constants) f in
         around (again zero a kk) a kk p (suc p) (suc end) s m m e originals adjoints rest (again zero (back a (suc p)) rest) refl refl
         (λ others next. opens-turn (back a (suc p)) rest (memoryBack others next m))
         (λ i w. enough-covers a (suc p) _ (h .1) i w)
         (λ others next l q fit. retraces f (named .0) n _ (h .1) others next l q
         (λ i w. fit i (enough-covers kk (suc end) es (hk .1) i (rw (hk .0) w))) done)
-        (retraces r (named .1) (grew .store ∙ n) es (hk .1) originals adjoints o z (subst (λ q. Agree A originals (e .store) (at q)) (omega arith) agree)
+        (retraces r (named .1) (runs-keep A (setting .constants) f ∙ n) es (hk .1) originals adjoints o z (subst (λ q. Agree A originals (e .store) (at q)) (omega arith) agree)
         (again zero (back a (suc p)) rest))
     retraces (more {n = c} {a = a} {k = kk} {p = p} {s = s} {m = m} {e = e} f r) named n es h originals adjoints o z agree rest =
         let end : ℕ = suc p + rows a in
-        let grew = grown known saved A (setting .constants) f in
         around (again (suc c) a kk) a (again c a kk) p (suc p) p s m m e originals adjoints rest (again zero (back a (suc p)) rest) refl
         (back-same kk (suc end) (named .1) (again (suc c) (back a (suc p)) rest) (again c (back a (suc p)) (again zero (back a (suc p)) rest))
         (last-turn c (back a (suc p)) rest) (memoryBack originals adjoints e))
         (λ others next. opens-turn (back a (suc p)) rest (memoryBack others next m))
         (λ i w. enough-covers a (suc p) _ (h .1) i w)
         (λ others next l q fit. retraces f (named .0) n _ (h .1) others next l q (λ i w. fit i (rw (h .0) (union-right (at p) (at end) i w))) done)
-        (retraces r named (grew .store ∙ n) es h originals adjoints o z agree (again zero (back a (suc p)) rest))
+        (retraces r named (runs-keep A (setting .constants) f ∙ n) es h originals adjoints o z agree (again zero (back a (suc p)) rest))
 
     -- ---- the run and the log, each by itself
 
@@ -422,7 +418,7 @@ module _ (known : ℕ → Assignment → Activity) (saved : ℕ → Assignment �
         → tableLog A setting (backwardPart v (body known saved t 0) done) (memoryBack (e .store) adjoints e) ≡ sweptLog A setting known (e .trace) adjoints
     unfolding tableLog sweptLog
     backward-notes {t} {starts} {e} run named n es h adjoints z =
-        by-end (replays run named n es h (e .store) adjoints (grown known saved A (setting .constants) run .store ∙ n) z (λ i m. refl) done)
+        by-end (replays run named n es h (e .store) adjoints (runs-keep A (setting .constants) run ∙ n) z (λ i m. refl) done)
       where
         by-end : Replays t 0 (record { store = starts; trace = []; turns = [] }) e (e .store) adjoints done
             → tableLog A setting (backwardPart v (body known saved t 0) done) (memoryBack (e .store) adjoints e) ≡ sweptLog A setting known (e .trace) adjoints

@@ -1,14 +1,13 @@
 -- In residues an assignment's derivative rows always go through; what they add to each adjoint.
-use Prim.Native.Nat.{ℕ, zero, suc, _+_, _*_, _<_}
+use Prim.Native.Nat.{ℕ, _+_, _*_, _<_}
 use mathlib.Core.Path.{_≡_, refl, sym, ap, _∙_}
 use mathlib.Core.Bool.{Bool, true, false, cond}
-use mathlib.Core.List.{List, [], _∷_, _++_}
-use mathlib.Core.Option.{some}
-use lib.ListN.{length, getD, set, getElem?, length-set, length-append}
+use mathlib.Core.List.{List, [], _++_}
+use lib.ListN.{length, getD, set, length-set, length-append}
 use lib.Seq.{getD-set-same, getD-set-other, drop-at}
-use lib.Dec.{eqb, ltb, lt→ltb}
+use lib.Dec.{eqb}
 use native.Mathlib.Decide.{ℕ-discrete}
-use native.Mathlib.Nat.{suc-add, zero-add, add-zero, add-assoc, not-suc-le-zero, le-of-suc-le-suc}
+use native.Mathlib.Nat.{add-zero, add-assoc}
 use native.Mathlib.Omega.{arith}
 use Rattle.number.specs.Residues.{modulus, residue, opposite, residues}
 use Rattle.number.proofs.ResidueLaws.{residue-below, residue-same, residue-sum-left, residue-sum-right, opposite-of-one}
@@ -16,36 +15,13 @@ use Rattle.sheet.specs.Tree.{done, RowNumber}
 use Rattle.sheet.specs.Rows.{_≔_, Source, copy, fixed, sum, difference, product, negation}
 use Rattle.sheet.specs.Names.{SourcePresent}
 use Rattle.sets.specs.Transfers.{firstRead, secondRead, Activity}
-use Rattle.sets.proofs.Truths.{of-T}
 use Rattle.table.specs.TableRows.{t, u, Action, assign, clear, Operation, holding, clearing, scalingForA, addingToA, scalingForB, addingToB, Table}
 use Rattle.table.specs.Adjoint.{put, putIf, addInto, subtractFrom, scaled, partsOf, derivativeRows}
 use Rattle.run.specs.Attempts.{through, look, replaced}
 use Rattle.run.specs.Actions.{Memory, Setting, acted}
 use Rattle.claims.specs.IdealSweep.{tableRun, derivedBy}
+use Rattle.claims.proofs.Stores.{is-below, known-at, at-first-part, at-second-part, set-second-part}
 use Rattle.claims.proofs.EquationTwoSolved.{eqb-same, eqb-other, firstFactor, secondFactor, share}
-
--- ---- places of a list that is two lists
-
-pub at-present : (xs : List ℕ) (i : ℕ) → i < length xs → getElem? xs i ≡ some (getD xs i 0)
-at-present [] i h = absurd (not-suc-le-zero h)
-at-present (x ∷ xs) zero h = refl
-at-present (x ∷ xs) (suc i) h = at-present xs i (le-of-suc-le-suc h)
-
-left-present : (xs ys : List ℕ) (i : ℕ) → i < length xs → getElem? (xs ++ ys) i ≡ some (getD xs i 0)
-left-present [] ys i h = absurd (not-suc-le-zero h)
-left-present (x ∷ xs) ys zero h = refl
-left-present (x ∷ xs) ys (suc i) h = left-present xs ys i (le-of-suc-le-suc h)
-
-right-place : (xs ys : List ℕ) (i : ℕ) → getElem? (xs ++ ys) (length xs + i) ≡ getElem? ys i
-right-place [] ys i = ap (getElem? ys) (zero-add i)
-right-place (x ∷ xs) ys i = ap (getElem? (x ∷ (xs ++ ys))) (suc-add (length xs) i) ∙ right-place xs ys i
-
-set-right : (xs ys : List ℕ) (i y : ℕ) → set (xs ++ ys) (length xs + i) y ≡ xs ++ set ys i y
-set-right [] ys i y = ap (λ k. set ys k y) (zero-add i)
-set-right (x ∷ xs) ys i y = ap (λ k. set (x ∷ (xs ++ ys)) k y) (suc-add (length xs) i) ∙ ap (λ r. x ∷ r) (set-right xs ys i y)
-
-pub is-below : (i n : ℕ) → i < n → ltb i n ≡ true
-is-below i n h = of-T (ltb i n) (lt→ltb i n h)
 
 -- a list of residues, one of them replaced
 set-below : (α : List ℕ) (i y : ℕ) → i < length α → y < modulus → ((x : ℕ) → getD α x 0 < modulus) → (x : ℕ) → getD (set α i y) x 0 < modulus
@@ -102,15 +78,15 @@ module _ (setting : Setting residues) (originals : List ℕ) (sized : length ori
   memoryOf α = record { store = originals ++ α; values = []; turns = []; copied = [] }
 
   look-original : (α : List ℕ) (i : ℕ) → i < v → look {Why = ⊥} (originals ++ α) i ≡ through (getD originals i 0)
-  look-original α i h = rw (left-present originals α i (rw sized h))
+  look-original α i h = rw (at-first-part originals α i (rw sized h) ∙ known-at originals i 0 (rw sized h))
 
   look-adjoint : (α : List ℕ) (q i : ℕ) → q ≡ v + i → i < length α → look {Why = ⊥} (originals ++ α) q ≡ through (getD α i 0)
-  look-adjoint α q i e h = rw (e, ← sized, right-place originals α i, at-present α i h)
+  look-adjoint α q i e h = rw (e, ← sized, at-second-part originals α i, known-at α i 0 h)
 
   adjoint-replaced : (α : List ℕ) (q i y : ℕ) → q ≡ v + i → i < length α → replaced {Why = ⊥} (originals ++ α) q y ≡ through (originals ++ set α i y)
   adjoint-replaced α q i y e h =
       let inside : q < length (originals ++ α) = rw (length-append originals α, sized, e) (omega arith) in
-      let placed : set (originals ++ α) q y ≡ originals ++ set α i y = rw (e, ← sized) (set-right originals α i y) in
+      let placed : set (originals ++ α) q y ≡ originals ++ set α i y = rw (e, ← sized) (set-second-part originals α i y) in
       rw (is-below q (length (originals ++ α)) inside, placed)
 
   -- t := d̄

@@ -1,12 +1,12 @@
 -- What a run has checked once refusals 1 to 11 are past.
-use Prim.Native.Nat.{ℕ, _+_, _*_, _≤_}
-use mathlib.Core.Path.{_≡_, refl, sym, ap, subst, _∙_}
-use mathlib.Core.Bool.{Bool, true}
+use Prim.Native.Nat.{ℕ, _*_, _≤_}
+use mathlib.Core.Path.{_≡_, sym, subst}
+use mathlib.Core.Bool.{true}
 use mathlib.Core.List.{List, _++_}
 use lib.ListN.{length}
 use lib.Dec.{T, leb, eqb, leb→le, eqb→eq}
 use Rattle.number.specs.Arithmetic.{Arithmetic}
-use Rattle.sheet.specs.Refusals.{Answer, given, smallTable, smallValueStack, smallTurnStack, wrongStarts, wrongSeeds, wrongResult}
+use Rattle.sheet.specs.Refusals.{given, smallTable, smallValueStack, smallTurnStack, wrongStarts, wrongSeeds, wrongResult}
 use Rattle.sheet.specs.Reading.{Sheet, variablesOf, read, unless}
 use Rattle.sheet.proofs.ReadingParts.{bound, passed, same-given}
 use Rattle.sets.specs.Marks.{marked}

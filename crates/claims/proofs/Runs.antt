@@ -2,7 +2,7 @@
 use Prim.Native.Nat.{ℕ, zero, suc, _+_, _<_}
 use mathlib.Core.Path.{_≡_, refl, subst}
 use mathlib.Core.Bool.{Bool, true, false, cond}
-use mathlib.Core.List.{List, [], _∷_}
+use mathlib.Core.List.{List}
 use mathlib.Core.Option.{Option, none, some}
 use lib.ListN.{length, set}
 use lib.Dec.{ltb, ltb→lt}
@@ -13,7 +13,7 @@ use Rattle.sheet.specs.Rows.{Assignment, _≔_, Source, Test}
 use Rattle.table.specs.TableRows.{Origin, ofRow, itself}
 use Rattle.run.specs.Attempts.{Attempt, through, halted, stuck, _>>=_, present, replaced}
 use Rattle.run.specs.Actions.{evaluated, compared}
-use Rattle.claims.specs.Execution.{Progress, Stop, from, onward, performed, turned, chosen, executed}
+use Rattle.claims.specs.Execution.{Progress, from, onward, performed, turned, chosen, executed}
 
 -- ---- attempts in turn
 

@@ -1,29 +1,28 @@
 -- What the calls come to once refusals 1 to 11 are past: 0 or 12, never stuck, in audit 0; and the same whatever further rows are saved.
-use Prim.Native.Nat.{ℕ, _≤_}
+use Prim.Native.Nat.{ℕ}
 use mathlib.Core.Path.{_≡_, refl, sym, ap, ap₂, subst, _∙_}
 use mathlib.Core.Logic.{_⊎_, inl, inr}
-use mathlib.Core.Bool.{Bool, true, false, _||_, or-false}
-use mathlib.Core.List.{List, [], _++_}
-use lib.ListN.{length, drop}
+use mathlib.Core.Bool.{Bool, false, or-false}
+use mathlib.Core.List.{List}
+use lib.ListN.{length}
 use Rattle.number.specs.Arithmetic.{Arithmetic}
 use Rattle.number.specs.Residues.{residues}
 use Rattle.sheet.specs.Tree.{done, one, fork, again, RowNumber}
-use Rattle.sheet.specs.Refusals.{given, numberOf, placeOf, notFiniteResult}
+use Rattle.sheet.specs.Refusals.{given, numberOf}
 use Rattle.sheet.specs.Reading.{Sheet, variablesOf, read}
 use Rattle.sets.specs.Marks.{marked}
-use Rattle.table.specs.Adjoint.{Body, adjointTable, tableOf}
-use Rattle.table.specs.Sizes.{valuesNeeded, turnsNeeded}
+use Rattle.table.specs.Adjoint.{Body, tableOf}
 use Rattle.run.specs.Attempts.{Attempt, through, halted, stuck}
-use Rattle.run.specs.Actions.{Memory, Setting}
-use Rattle.run.specs.Machine.{Ending, finished, stoppedAt}
-use Rattle.run.specs.Calls.{Lent, Ran, settingOf, startOf, runOf, resultOf, lentAfter, ranTo, ranOn, readToRun, run}
+use Rattle.run.specs.Actions.{Setting}
+use Rattle.run.specs.Machine.{Ending}
+use Rattle.run.specs.Calls.{Lent, settingOf, startOf, runOf, resultOf, ranTo, ranOn, readToRun, run}
 use Rattle.claims.specs.Execution.{Stop}
 use Rattle.claims.specs.IdealSweep.{Ideal, ideal}
 use Rattle.claims.specs.SavedRows.{alsoSaving}
-use Rattle.claims.specs.WholeRun.{runSaving, Room, Ended, Matches, AnswersAs, SameOutcome, bothEnd, bothStop}
+use Rattle.claims.specs.WholeRun.{runSaving, Room, Matches, AnswersAs, SameOutcome, bothEnd, bothStop}
 use Rattle.claims.proofs.IdealRooms.{ideal-in-any-room}
 use Rattle.claims.proofs.WholeRunMatches.{run-matches}
-use Rattle.claims.proofs.RunAccepted.{RunAccepted, run-accepted}
+use Rattle.claims.proofs.RunAccepted.{run-accepted}
 
 -- ---- no further row saved is the table as it is
 

@@ -1,12 +1,18 @@
 -- A store is the originals and then the adjoints, t and u: looking and putting in either part.
-use Prim.Native.Nat.{ℕ, zero, suc, _+_, _-_, _≤_, _<_, zero-le, suc-le-suc}
+use Prim.Native.Nat.{ℕ, zero, suc, _+_, _<_, zero-le, suc-le-suc}
 use mathlib.Core.Path.{_≡_, refl, sym, ap, _∙_}
 use mathlib.Core.Logic.{_≢_}
 use mathlib.Core.List.{List, [], _∷_, _++_}
-use mathlib.Core.Option.{Option, none, some, Option·getD}
+use mathlib.Core.Option.{some, Option·getD}
 use lib.ListN.{length, set, getD, getElem?}
+use mathlib.Core.Bool.{true}
+use lib.Dec.{ltb, lt→ltb}
 use native.Mathlib.Nat.{suc-add, zero-add, not-suc-le-zero, le-of-suc-le-suc}
 use native.Mathlib.Omega.{arith}
+use Rattle.sets.proofs.Truths.{of-T}
+
+pub is-below : (i n : ℕ) → i < n → ltb i n ≡ true
+is-below i n h = of-T (ltb i n) (lt→ltb i n h)
 
 module _ {X : Type 0} where
   pub at-known : (xs : List X) (i : ℕ) → i < length xs → (x : X) × (getElem? xs i ≡ some x)

@@ -1,18 +1,16 @@
 -- Every run of an accepted sheet matches the ideal, for any choice of saved rows that includes the recorded ones.
-use Prim.Native.Nat.{ℕ, zero, suc, _+_, _*_, _≤_, _<_}
+use Prim.Native.Nat.{ℕ, zero, suc, _+_, _*_, _≤_}
 use mathlib.Core.Path.{_≡_, refl, sym, ap, subst, _∙_}
-use mathlib.Core.Bool.{Bool, true, false, cond, _||_}
+use mathlib.Core.Bool.{Bool, true, _||_}
 use mathlib.Core.List.{List, [], _∷_, _++_, map, append-assoc}
-use mathlib.Core.Option.{Option, none, some}
-use lib.ListN.{length, take, drop, getD, getElem?, replicate, length-append}
+use lib.ListN.{length, take, drop, replicate, length-append}
 use lib.Seq.{take-at, drop-at, drop-append-add}
 use native.Mathlib.Nat.{suc-add, zero-add}
 use native.Mathlib.Omega.{arith}
-use Rattle.number.specs.Arithmetic.{Arithmetic, Outcome}
+use Rattle.number.specs.Arithmetic.{Arithmetic}
 use Rattle.sheet.specs.Tree.{Tree, done, one, fork, again, rows, RowNumber}
 use Rattle.sheet.specs.Refusals.{given}
-use Rattle.sheet.specs.Rows.{Assignment, _≔_, Source, copy, fixed, sum, difference, product, negation, Test, less}
-use Rattle.sheet.specs.Names.{SourcePresent, AssignmentPresent, TestPresent, Present}
+use Rattle.sheet.specs.Rows.{Assignment, Test}
 use Rattle.sheet.specs.Reading.{Sheet, variablesOf, read}
 use Rattle.sheet.proofs.NamesPresent.{names-present}
 use Rattle.sets.specs.Equations.{setAt, Satisfy, forward}
@@ -20,89 +18,22 @@ use Rattle.sets.specs.Transfers.{Activity, recordedBy, requiredAfter}
 use Rattle.sets.specs.Marks.{Marked, MarkedTest, varied, useful, required, activityAt, requiredEquations, numbered, markBy, marked}
 use Rattle.sets.proofs.SetsLeast.{required-least}
 use Rattle.table.specs.TableRows.{Table, turnWord, turnRound, ofTurningRound}
-use Rattle.table.specs.Adjoint.{Body, forwardPart, backwardPart, adjointTable}
+use Rattle.table.specs.Adjoint.{backwardPart, adjointTable}
 use Rattle.table.specs.Sizes.{valuesNeeded, turnsNeeded}
-use Rattle.run.specs.Attempts.{Attempt, through, halted, stuck, _>>=_, whole, look, present, replaced}
-use Rattle.run.specs.Actions.{Memory, Setting, evaluated, compared, acted, seeded, turnedRound}
-use Rattle.run.specs.Machine.{Ending, finished, stoppedAt}
+use Rattle.run.specs.Attempts.{Attempt, through, halted, _>>=_}
+use Rattle.run.specs.Actions.{Memory, Setting, acted, seeded, turnedRound}
 use Rattle.run.specs.Calls.{settingOf, startOf, runOf}
-use Rattle.claims.specs.Execution.{Progress, Stop, from, performed, turned, chosen, executed, execution}
+use Rattle.claims.specs.Execution.{Progress, Stop, execution}
 use Rattle.claims.specs.IdealSweep.{tableRun, swept, Ideal, ideal}
-use Rattle.claims.specs.SavedRows.{alsoSaving}
-use Rattle.claims.specs.WholeRun.{runSaving, Room, Ended, Matches}
+use Rattle.claims.specs.SavedRows.{alsoSaving, savedValues}
+use Rattle.claims.specs.WholeRun.{runSaving, Room, Matches}
 use Rattle.claims.proofs.Runs.{Runs, runs}
-use Rattle.claims.proofs.Stores.{known-at}
-use Rattle.claims.proofs.DerivativeRows.{Ready, gives, stops, whole-ready, AdjointSize}
-use Rattle.claims.proofs.Forward.{marking, body, savedBy, memoryOf, grown, one-more, replaced-alone, forward-executes}
+use Rattle.claims.proofs.RunsKeepSizes.{runs-keep}
+use Rattle.claims.proofs.ExecutionReady.{executed-ready}
+use Rattle.claims.proofs.DerivativeRows.{Ready, gives, stops, AdjointSize}
+use Rattle.claims.proofs.Forward.{body, memoryOf, forward-executes}
 use Rattle.claims.proofs.Replay.{Replays, replayed, stoppedShort, replays}
 use Rattle.claims.proofs.MachineFollows.{EndsAs, run-follows}
-
--- ---- an execution is never stuck
-
-module _ (A : Arithmetic) (constants : List ℕ) (v : ℕ) where
-  both-ready : (f : A .Carrier → A .Carrier → Outcome (A .Carrier) (A .Why)) (a b : ℕ) (store : List (A .Carrier)) → length store ≡ v
-      → a < v → b < v → Ready (look store a >>= λ x. look store b >>= λ y. whole (f x y))
-  both-ready f a b store n p q = rw (known-at store a (A .zero) (omega arith), known-at store b (A .zero) (omega arith)) (whole-ready (f _ _))
-
-  evaluated-ready : (source : Source) (store : List (A .Carrier)) → length store ≡ v → SourcePresent v (length constants) source
-      → Ready (evaluated A constants source store)
-  unfolding evaluated SourcePresent
-  evaluated-ready (copy a) store n p = rw (known-at store a (A .zero) (omega arith)) (gives _ refl)
-  evaluated-ready (fixed c) store n p = rw (known-at constants c 0 p) (gives _ refl)
-  evaluated-ready (sum a b) store n p = both-ready (A .sum) a b store n (p .0) (p .1)
-  evaluated-ready (difference a b) store n p = both-ready (A .difference) a b store n (p .0) (p .1)
-  evaluated-ready (product a b) store n p = both-ready (A .product) a b store n (p .0) (p .1)
-  evaluated-ready (negation a) store n p = rw (known-at store a (A .zero) (omega arith)) (whole-ready (A .negation _))
-
-  -- one thing after another that isn't stuck
-  ready-then : {W X Y : Type 0} (m : Attempt W X) (next : X → Attempt W Y) → Ready m → ((x : X) → m ≡ through x → Ready (next x)) → Ready (m >>= next)
-  ready-then m next (gives x e) h = rw e (h x e)
-  ready-then m next (stops why e) h = rw e (stops why refl)
-
-  module _ (known : ℕ → Assignment → Activity) (saved : ℕ → Assignment → Bool) where
-    performed-ready : (p : ℕ) (b : Assignment) (now : Progress A) → length (now .store) ≡ v → AssignmentPresent v (length constants) b
-        → Ready (performed A constants p b now)
-    unfolding performed AssignmentPresent
-    performed-ready p (d ≔ source) now n named = after (evaluated-ready source (now .store) n (named .1))
-      where
-        after : Ready (evaluated A constants source (now .store)) → Ready (performed A constants p (d ≔ source) now)
-        after (gives x e) = rw (e, replaced-alone known saved A v 0 (now .store) [] n {W = Stop A} d x (named .0)) (gives _ refl)
-        after (stops why e) = rw e (stops _ refl)
-
-    compared-ready : (f : Test) (store : List (A .Carrier)) → length store ≡ v → TestPresent v f → (first : Bool) × (compared A f store ≡ some first)
-    unfolding compared TestPresent
-    compared-ready (less a b) store n p =
-        (A .less (getD store a (A .zero)) (getD store b (A .zero)), rw (known-at store a (A .zero) (omega arith), known-at store b (A .zero) (omega arith)) refl)
-
-    pub executed-ready : (t : Tree Assignment Test) (p : ℕ) (now : Progress A) → length (now .store) ≡ v → Present v (length constants) t
-        → Ready (executed A constants t p now)
-    unfolding executed Present
-    executed-ready done p now n named = gives now refl
-    executed-ready (one b k) p now n named =
-        ready-then (performed A constants p b now) _ (performed-ready p b now n (named .0))
-        (λ m e. executed-ready k (suc p) m (one-more known saved A constants p b now m e .store ∙ n) (named .1))
-    executed-ready (fork f a b k) p now n named =
-        let way = compared-ready f (now .store) n (named .0) in
-        rw (way .1)
-        (ready-then (chosen A (way .0) (executed A constants a (suc p) now) (executed A constants b (suc (suc p + rows a)) now)) _
-        (either (way .0) (executed-ready a (suc p) now n (named .1)) (executed-ready b (suc (suc p + rows a)) now n (named .2)))
-        (λ m e.
-        executed-ready k (suc (suc (suc p + rows a) + rows b)) (turned A (way .0) m) (size (way .0) m e) (named .3)))
-      where
-        either : (first : Bool) {x y : Attempt (Stop A) (Progress A)} → Ready x → Ready y → Ready (chosen A first x y)
-        either true x y = x
-        either false x y = y
-
-        size : (first : Bool) (m : Progress A)
-            → chosen A first (executed A constants a (suc p) now) (executed A constants b (suc (suc p + rows a)) now) ≡ through m → length (m .store) ≡ v
-        size true m e = grown known saved A constants (runs A constants a (suc p) now m e) .store ∙ n
-        size false m e = grown known saved A constants (runs A constants b (suc (suc p + rows a)) now m e) .store ∙ n
-    executed-ready (again zero a k) p now n named =
-        ready-then (executed A constants a (suc p) now) _ (executed-ready a (suc p) now n (named .0))
-        (λ m e. executed-ready k (suc (suc p + rows a)) m (grown known saved A constants (runs A constants a (suc p) now m e) .store ∙ n) (named .1))
-    executed-ready (again (suc c) a k) p now n named =
-        ready-then (executed A constants a (suc p) now) _ (executed-ready a (suc p) now n (named .0))
-        (λ m e. executed-ready (again c a k) p m (grown known saved A constants (runs A constants a (suc p) now m e) .store ∙ n) named)
 
 -- ---- the marks of a sheet with further rows saved
 
@@ -181,7 +112,7 @@ module _ (A : Arithmetic) (words : List ℕ) (sheet : Sheet) (accepted : read wo
   turning = one (record { origin = ofTurningRound; action = turnRound }) (backwardPart (variablesOf sheet) marks done)
 
   forward-part : tableRun A setting table (memoryAt start) ≡ (execution A sheet starts >>= λ e. tableRun A setting turning (memoryAt e))
-  unfolding adjointTable settingOf savedBy execution
+  unfolding adjointTable settingOf savedValues execution
   forward-part =
       forward-executes (known sheet choice) (saved sheet choice) A setting (length (sheet .constants)) (replicate (variablesOf sheet + 2) (A .zero)) []
       (sheet .body) 0 start turning (names-present words sheet accepted) n (
@@ -207,7 +138,7 @@ module _ (A : Arithmetic) (words : List ℕ) (sheet : Sheet) (accepted : read wo
       ≡ tableRun A setting (backwardPart (variablesOf sheet) marks done)
       (record {
         store = e .store ++ firstAdjoints A (sheet .roles) seeds;
-        values = savedBy (known sheet choice) (saved sheet choice) A (e .trace);
+        values = savedValues A (saved sheet choice) (e .trace);
         turns = map turnWord (e .turns);
         copied = e .store;
       })
@@ -222,12 +153,12 @@ module _ (A : Arithmetic) (words : List ℕ) (sheet : Sheet) (accepted : read wo
       → tableRun A setting done
       (record {
         store = originals ++ adjoints;
-        values = savedBy (known sheet choice) (saved sheet choice) A (start .trace);
+        values = savedValues A (saved sheet choice) (start .trace);
         turns = map turnWord (start .turns);
         copied = copied;
       })
       ≡ through (record { store = originals ++ adjoints; values = []; turns = []; copied = copied })
-  unfolding tableRun savedBy
+  unfolding tableRun savedValues
   at-the-end originals adjoints copied = refl
 
   backward-part : (e : Progress A) → execution A sheet starts ≡ through e → FromTurning e
@@ -241,7 +172,7 @@ module _ (A : Arithmetic) (words : List ℕ) (sheet : Sheet) (accepted : read wo
       run = runs A (sheet .constants) (sheet .body) 0 start e h
 
       size : length (e .store) ≡ variablesOf sheet
-      size = grown (known sheet choice) (saved sheet choice) A (sheet .constants) run .store ∙ n
+      size = runs-keep A (sheet .constants) run ∙ n
 
       first : List (A .Carrier)
       first = firstAdjoints A (sheet .roles) seeds
@@ -257,7 +188,7 @@ module _ (A : Arithmetic) (words : List ℕ) (sheet : Sheet) (accepted : read wo
   -- the machine does what the table does in the large
   machine-follows : (result : Attempt (Stop A) (Memory A)) → tableRun A setting table (memoryAt start) ≡ result
       → EndsAs A result (runSaving A choice sheet starts seeds valueRoom turnRoom)
-  unfolding runSaving startOf savedBy
+  unfolding runSaving startOf savedValues
   machine-follows result e =
       rw (also-body sheet choice)
       (subst (λ r. EndsAs A r (runOf A table setting (startOf A sheet starts))) e (run-follows A table setting (memoryAt start)))
@@ -291,7 +222,7 @@ module _ (A : Arithmetic) (words : List ℕ) (sheet : Sheet) (accepted : read wo
   unfolding Matches execution
   run-matches =
       by-execution
-      (executed-ready A (sheet .constants) (variablesOf sheet) (known sheet choice) (saved sheet choice) (sheet .body) 0 start n
+      (executed-ready A (sheet .constants) (variablesOf sheet) (sheet .body) 0 start n
       (names-present words sheet accepted))
     where
       back-to : (e : Progress A) → execution A sheet starts ≡ through e → FromTurning e → Claim (ideal A sheet setting starts)

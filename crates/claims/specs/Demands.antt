@@ -1,10 +1,10 @@
 -- The three demands, as the theorems state them of the written definitions.
-use Prim.Native.Nat.{ℕ, suc, _+_, _≤_, _<_}
+use Prim.Native.Nat.{ℕ, _<_}
 use mathlib.Core.Path.{_≡_}
-use mathlib.Core.Bool.{Bool, cond}
-use mathlib.Core.List.{List, [], _∷_}
-use lib.ListN.{length, getD, take, drop}
-use Rattle.number.specs.Residues.{modulus, residues}
+use mathlib.Core.Bool.{cond}
+use mathlib.Core.List.{List}
+use lib.ListN.{getD, take, drop}
+use Rattle.number.specs.Residues.{residues}
 use Rattle.sheet.specs.Tree.{Tree, done, one, fork, again}
 use Rattle.sheet.specs.Rows.{Assignment, Test, isIndependent}
 use Rattle.sheet.specs.Reading.{Sheet, variablesOf}

@@ -2,7 +2,7 @@
 -- It speaks of words, counts, rows and open blocks, and of no judgement that the calls are made of; the theorems stand at the end.
 use Prim.Native.Nat.{ℕ, zero, suc, _+_, _*_, _≤_, _<_}
 use mathlib.Core.Path.{_≡_}
-use mathlib.Core.Bool.{true, false}
+use mathlib.Core.Bool.{false}
 use mathlib.Core.List.{List, [], _∷_, _++_}
 use mathlib.Core.Option.{some}
 use mathlib.Core.Logic.{_↔_, _≢_, _⊎_}

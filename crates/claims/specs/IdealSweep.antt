@@ -2,18 +2,17 @@
 -- values as they were just before it.
 use Prim.Native.Nat.{ℕ, zero, suc}
 use mathlib.Core.List.{List, [], _∷_, _++_}
-use mathlib.Core.Option.{Option}
 use lib.ListN.{drop}
 use Rattle.number.specs.Arithmetic.{Arithmetic}
-use Rattle.sheet.specs.Tree.{Tree, done, one, fork, again, RowNumber}
+use Rattle.sheet.specs.Tree.{done, one, fork, again, RowNumber}
 use Rattle.sheet.specs.Rows.{Assignment, _≔_}
-use Rattle.sheet.specs.Reading.{Sheet, variablesOf}
+use Rattle.sheet.specs.Reading.{Sheet}
 use Rattle.sets.specs.Transfers.{Activity}
 use Rattle.sets.specs.Marks.{varied, useful, activityAt}
 use Rattle.table.specs.TableRows.{Table}
 use Rattle.table.specs.Adjoint.{derivativeRows}
 use Rattle.run.specs.Attempts.{Attempt, through, _>>=_, present}
-use Rattle.run.specs.Actions.{Memory, Setting, Verdict, acted, tested, seeded}
+use Rattle.run.specs.Actions.{Memory, Setting, acted, tested, seeded}
 use Rattle.claims.specs.Execution.{Executed, Progress, Stop, from, chosen, execution}
 
 module _ (A : Arithmetic) where

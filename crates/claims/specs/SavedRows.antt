@@ -1,11 +1,18 @@
 -- Tables that save more than what is recorded: "the table built as above, active rows the same, but with every assignment recorded".
 use Prim.Native.Nat.{ℕ}
-use mathlib.Core.Bool.{Bool, true, _||_}
+use mathlib.Core.Bool.{Bool, true, false, _||_}
+use mathlib.Core.List.{List, [], _∷_}
+use lib.ListN.{getD}
+use Rattle.number.specs.Arithmetic.{Arithmetic}
 use Rattle.sheet.specs.Tree.{done, one, fork, again, RowNumber}
+use Rattle.sheet.specs.Rows.{Assignment}
 use Rattle.sheet.specs.Reading.{Sheet, variablesOf}
-use Rattle.sets.specs.Marks.{Marked, marked}
+use Rattle.sets.specs.Equations.{setAt}
+use Rattle.sets.specs.Transfers.{recordedBy}
+use Rattle.sets.specs.Marks.{marked, varied, useful, required, activityAt}
 use Rattle.table.specs.TableRows.{Table}
-use Rattle.table.specs.Adjoint.{Body, adjointTable}
+use Rattle.table.specs.Adjoint.{Body, targetOf, adjointTable}
+use Rattle.claims.specs.Execution.{Executed}
 
 -- the body with further rows saved, one choice for each sheet row
 unfoldable pub alsoSaving : (RowNumber → Bool) → Body → Body
@@ -21,3 +28,20 @@ every row = true
 unfoldable pub allSavedTable : Sheet → Table
 unfolding marked alsoSaving adjointTable
 allSavedTable sheet = adjointTable (variablesOf sheet) (alsoSaving every (marked sheet))
+
+-- ---- what a choice of rows saves of an execution
+
+module _ (A : Arithmetic) (saved : ℕ → Assignment → Bool) where
+  abbrev pub onto : Bool → A .Carrier → List (A .Carrier) → List (A .Carrier)
+  onto true x xs = x ∷ xs
+  onto false x xs = xs
+
+  -- of each executed assignment that is saved, its target's value before it: the latest first
+  unfoldable pub savedValues : List (Executed A) → List (A .Carrier)
+  savedValues [] = []
+  savedValues (e ∷ earlier) =
+      onto (saved (e .row .index) (e .assignment)) (getD (e .before) (targetOf (e .assignment)) (A .zero)) (savedValues earlier)
+
+-- the rows that the sheet's own table saves
+abbrev pub recordedIn : Sheet → ℕ → Assignment → Bool
+recordedIn sheet p b = recordedBy b (activityAt (varied sheet) (useful sheet) p b) (setAt (required sheet) p)

@@ -12,11 +12,11 @@ use Rattle.sets.specs.Marks.{marked}
 use Rattle.table.specs.Adjoint.{adjointTable}
 use Rattle.table.specs.Sizes.{valuesNeeded, turnsNeeded}
 use Rattle.run.specs.Attempts.{Attempt, through, halted, stuck}
-use Rattle.run.specs.Actions.{Memory, Setting}
+use Rattle.run.specs.Actions.{Memory}
 use Rattle.run.specs.Machine.{Ending, finished, stoppedAt}
 use Rattle.run.specs.Calls.{Lent, Ran, settingOf, startOf, runOf, independentAdjoints, lentAfter}
 use Rattle.claims.specs.Execution.{Stop}
-use Rattle.claims.specs.IdealSweep.{Ideal, ideal}
+use Rattle.claims.specs.IdealSweep.{Ideal}
 use Rattle.claims.specs.SavedRows.{alsoSaving}
 
 module _ (A : Arithmetic) where

@@ -1,5 +1,5 @@
 -- "Sheets worked by hand": the starred ones as one table, what 01 states of each, and what the definitions find.
-use Prim.Native.Nat.{ℕ, _+_, _*_}
+use Prim.Native.Nat.{ℕ}
 use mathlib.Core.Bool.{Bool, true, false}
 use mathlib.Core.List.{List, [], _∷_, _++_, map}
 use lib.IntN.{pos}
@@ -12,7 +12,7 @@ use Rattle.sheet.specs.Tree.{Tree, done, one, fork, again}
 use Rattle.sheet.specs.Reading.{Sheet, read}
 use Rattle.sets.specs.Marks.{Marked, MarkedTest, marked}
 use Rattle.table.specs.Calls.{Sizes, Checked, check, Written, write, tableRoom}
-use Rattle.run.specs.Calls.{Lent, Ran, run}
+use Rattle.run.specs.Calls.{Lent, run}
 
 -- start values, seeds and the 2V numbers that come out
 pub record Trial : Type 0 where

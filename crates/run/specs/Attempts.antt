@@ -1,7 +1,7 @@
 -- What trying a row comes to: it went through, the arithmetic stopped it, or it is stuck. Being stuck is an outcome of its own.
 use Prim.Native.Nat.{ℕ}
 use mathlib.Core.Bool.{cond}
-use mathlib.Core.List.{List, [], _∷_}
+use mathlib.Core.List.{List, _∷_}
 use mathlib.Core.Option.{Option, none, some}
 use lib.ListN.{length, getElem?, set}
 use lib.Dec.{ltb}

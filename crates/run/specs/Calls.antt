@@ -5,12 +5,12 @@ use mathlib.Core.List.{List, [], _∷_, _++_}
 use lib.ListN.{length, getD, drop, replicate}
 use lib.Dec.{leb, eqb}
 use Rattle.number.specs.Arithmetic.{Arithmetic}
-use Rattle.sheet.specs.Refusals.{Refusal, Answer, refused, given, _>>=_, numberOf, placeOf, smallValueStack, smallTurnStack, wrongStarts, wrongSeeds, wrongResult, notFiniteGiven, notFiniteResult}
+use Rattle.sheet.specs.Refusals.{Answer, refused, given, _>>=_, numberOf, placeOf, smallValueStack, smallTurnStack, wrongStarts, wrongSeeds, wrongResult, notFiniteGiven, notFiniteResult}
 use Rattle.sheet.specs.Rows.{isIndependent}
 use Rattle.sheet.specs.Reading.{Sheet, variablesOf, unless}
 use Rattle.sets.specs.Marks.{marked}
-use Rattle.table.specs.TableRows.{Table, linesOf, tableWords, adjointOf}
-use Rattle.table.specs.Adjoint.{Body, adjointTable, tableOf}
+use Rattle.table.specs.TableRows.{Table, linesOf, tableWords}
+use Rattle.table.specs.Adjoint.{tableOf}
 use Rattle.table.specs.Sizes.{valuesNeeded, turnsNeeded}
 use Rattle.table.specs.Calls.{readFor, overwritten}
 use Rattle.run.specs.Actions.{Memory, Setting}

@@ -3,11 +3,11 @@ use Prim.Native.Nat.{ℕ, zero, suc, _+_, _*_, max}
 use mathlib.Core.Bool.{Bool, true, false}
 use mathlib.Core.List.{List, [], _∷_}
 use mathlib.Core.Option.{Option, none, some}
-use lib.ListN.{getElem?, drop}
+use lib.ListN.{drop}
 use Rattle.number.specs.Arithmetic.{Arithmetic}
 use Rattle.sheet.specs.Tree.{Tree, done, one, fork, again, Line, basic, ifLine, elseLine, endIf, repeat, endRepeat, RowNumber}
-use Rattle.table.specs.TableRows.{TableLine, TableRow, TableTest, Origin}
-use Rattle.run.specs.Attempts.{Attempt, through, halted, stuck}
+use Rattle.table.specs.TableRows.{TableLine, Origin}
+use Rattle.run.specs.Attempts.{through, halted, stuck}
 use Rattle.run.specs.Actions.{Memory, Setting, Try, Verdict, acted, tested}
 
 -- ---- from an "if" past its "else", and from an "else" past its "end if"

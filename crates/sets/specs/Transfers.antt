@@ -1,6 +1,6 @@
 -- What an assignment does to each of the three sets, its activity and its adjoint use.
 use Prim.Native.Nat.{ℕ}
-use mathlib.Core.Bool.{Bool, true, false, _&&_, _||_, cond}
+use mathlib.Core.Bool.{Bool, _&&_, _||_, cond}
 use mathlib.Core.Option.{Option, none, some}
 use Rattle.sheet.specs.Rows.{Assignment, _≔_, Source, copy, fixed, sum, difference, product, negation}
 use Rattle.sets.specs.VariableSets.{VariableSet, empty, has, _∪_, single, without, hasSome, singleSome}

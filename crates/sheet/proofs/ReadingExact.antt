@@ -1,18 +1,17 @@
 -- An accepted sheet's rows are exactly its tree's rows, and no other tree has them.
-use Prim.Native.Nat.{ℕ, suc, _+_}
+use Prim.Native.Nat.{ℕ, _+_}
 use mathlib.Core.Path.{_≡_, refl, sym, ap, subst, _∙_}
-use mathlib.Core.Bool.{Bool, true, false}
 use mathlib.Core.List.{List, [], _∷_, map}
 use mathlib.Core.Option.{Option, none, some}
 use lib.ListN.{length}
 use lib.Dec.{ltb}
 use native.Mathlib.Omega.{arith}
 use Rattle.sheet.specs.Bounds.{limit}
-use Rattle.sheet.specs.Refusals.{Refusal, Answer, refused, given, _>>=_, badRow, badBlock}
-use Rattle.sheet.specs.Tree.{Tree, done, one, fork, again, Line, basic, ifLine, elseLine, endIf, repeat, endRepeat, flat}
+use Rattle.sheet.specs.Refusals.{given, badRow, badBlock}
+use Rattle.sheet.specs.Tree.{Tree, done, one, fork, again, basic, ifLine, elseLine, endIf, repeat, endRepeat, flat}
 use Rattle.sheet.specs.Rows.{Assignment, Test, SheetLine, Row, Kind, kindOf, wordsFit, sheetRowOf, treeRows}
 use Rattle.sheet.specs.Reading.{Sheet, unless, Item, row, branches, repeated, Block, inFirst, inSecond, inRepeat, closed, Progress, lineBy, lineOf, entered, splitAt, ifEndedAt, repeatEndedAt, taken, bodyOf, read}
-use Rattle.sheet.proofs.ReadingParts.{bound, passed, same-given, Accepted, accepted}
+use Rattle.sheet.proofs.ReadingParts.{bound, passed, same-given, accepted}
 use Rattle.sheet.proofs.TreeOnly.{only-tree}
 use Rattle.sheet.proofs.RowsBack.{only-lines, row-back}
 

@@ -4,10 +4,10 @@ use mathlib.Core.Path.{_≡_, refl, ap, subst}
 use mathlib.Core.Bool.{Bool, true, false, _&&_}
 use mathlib.Core.List.{List, [], _∷_, map}
 use mathlib.Core.Option.{Option, none, some}
-use lib.Dec.{T, eqb, leb, eqb→eq, leb→le}
+use lib.Dec.{T, leb, eqb→eq, leb→le}
 use native.Mathlib.Omega.{arith}
 use Rattle.sheet.specs.Tree.{basic, ifLine, elseLine, endIf, repeat, endRepeat}
-use Rattle.sheet.specs.Rows.{_≔_, copy, fixed, sum, difference, product, negation, less, SheetLine, Row, turns, unused, fits, Kind, kinds, kindOf, wordsFit, rowOf, rowOfAssignment, rowOfTest, sheetRowOf}
+use Rattle.sheet.specs.Rows.{_≔_, copy, fixed, sum, difference, product, negation, less, SheetLine, Row, turns, unused, fits, Kind, kindOf, wordsFit, sheetRowOf}
 
 -- ---- from a line to its row and back
 

@@ -2,7 +2,7 @@
 use Prim.Native.Nat.{ℕ, zero, suc, pred}
 use mathlib.Core.Bool.{Bool, _&&_, _||_}
 use mathlib.Core.List.{List, [], _∷_, map}
-use mathlib.Core.Option.{Option, none, some}
+use mathlib.Core.Option.{Option, none}
 use lib.ListN.{getElem?}
 use lib.Dec.{leb, ltb, eqb}
 use Rattle.sheet.specs.Bounds.{limit}

@@ -1,6 +1,6 @@
 -- Rows as blocks. One tree serves as a sheet's body, as that body with marks, and as an adjoint table.
-use Prim.Native.Nat.{ℕ, zero, suc, _+_}
-use mathlib.Core.List.{List, [], _∷_}
+use Prim.Native.Nat.{ℕ, _+_}
+use mathlib.Core.List.{List, _∷_}
 
 -- B: rows that are no part of a block; F: what an "if" tests. The last field is what follows in the same block.
 pub data Tree (B F : Type 0) : Type 0 where

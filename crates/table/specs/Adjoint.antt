@@ -1,6 +1,6 @@
 -- The adjoint table of a marked body, for any choice of saved rows.
 use Prim.Native.Nat.{ℕ}
-use mathlib.Core.Bool.{Bool, true, false, cond}
+use mathlib.Core.Bool.{Bool, true, false}
 use Rattle.sheet.specs.Tree.{Tree, done, one, fork, again, RowNumber}
 use Rattle.sheet.specs.Rows.{Assignment, _≔_, Source, copy, fixed, sum, difference, product, negation}
 use Rattle.sheet.specs.Reading.{Sheet, variablesOf}

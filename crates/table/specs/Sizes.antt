@@ -1,8 +1,7 @@
 -- R, S and T.
 use Prim.Native.Nat.{ℕ, suc, _+_, _*_, max}
 use mathlib.Core.Bool.{cond}
-use Rattle.sheet.specs.Tree.{Tree, done, one, fork, again, rows}
-use Rattle.sets.specs.Marks.{Marked, MarkedTest}
+use Rattle.sheet.specs.Tree.{done, one, fork, again, rows}
 use Rattle.table.specs.Adjoint.{Body, adjointTable}
 
 -- R

@@ -1,5 +1,5 @@
 -- The rows of an adjoint table: the sheet's kinds and six more, the variables that they name, and where each row comes from.
-use Prim.Native.Nat.{ℕ, suc, _+_, _*_}
+use Prim.Native.Nat.{ℕ, _+_, _*_}
 use mathlib.Core.Bool.{Bool, cond}
 use mathlib.Core.List.{List, [], _∷_, map}
 use lib.ListN.{length}
