@@ -29,6 +29,7 @@ pub mod WholeRunMatches
 pub mod RunAccepted
 pub mod RunsAnswer
 pub mod AtTurningRound
+pub mod DemandThreeHolds
 -- demand 2: equation (2)
 pub mod EquationTwoSolved
 pub mod ResidueDerivatives

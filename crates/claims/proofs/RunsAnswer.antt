@@ -5,6 +5,7 @@ use mathlib.Core.Logic.{_⊎_, inl, inr}
 use mathlib.Core.Bool.{Bool, false, or-false}
 use mathlib.Core.List.{List}
 use lib.ListN.{length}
+use native.Mathlib.Omega.{arith}
 use Rattle.number.specs.Arithmetic.{Arithmetic}
 use Rattle.number.specs.Residues.{residues}
 use Rattle.sheet.specs.Tree.{done, one, fork, again, RowNumber}
@@ -14,7 +15,7 @@ use Rattle.sets.specs.Marks.{marked}
 use Rattle.table.specs.Adjoint.{Body, tableOf}
 use Rattle.run.specs.Attempts.{Attempt, through, halted, stuck}
 use Rattle.run.specs.Actions.{Setting}
-use Rattle.run.specs.Machine.{Ending}
+use Rattle.run.specs.Machine.{Ending, gotStuck, gotStuck}
 use Rattle.run.specs.Calls.{Lent, settingOf, startOf, runOf, resultOf, ranTo, ranOn, readToRun, run}
 use Rattle.claims.specs.Execution.{Stop}
 use Rattle.claims.specs.IdealSweep.{Ideal, ideal}
@@ -37,7 +38,7 @@ as-it-is (fork f a b k) = rw (as-it-is a, as-it-is b, as-it-is k)
 as-it-is (again n a k) = rw (as-it-is a, as-it-is k)
 
 module _ (A : Arithmetic) where
-  our-table : (sheet : Sheet) (starts seeds : List (A .Carrier)) (valueRoom turnRoom : ℕ)
+  pub our-table : (sheet : Sheet) (starts seeds : List (A .Carrier)) (valueRoom turnRoom : ℕ)
       → runSaving A noFurther sheet starts seeds valueRoom turnRoom
       ≡ runOf A (tableOf sheet) (settingOf A sheet seeds valueRoom turnRoom) (startOf A sheet starts)
   unfolding runSaving tableOf
@@ -87,6 +88,13 @@ module _ (A : Arithmetic) where
       bothEnd (m .memory) (k .memory) (m .ends) (k .ends) (m .values ∙ sym (k .values)) (m .adjoints ∙ sym (k .adjoints))
   same-outcome v (halted stop) first second m k = bothStop (m .0) (k .0) stop (m .1) (k .1)
   same-outcome v stuck first second m k = absurd m
+
+  -- what matches the ideal isn't stuck
+  pub unstuck-run : (v : ℕ) (i : Attempt (Stop A) (Ideal A)) (ending : Ending A) → Matches A v i ending → ending ≡ gotStuck → ⊥
+  unfolding Matches
+  unstuck-run v (through i) ending m e = let z : _≡_ {A = ℕ} 0 1 = cc (m .ends) in absurd (omega arith)
+  unstuck-run v (halted stop) ending m e = let z : _≡_ {A = ℕ} 0 1 = cc (m .1) in absurd (omega arith)
+  unstuck-run v stuck ending m e = absurd m
 
   never-stuck : (v : ℕ) (i : Attempt (Stop A) (Ideal A)) (ending : Ending A) → Matches A v i ending → i ≡ stuck → ⊥
   unfolding Matches

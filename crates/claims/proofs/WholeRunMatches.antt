@@ -68,7 +68,7 @@ module _ (A : Arithmetic) where
   drop-zeros zero m = rw zero-add refl
   drop-zeros (suc n) m = rw (suc-add n m) (drop-zeros n m)
 
-  seeded-length : (roles : List ℕ) (seeds : List (A .Carrier)) → length (seeded A roles seeds) ≡ length roles
+  pub seeded-length : (roles : List ℕ) (seeds : List (A .Carrier)) → length (seeded A roles seeds) ≡ length roles
   unfolding seeded
   seeded-length [] seeds = refl
   seeded-length (role ∷ roles) seeds = ap suc (seeded-length roles (drop 1 seeds))
@@ -77,7 +77,7 @@ module _ (A : Arithmetic) where
   abbrev pub firstAdjoints : (roles : List ℕ) → (seeds : List (A .Carrier)) → List (A .Carrier)
   firstAdjoints roles seeds = seeded A roles seeds ++ (A .zero ∷ A .zero ∷ [])
 
-  turns-round : (setting : Setting A) (store values : List (A .Carrier)) (turns : List ℕ) → length store ≡ setting .variables
+  pub turns-round : (setting : Setting A) (store values : List (A .Carrier)) (turns : List ℕ) → length store ≡ setting .variables
       → turnedRound A setting (record { store = store ++ replicate (setting .variables + 2) (A .zero); values = values; turns = turns; copied = [] })
       ≡ record { store = store ++ firstAdjoints (setting .roles) (setting .seeds); values = values; turns = turns; copied = store }
   unfolding turnedRound

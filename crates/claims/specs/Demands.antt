@@ -1,17 +1,31 @@
--- The three demands, as the theorems state them of the written definitions.
-use Prim.Native.Nat.{ℕ, _<_}
+-- The three demands, as the theorems state them of the written definitions. Demand 1 is in ExactlyWhen; the least sets are `Least` of
+-- crates/sets/specs/Equations.antt.
+use Prim.Native.Nat.{ℕ, _≤_, _<_}
 use mathlib.Core.Path.{_≡_}
 use mathlib.Core.Bool.{cond}
-use mathlib.Core.List.{List}
-use lib.ListN.{getD, take, drop}
+use mathlib.Core.List.{List, [], _∷_, _++_, map}
+use lib.ListN.{length, getD, take, drop}
+use Rattle.number.specs.Arithmetic.{Arithmetic}
 use Rattle.number.specs.Residues.{residues}
-use Rattle.sheet.specs.Tree.{Tree, done, one, fork, again}
+use Rattle.sheet.specs.Tree.{Tree, done, one, fork, again, basic}
 use Rattle.sheet.specs.Rows.{Assignment, Test, isIndependent}
 use Rattle.sheet.specs.Reading.{Sheet, variablesOf}
+use Rattle.sets.specs.Marks.{marked, varied, useful, activityAt}
+use Rattle.table.specs.TableRows.{TableLine, ofTurningRound, turnRound, turnWord, linesOf}
+use Rattle.table.specs.Adjoint.{tableOf}
+use Rattle.table.specs.Sizes.{valuesNeeded, turnsNeeded}
 use Rattle.run.specs.Attempts.{through}
-use Rattle.run.specs.Calls.{Ran}
+use Rattle.run.specs.Actions.{Setting, seeded}
+use Rattle.run.specs.Machine.{State, Step, goesOn, sticks, stateAfter, stepsOf}
+use Rattle.run.specs.Calls.{Ran, settingOf, startOf, runOf}
 use Rattle.claims.specs.Execution.{Progress, execution}
+use Rattle.claims.specs.IdealSweep.{ideal}
+use Rattle.claims.specs.ReadLog.{machineLog, sweptLog}
 use Rattle.claims.specs.EquationTwo.{Instance, valueNo, EquationTwo}
+use Rattle.claims.specs.SavedRows.{savedValues, recordedIn}
+use Rattle.claims.specs.WholeRun.{Matches}
+
+-- ---- demand 2
 
 -- "Run modulo 2^32 it yields equation (2) of "To Be Recorded Analysis" at every independent": the run answers 0, its first V numbers are
 -- the values of executing the sheet, and the other V each independent's adjoint by equation (2), 0 at the others.
@@ -23,7 +37,7 @@ pub record AuditSolves (sheet : Sheet) (starts seeds : List ℕ) (ran : Ran resi
   pub adjoints : (bar : Instance → ℕ) → EquationTwo (sheet .roles) seeds (progress .trace) bar → (x : ℕ) → x < variablesOf sheet
       → getD (drop (variablesOf sheet) (ran .lent .result)) x 0 ≡ cond (isIndependent (getD (sheet .roles) x 0)) (bar (valueNo x 0)) 0
 
--- ---- demand 3
+-- ---- demand 3: "For every accepted sheet, any start values and seeds, stacks of the sizes 01 computes"
 
 -- a body with no "if" in it
 unfoldable pub WithoutIf : Tree Assignment Test → Type 0
@@ -31,3 +45,47 @@ WithoutIf done = Unit {0}
 WithoutIf (one b k) = WithoutIf k
 WithoutIf (fork f a b k) = ⊥
 WithoutIf (again n a k) = WithoutIf a × WithoutIf k
+
+module _ (A : Arithmetic) (sheet : Sheet) (starts seeds : List (A .Carrier)) (valueRoom turnRoom : ℕ) where
+  abbrev pub setting : Setting A
+  setting = settingOf A sheet seeds valueRoom turnRoom
+
+  abbrev pub lines : List TableLine
+  lines = linesOf (tableOf sheet)
+
+  -- the machine after n steps
+  abbrev pub afterSteps : ℕ → Step A
+  afterSteps n = stateAfter A n setting lines (startOf A sheet starts)
+
+  -- "the run never gets stuck"; the stacks never hold more than S and T
+  pub record NeverStuck : Type 0 where
+    pub unstuck : (n : ℕ) → afterSteps n ≡ sticks → ⊥
+    pub valuesWithin : (n : ℕ) (s : State A) → afterSteps n ≡ goesOn s → length (s .memory .values) ≤ valuesNeeded (marked sheet)
+    pub turnsWithin : (n : ℕ) (s : State A) → afterSteps n ≡ goesOn s → length (s .memory .turns) ≤ turnsNeeded (marked sheet)
+
+  -- At row 17, where nothing has been taken back yet: "only recorded values and turns are saved", in order; without "if" as many as S.
+  pub record SavedAtTurning (progress : Progress A) : Type 0 where
+    pub steps : ℕ
+    pub state : State A
+    pub reached : afterSteps steps ≡ goesOn state
+    pub rest : List TableLine
+    pub there : drop (state .at) lines ≡ basic (record { origin = ofTurningRound; action = turnRound }) ∷ rest
+    pub originals : take (variablesOf sheet) (state .memory .store) ≡ progress .store
+    pub values : state .memory .values ≡ savedValues A (recordedIn sheet) (progress .trace)
+    pub turns : state .memory .turns ≡ map turnWord (progress .turns)
+    pub full : WithoutIf (sheet .body) → length (state .memory .values) ≡ valuesNeeded (marked sheet)
+
+  -- "replays exactly the executed assignments in reverse, every value a derivative rule reads is the value before that assignment": what
+  -- derivative rows were executed and what originals they read is, row for row, the ideal sweep over the executed assignments.
+  abbrev pub ReplaysInReverse : Progress A → Type 0
+  ReplaysInReverse progress =
+      (n : ℕ) → stepsOf (tableOf sheet) ≤ n
+      → machineLog A n setting lines (startOf A sheet starts)
+      ≡ sweptLog A setting (activityAt (varied sheet) (useful sheet)) (progress .trace) (seeded A (sheet .roles) seeds ++ (A .zero ∷ A .zero ∷ []))
+
+  -- All of it, unless a double leaves the finite range while the sheet itself is executed. "both stacks end empty" is in `ends`.
+  pub record DemandThree : Type 0 where
+    pub never : NeverStuck
+    pub saves : (progress : Progress A) → execution A sheet starts ≡ through progress → SavedAtTurning progress
+    pub replays : (progress : Progress A) → execution A sheet starts ≡ through progress → ReplaysInReverse progress
+    pub ends : Matches A (variablesOf sheet) (ideal A sheet setting starts) (runOf A (tableOf sheet) setting (startOf A sheet starts))
