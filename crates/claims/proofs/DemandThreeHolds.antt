@@ -2,11 +2,11 @@
 use Prim.Native.Nat.{ℕ, _+_, _≤_}
 use mathlib.Core.Path.{_≡_, refl, sym, ap, subst, _∙_}
 use mathlib.Core.List.{List, [], _∷_, _++_, map}
-use lib.ListN.{length, take, drop, replicate, length-append}
+use lib.ListN.{length, replicate, length-append}
 use lib.Seq.{take-at}
 use native.Mathlib.Omega.{arith}
 use Rattle.number.specs.Arithmetic.{Arithmetic}
-use Rattle.sheet.specs.Tree.{Tree, done, one, rows, flat}
+use Rattle.sheet.specs.Tree.{done, one, rows, flat}
 use Rattle.sheet.specs.Refusals.{given}
 use Rattle.sheet.specs.Rows.{Assignment}
 use Rattle.sheet.specs.Reading.{Sheet, variablesOf, read}
@@ -20,14 +20,14 @@ use Rattle.table.specs.Adjoint.{Body, forwardPart, backwardPart, adjointTable, 
 use Rattle.table.specs.Sizes.{valuesNeeded, turnsNeeded}
 use Rattle.run.specs.Attempts.{Attempt, through, _>>=_}
 use Rattle.run.specs.Actions.{Memory, Setting, acted, seeded}
-use Rattle.run.specs.Machine.{State, goesOn, gotStuck, sticks}
+use Rattle.run.specs.Machine.{State, goesOn, gotStuck}
 use Rattle.run.specs.Calls.{settingOf, startOf, runOf}
 use Rattle.claims.specs.Execution.{Progress, execution}
 use Rattle.claims.specs.IdealSweep.{tableRun, ideal}
 use Rattle.claims.specs.ReadLog.{tableLog, onThrough}
 use Rattle.claims.specs.SavedRows.{savedValues, recordedIn}
 use Rattle.claims.specs.WholeRun.{Room, Matches}
-use Rattle.claims.specs.Demands.{WithoutIf, lines, afterSteps, NeverStuck, SavedAtTurning, ReplaysInReverse, DemandThree}
+use Rattle.claims.specs.Demands.{lines, afterSteps, NeverStuck, SavedAtTurning, ReplaysInReverse, DemandThree}
 use Rattle.claims.proofs.Runs.{Runs, runs}
 use Rattle.claims.proofs.RunsKeepSizes.{runs-keep}
 use Rattle.claims.proofs.Forward.{body, memoryOf, forward-executes}

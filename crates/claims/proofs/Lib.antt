@@ -30,6 +30,7 @@ pub mod RunAccepted
 pub mod RunsAnswer
 pub mod AtTurningRound
 pub mod DemandThreeHolds
+pub mod DemandOneHolds
 -- demand 2: equation (2)
 pub mod EquationTwoSolved
 pub mod ResidueDerivatives
@@ -37,3 +38,4 @@ pub mod ResiduesGo
 pub mod LeanStep
 pub mod EquationTwoHolds
 pub mod AuditSolves
+pub mod DemandTwoHolds

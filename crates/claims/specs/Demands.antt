@@ -1,5 +1,5 @@
--- The three demands, as the theorems state them of the written definitions. Demand 1 is in ExactlyWhen; the least sets are `Least` of
--- crates/sets/specs/Equations.antt.
+-- The three demands, as the theorems state them of the written definitions. What "exactly when" says is in ExactlyWhen,
+-- what "least" says in crates/sets/specs/Equations.antt.
 use Prim.Native.Nat.{ℕ, _≤_, _<_}
 use mathlib.Core.Path.{_≡_}
 use mathlib.Core.Bool.{cond}
@@ -10,20 +10,31 @@ use Rattle.number.specs.Residues.{residues}
 use Rattle.sheet.specs.Tree.{Tree, done, one, fork, again, basic}
 use Rattle.sheet.specs.Rows.{Assignment, Test, isIndependent}
 use Rattle.sheet.specs.Reading.{Sheet, variablesOf}
-use Rattle.sets.specs.Marks.{marked, varied, useful, activityAt}
+use Rattle.sets.specs.Equations.{Least}
+use Rattle.sets.specs.Marks.{marked, varied, useful, required, variedEquations, usefulEquations, requiredEquations, activityAt}
 use Rattle.table.specs.TableRows.{TableLine, ofTurningRound, turnRound, turnWord, linesOf}
 use Rattle.table.specs.Adjoint.{tableOf}
 use Rattle.table.specs.Sizes.{valuesNeeded, turnsNeeded}
 use Rattle.run.specs.Attempts.{through}
 use Rattle.run.specs.Actions.{Setting, seeded}
 use Rattle.run.specs.Machine.{State, Step, goesOn, sticks, stateAfter, stepsOf}
-use Rattle.run.specs.Calls.{Ran, settingOf, startOf, runOf}
+use Rattle.run.specs.Calls.{Lent, Ran, settingOf, startOf, runOf, run}
+use Rattle.claims.specs.ExactlyWhen.{CheckExactly, WriteExactly, RunExactly}
 use Rattle.claims.specs.Execution.{Progress, execution}
 use Rattle.claims.specs.IdealSweep.{ideal}
 use Rattle.claims.specs.ReadLog.{machineLog, sweptLog}
 use Rattle.claims.specs.EquationTwo.{Instance, valueNo, EquationTwo}
-use Rattle.claims.specs.SavedRows.{savedValues, recordedIn}
-use Rattle.claims.specs.WholeRun.{Matches}
+use Rattle.claims.specs.SavedRows.{alsoSaving, every, allSavedTable, savedValues, recordedIn}
+use Rattle.claims.specs.WholeRun.{Matches, SameOutcome}
+
+-- ---- demand 1
+
+-- "every public call ends with an answer": each refusal exactly when 01 says, and nothing but 01's numbers is ever answered
+pub record DemandOne (A : Arithmetic) (words buffer : List ℕ) (starts seeds : List (A .Carrier)) (lent : Lent A) : Type 0 where
+  pub checks : CheckExactly words
+  pub writes : WriteExactly words buffer
+  pub runs : RunExactly A words starts seeds lent
+  pub answered : run A words starts seeds lent .number ≤ 12
 
 -- ---- demand 2
 
@@ -36,6 +47,21 @@ pub record AuditSolves (sheet : Sheet) (starts seeds : List ℕ) (ran : Ran resi
   pub values : take (variablesOf sheet) (ran .lent .result) ≡ progress .store
   pub adjoints : (bar : Instance → ℕ) → EquationTwo (sheet .roles) seeds (progress .trace) bar → (x : ℕ) → x < variablesOf sheet
       → getD (drop (variablesOf sheet) (ran .lent .result)) x 0 ≡ cond (isIndependent (getD (sheet .roles) x 0)) (bar (valueNo x 0)) 0
+
+-- "run in doubles it gives bit for bit what the all-saved table gives, or stops at the same arithmetic row": stated over any arithmetic, for
+-- stacks of at least the sizes that each of the two tables needs
+abbrev pub SameAsAllSaved : (A : Arithmetic) → Sheet → (starts seeds : List (A .Carrier)) → Type 0
+SameAsAllSaved A sheet starts seeds =
+    (values turns allValues allTurns : ℕ) → valuesNeeded (marked sheet) ≤ values → turnsNeeded (marked sheet) ≤ turns
+    → valuesNeeded (alsoSaving every (marked sheet)) ≤ allValues → turnsNeeded (alsoSaving every (marked sheet)) ≤ allTurns
+    → SameOutcome A (variablesOf sheet) (runOf A (tableOf sheet) (settingOf A sheet seeds values turns) (startOf A sheet starts))
+    (runOf A (allSavedTable sheet) (settingOf A sheet seeds allValues allTurns) (startOf A sheet starts))
+
+-- "The varied, useful and to-be-recorded sets are the least that satisfy 01's equations"
+pub record LeastSets (sheet : Sheet) : Type 0 where
+  pub varies : Least (variedEquations sheet) (varied sheet)
+  pub isUseful : Least (usefulEquations sheet) (useful sheet)
+  pub isRequired : Least (requiredEquations sheet (varied sheet) (useful sheet)) (required sheet)
 
 -- ---- demand 3: "For every accepted sheet, any start values and seeds, stacks of the sizes 01 computes"
 
