@@ -39,3 +39,5 @@ pub mod LeanStep
 pub mod EquationTwoHolds
 pub mod AuditSolves
 pub mod DemandTwoHolds
+-- the theorems on 01's sheets E and D
+pub mod OnWorkedSheets

@@ -1,0 +1,121 @@
+-- The claims speak of something: sheets E (a repeat that saves) and D (an "if") meet every hypothesis, and what is claimed of them isn't empty.
+use Prim.Native.Nat.{ℕ, zero, suc, _<_}
+use mathlib.Core.Path.{_≡_, refl, sym}
+use mathlib.Core.Bool.{Bool, true, false}
+use mathlib.Core.List.{List, [], _∷_, _++_, map}
+use lib.ListN.{length, getD, replicate}
+use native.Mathlib.Omega.{arith}
+use Rattle.number.specs.Residues.{modulus, residues, residue, opposite, residueOf}
+use Rattle.sheet.specs.Refusals.{Answer, refused, given}
+use Rattle.sheet.specs.Tree.{done}
+use Rattle.sheet.specs.Reading.{Sheet, variablesOf, read}
+use Rattle.sets.specs.Transfers.{recordedBy}
+use Rattle.sets.specs.Marks.{marked, varied, useful, required, activityAt}
+use Rattle.table.specs.Sizes.{valuesNeeded, turnsNeeded}
+use Rattle.run.specs.Attempts.{Attempt, through, halted, stuck}
+use Rattle.run.specs.Actions.{seeded}
+use Rattle.run.specs.Calls.{Lent, settingOf, readToRun, run}
+use Rattle.claims.specs.Execution.{Progress, Stop, execution}
+use Rattle.claims.specs.ReadLog.{Entry, sweptLog}
+use Rattle.claims.specs.EquationTwo.{Instance, valueNo, EquationTwo}
+use Rattle.claims.specs.SavedRows.{savedValues, recordedIn}
+use Rattle.claims.specs.Demands.{AuditSolves, DemandThree, SameAsAllSaved}
+use Rattle.claims.proofs.AuditSolves.{audit-solves}
+use Rattle.claims.proofs.DemandTwoHolds.{same-as-all-saved}
+use Rattle.claims.proofs.DemandThreeHolds.{demand-three}
+
+-- the sheet that words are, where they are one
+sheetIn : Answer Sheet → Sheet
+sheetIn (refused r) = record { roles = []; constants = []; rows = []; body = done }
+sheetIn (given sheet) = sheet
+
+-- ---- E
+
+below : (x : ℕ) → getD (1 ∷ 0 ∷ []) x 0 < modulus
+below zero = omega arith
+below (suc zero) = omega arith
+below (suc (suc x)) = omega arith
+
+wordsE : List ℕ
+wordsE = 2 ∷ 3 ∷ 0 ∷ 0 ∷ 4 ∷ 10 ∷ 0 ∷ 2 ∷ 0 ∷ 5 ∷ 1 ∷ 0 ∷ 0 ∷ 3 ∷ 0 ∷ 0 ∷ 1 ∷ 11 ∷ 0 ∷ 0 ∷ 0 ∷ []
+
+sheetE : Sheet
+unfolding sheetIn wordsE read
+sheetE = sheetIn (read wordsE)
+
+E-accepted : read wordsE ≡ given sheetE
+unfolding wordsE sheetE read
+E-accepted = refl
+
+E-demand-three : DemandThree residues sheetE (1 ∷ 0 ∷ []) (1 ∷ 0 ∷ []) 2 0
+unfolding sheetE marked valuesNeeded turnsNeeded
+E-demand-three = demand-three residues wordsE sheetE E-accepted (1 ∷ 0 ∷ []) (1 ∷ 0 ∷ []) refl 2 0 (omega arith) (omega arith)
+
+E-same-as-all-saved : SameAsAllSaved residues sheetE (1 ∷ 0 ∷ []) (1 ∷ 0 ∷ [])
+unfolding sheetE
+E-same-as-all-saved = same-as-all-saved residues wordsE sheetE E-accepted (1 ∷ 0 ∷ []) (1 ∷ 0 ∷ []) refl
+
+-- what E executes from 1 and 0
+ended : Attempt (Stop residues) (Progress residues) → Progress residues
+ended (through progress) = progress
+ended (halted stop) = record { store = []; trace = []; turns = [] }
+ended stuck = record { store = []; trace = []; turns = [] }
+
+progressE : Progress residues
+unfolding ended sheetE execution residue
+progressE = ended (execution residues sheetE (1 ∷ 0 ∷ []))
+
+E-executes : execution residues sheetE (1 ∷ 0 ∷ []) ≡ through progressE
+unfolding progressE
+E-executes = refl
+
+-- two values are saved, 2 on top of 1
+E-saves : savedValues residues (recordedIn sheetE) (progressE .trace) ≡ 2 ∷ 1 ∷ []
+unfolding savedValues recordedBy required progressE
+E-saves = refl
+
+-- Each turn's sum reads no original; each turn's product reads x twice: 2 in the second turn, which is taken back first, and 1 in the first.
+E-reads : map (λ entry. entry .reads) (sweptLog residues (settingOf residues sheetE (1 ∷ 0 ∷ []) 2 0) (activityAt (varied sheetE) (useful sheetE)) (progressE .trace)
+    (seeded residues (sheetE .roles) (1 ∷ 0 ∷ []) ++ (0 ∷ 0 ∷ [])))
+    ≡ [] ∷ [] ∷ [] ∷ [] ∷ [] ∷ [] ∷ (2 ∷ []) ∷ [] ∷ (2 ∷ []) ∷ [] ∷ [] ∷ [] ∷ [] ∷ [] ∷ [] ∷ [] ∷ (1 ∷ []) ∷ [] ∷ (1 ∷ []) ∷ [] ∷ []
+unfolding sweptLog settingOf activityAt varied useful progressE seeded residue
+E-reads = refl
+
+lentE : Lent residues
+lentE = record { table = replicate 77 7; values = 7 ∷ 7 ∷ []; turns = []; result = 7 ∷ 7 ∷ 7 ∷ 7 ∷ [] }
+
+E-runs : readToRun residues wordsE (1 ∷ 0 ∷ []) (1 ∷ 0 ∷ []) lentE ≡ given sheetE
+unfolding readToRun wordsE sheetE lentE
+E-runs = refl
+
+E-audit : AuditSolves sheetE (1 ∷ 0 ∷ []) (1 ∷ 0 ∷ []) (run residues wordsE (1 ∷ 0 ∷ []) (1 ∷ 0 ∷ []) lentE)
+E-audit = audit-solves wordsE (1 ∷ 0 ∷ []) (1 ∷ 0 ∷ []) lentE sheetE E-runs small
+  where
+    small : (x : ℕ) → x < variablesOf sheetE → getD (1 ∷ 0 ∷ []) x 0 < modulus
+    small x h = below x
+
+-- equation (2) has 15 at x's start value, as 01 says
+E-equation-two : (bar : Instance → ℕ) → EquationTwo (sheetE .roles) (1 ∷ 0 ∷ []) (E-audit .progress .trace) bar → bar (valueNo 0 0) ≡ 15
+unfolding sheetE run wordsE lentE residue
+E-equation-two bar solves = sym (E-audit .adjoints bar solves 0 (omega arith))
+
+-- ---- D: the branch taken is saved
+
+wordsD : List ℕ
+wordsD = 2 ∷ 3 ∷ 0 ∷ 0 ∷ 4 ∷ 7 ∷ 0 ∷ 1 ∷ 0 ∷ 1 ∷ 0 ∷ 1 ∷ 0 ∷ 8 ∷ 0 ∷ 0 ∷ 0 ∷ 9 ∷ 0 ∷ 0 ∷ 0 ∷ []
+
+sheetD : Sheet
+unfolding sheetIn wordsD read
+sheetD = sheetIn (read wordsD)
+
+D-accepted : read wordsD ≡ given sheetD
+unfolding wordsD sheetD read
+D-accepted = refl
+
+D-demand-three : DemandThree residues sheetD (5 ∷ 2 ∷ []) (1 ∷ 0 ∷ []) 0 1
+unfolding sheetD marked valuesNeeded turnsNeeded
+D-demand-three = demand-three residues wordsD sheetD D-accepted (5 ∷ 2 ∷ []) (1 ∷ 0 ∷ []) refl 0 1 (omega arith) (omega arith)
+
+D-turns : ended (execution residues sheetD (5 ∷ 2 ∷ [])) .turns ≡ true ∷ []
+unfolding ended sheetD execution
+D-turns = refl
