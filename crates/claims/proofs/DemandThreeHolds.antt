@@ -1,25 +1,22 @@
 -- Demand 3, of every accepted sheet, over any arithmetic.
 use Prim.Native.Nat.{ℕ, _+_, _≤_}
 use mathlib.Core.Path.{_≡_, refl, sym, ap, subst, _∙_}
-use mathlib.Core.List.{List, [], _∷_, _++_, map}
-use lib.ListN.{length, replicate, length-append}
+use mathlib.Core.List.{List, [], _++_, map}
+use lib.ListN.{length, replicate}
 use lib.Seq.{take-at}
 use native.Mathlib.Omega.{arith}
 use Rattle.number.specs.Arithmetic.{Arithmetic}
 use Rattle.sheet.specs.Tree.{done, one, rows, flat}
 use Rattle.sheet.specs.Refusals.{given}
-use Rattle.sheet.specs.Rows.{Assignment}
 use Rattle.sheet.specs.Reading.{Sheet, variablesOf, read}
 use Rattle.sheet.proofs.NamesPresent.{names-present}
-use Rattle.sets.specs.Equations.{setAt, Satisfy, forward}
-use Rattle.sets.specs.Transfers.{Activity, requiredAfter}
-use Rattle.sets.specs.Marks.{varied, useful, required, activityAt, requiredEquations, markBy, marked}
-use Rattle.sets.proofs.SetsLeast.{required-least}
+use Rattle.sets.specs.Equations.{setAt}
+use Rattle.sets.specs.Marks.{required, markBy, marked}
 use Rattle.table.specs.TableRows.{Table, ofTurningRound, turnRound, turnWord, linesOf}
 use Rattle.table.specs.Adjoint.{Body, forwardPart, backwardPart, adjointTable, tableOf}
 use Rattle.table.specs.Sizes.{valuesNeeded, turnsNeeded}
 use Rattle.run.specs.Attempts.{Attempt, through, _>>=_}
-use Rattle.run.specs.Actions.{Memory, Setting, acted, seeded}
+use Rattle.run.specs.Actions.{Memory, Setting, acted}
 use Rattle.run.specs.Machine.{State, goesOn, gotStuck}
 use Rattle.run.specs.Calls.{settingOf, startOf, runOf}
 use Rattle.claims.specs.Execution.{Progress, execution}
@@ -30,13 +27,15 @@ use Rattle.claims.specs.WholeRun.{Room, Matches}
 use Rattle.claims.specs.Demands.{lines, afterSteps, NeverStuck, SavedAtTurning, ReplaysInReverse, DemandThree}
 use Rattle.claims.proofs.Runs.{Runs, runs}
 use Rattle.claims.proofs.RunsKeepSizes.{runs-keep}
-use Rattle.claims.proofs.Forward.{body, memoryOf, forward-executes}
+use Rattle.claims.proofs.Forward.{body}
 use Rattle.claims.proofs.ForwardLog.{forward-notes-nothing}
 use Rattle.claims.proofs.Replay.{backward-notes}
 use Rattle.claims.proofs.MachineFollows.{atRow, past-tree, goes-through}
 use Rattle.claims.proofs.MachineLogs.{table-log}
 use Rattle.claims.proofs.Heights.{Within, table-never-sticks, table-heights}
-use Rattle.claims.proofs.WholeRunMatches.{turns-round, seeded-length, firstAdjoints, run-matches}
+use Rattle.claims.proofs.RowSeventeen.{firstAdjoints, first-size, turns-round}
+use Rattle.claims.proofs.RunInTheLarge.{knownIn, marksOf, memoryAt, enough, forward-part, turning, required-holds}
+use Rattle.claims.proofs.WholeRunMatches.{run-matches}
 use Rattle.claims.proofs.RunsAnswer.{noFurther, as-it-is, our-table, unstuck-run}
 use Rattle.claims.proofs.AtTurningRound.{forward-lines, saved-exactly}
 
@@ -90,83 +89,73 @@ module _ (A : Arithmetic) (words : List ℕ) (sheet : Sheet) (accepted : read wo
     abbrev setting : Setting A
     setting = settingIn valueRoom turnRoom
 
-    abbrev known : ℕ → Assignment → Activity
-    known = activityAt (varied sheet) (useful sheet)
-
-    abbrev marks : Body
-    marks = body known (recordedIn sheet) (sheet .body) 0
-
-    abbrev start : Progress A
-    start = record { store = starts; trace = []; turns = [] }
-
-    abbrev zeros : List (A .Carrier)
-    zeros = replicate (v + 2) (A .zero)
-
-    abbrev memoryAt : Progress A → Memory A
-    memoryAt now = memoryOf known (recordedIn sheet) A zeros [] now
-
-    abbrev turning : Table
-    turning = one (record { origin = ofTurningRound; action = turnRound }) (backwardPart v marks done)
-
-    is-marked : marked sheet ≡ marks
+    -- no row is saved but the recorded ones
+    is-marked : marked sheet ≡ marksOf sheet (recordedIn sheet)
     unfolding marked markBy
     is-marked = refl
 
-    run : Runs A (sheet .constants) (sheet .body) 0 start e
+    saves : valuesNeeded (marksOf sheet (recordedIn sheet)) ≤ valueRoom
+    saves = subst (λ t. valuesNeeded t ≤ valueRoom) is-marked values
+
+    takes : turnsNeeded (marksOf sheet (recordedIn sheet)) ≤ turnRoom
+    takes = subst (λ t. turnsNeeded t ≤ turnRoom) is-marked turns
+
+    abbrev marks : Body
+    marks = marksOf sheet (recordedIn sheet)
+
+    abbrev memoryNow : Progress A → Memory A
+    memoryNow now = memoryAt A words sheet accepted (recordedIn sheet) (λ p b h. h) starts seeds n valueRoom turnRoom saves takes now
+
+    abbrev start₀ : Progress A
+    start₀ = record { store = starts; trace = []; turns = [] }
+
+    abbrev turning₀ : Table
+    turning₀ = turning A words sheet accepted (recordedIn sheet) (λ p b h. h) starts seeds n valueRoom turnRoom saves takes
+
+    run : Runs A (sheet .constants) (sheet .body) 0 start₀ e
     unfolding execution
-    run = runs A (sheet .constants) (sheet .body) 0 start e executes
+    run = runs A (sheet .constants) (sheet .body) 0 start₀ e executes
 
     size : length (e .store) ≡ v
     size = runs-keep A (sheet .constants) run ∙ n
 
-    enough : (length (savedValues A (recordedIn sheet) (start .trace)) + valuesNeeded marks ≤ valueRoom) × (length (start .turns) + turnsNeeded marks ≤ turnRoom)
-    unfolding savedValues
-    enough =
-        (omega (arith, subst (λ t. valuesNeeded t ≤ valueRoom) is-marked values), omega (arith, subst (λ t. turnsNeeded t ≤ turnRoom) is-marked turns))
-
-    forward-goes : tableRun A setting (forwardPart marks done) (memoryAt start) ≡ through (memoryAt e)
-    unfolding settingOf execution tableRun
+    forward-goes : tableRun A setting (forwardPart marks done) (memoryNow start₀) ≡ through (memoryNow e)
+    unfolding tableRun
     forward-goes =
-        forward-executes known (recordedIn sheet) A setting (length (sheet .constants)) zeros [] (sheet .body) 0 start done (names-present words sheet accepted) n enough
-        ∙ ap (λ (x : Attempt _ _). x >>= λ m. through (memoryAt m)) executes
+        forward-part A words sheet accepted (recordedIn sheet) (λ p b h. h) starts seeds n valueRoom turnRoom saves takes done
+        ∙ ap (λ (x : Attempt _ _). x >>= λ m. through (memoryNow m)) executes
 
-    table-lines : lines A sheet starts seeds valueRoom turnRoom ≡ flat (forwardPart marks done) (flat turning [])
+    table-lines : lines A sheet starts seeds valueRoom turnRoom ≡ flat (forwardPart marks done) (flat turning₀ [])
     unfolding linesOf tableOf adjointTable
-    table-lines = ap (λ t. flat (forwardPart t (one (record { origin = ofTurningRound; action = turnRound }) (backwardPart v t done))) []) is-marked ∙ forward-lines marks turning []
+    table-lines = ap (λ t. flat (forwardPart t (one (record { origin = ofTurningRound; action = turnRound }) (backwardPart v t done))) []) is-marked ∙ forward-lines marks turning₀ []
 
     saved-at-turning : SavedAtTurning A sheet starts seeds valueRoom turnRoom e
     unfolding startOf savedValues flat
     saved-at-turning =
-        let there = goes-through A setting (lines A sheet starts seeds valueRoom turnRoom) (forwardPart marks done) 0 (flat turning []) []
-        (memoryAt start) (memoryAt e) table-lines forward-goes in
+        let there = goes-through A setting (lines A sheet starts seeds valueRoom turnRoom) (forwardPart marks done) 0 (flat turning₀ []) []
+        (memoryNow start₀) (memoryNow e) table-lines forward-goes in
         record {
           steps = there .0;
-          state = atRow A (0 + rows (forwardPart marks done)) [] (memoryAt e);
+          state = atRow A (0 + rows (forwardPart marks done)) [] (memoryNow e);
           reached = there .2;
           rest = flat (backwardPart v marks done) [];
-          there = past-tree (lines A sheet starts seeds valueRoom turnRoom) 0 (forwardPart marks done) (flat turning []) table-lines;
-          originals = take-at (e .store) zeros v size;
+          there = past-tree (lines A sheet starts seeds valueRoom turnRoom) 0 (forwardPart marks done) (flat turning₀ []) table-lines;
+          originals = take-at (e .store) (replicate (v + 2) (A .zero)) v size;
           values = refl;
           turns = refl;
-          full = λ none. saved-exactly known (recordedIn sheet) A (sheet .constants) run none ∙ ap (λ t. 0 + valuesNeeded t) (sym is-marked) ∙ omega arith;
+          full = λ none. saved-exactly (knownIn sheet) (recordedIn sheet) A (sheet .constants) run none ∙ ap (λ t. 0 + valuesNeeded t) (sym is-marked) ∙ omega arith;
         }
 
     -- ---- the derivative rows executed, and what they read
 
-    required-holds : Satisfy (forward (λ p b. requiredAfter b (known p b)) (sheet .body) 0 []) (setAt (required sheet))
-    unfolding requiredEquations Satisfy
-    required-holds = required-least words sheet accepted .satisfies .1
-
-    first-size : length (firstAdjoints A (sheet .roles) seeds) ≡ v + 2
-    first-size = length-append (seeded A (sheet .roles) seeds) (A .zero ∷ A .zero ∷ []) ∙ ap (λ k. k + 2) (seeded-length A (sheet .roles) seeds)
-
-    forward-notes : tableLog A setting (forwardPart marks turning) (memoryAt start) ≡ tableLog A setting turning (memoryAt e)
+    forward-notes : tableLog A setting (forwardPart marks turning₀) (memoryNow start₀) ≡ tableLog A setting turning₀ (memoryNow e)
     unfolding settingOf execution
     forward-notes =
-        forward-notes-nothing A setting known (recordedIn sheet) (length (sheet .constants)) zeros [] (sheet .body) 0 start turning (names-present words sheet accepted) n enough
-        ∙ ap (λ (x : Attempt _ _). onThrough A x (λ m. tableLog A setting turning (memoryAt m))) executes
+        forward-notes-nothing A setting (knownIn sheet) (recordedIn sheet) (length (sheet .constants)) (replicate (v + 2) (A .zero)) [] (sheet .body) 0 start₀ turning₀ (names-present words sheet accepted) n
+        (enough A words sheet accepted (recordedIn sheet) (λ p b h. h) starts seeds n valueRoom turnRoom saves takes)
+        ∙ ap (λ (x : Attempt _ _). onThrough A x (λ m. tableLog A setting turning₀ (memoryNow m))) executes
 
-    turning-notes : tableLog A setting turning (memoryAt e)
+    turning-notes : tableLog A setting turning₀ (memoryNow e)
         ≡ tableLog A setting (backwardPart v marks done)
         (record {
           store = e .store ++ firstAdjoints A (sheet .roles) seeds;
@@ -181,10 +170,10 @@ module _ (A : Arithmetic) (words : List ℕ) (sheet : Sheet) (accepted : read wo
     unfolding startOf savedValues settingOf tableOf adjointTable
     replays-in-reverse k h =
         table-log A setting (tableOf sheet) (startOf A sheet starts .memory) k h
-        ∙ ap (λ t. tableLog A setting (forwardPart t (one (record { origin = ofTurningRound; action = turnRound }) (backwardPart v t done))) (memoryAt start)) is-marked
+        ∙ ap (λ t. tableLog A setting (forwardPart t (one (record { origin = ofTurningRound; action = turnRound }) (backwardPart v t done))) (memoryNow start₀)) is-marked
         ∙ forward-notes ∙ turning-notes
-        ∙ backward-notes known (recordedIn sheet) (setAt (required sheet)) A setting (length (sheet .constants)) (e .store) (λ p b recorded. recorded) run
-        (names-present words sheet accepted) n [] required-holds (firstAdjoints A (sheet .roles) seeds) first-size
+        ∙ backward-notes (knownIn sheet) (recordedIn sheet) (setAt (required sheet)) A setting (length (sheet .constants)) (e .store) (λ p b recorded. recorded) run
+        (names-present words sheet accepted) n [] (required-holds A words sheet accepted (recordedIn sheet) (λ p b h. h) starts seeds n valueRoom turnRoom saves takes) (firstAdjoints A (sheet .roles) seeds) (first-size A (sheet .roles) seeds)
 
   pub demand-three : (valueRoom turnRoom : ℕ) → valuesNeeded (marked sheet) ≤ valueRoom → turnsNeeded (marked sheet) ≤ turnRoom
       → DemandThree A sheet starts seeds valueRoom turnRoom

@@ -9,13 +9,14 @@ use mathlib.Core.Option.{some}
 use lib.ListN.{length, set, getElem?, length-append, length-set}
 use lib.Dec.{T, ltb}
 use native.Mathlib.Omega.{arith}
-use Rattle.number.specs.Arithmetic.{Arithmetic, Outcome, value, stop}
+use Rattle.number.specs.Arithmetic.{Arithmetic, Outcome}
 use Rattle.sheet.specs.Rows.{_≔_, Source, copy, fixed, sum, difference, product, negation}
 use Rattle.sets.specs.VariableSets.{VariableSet, has}
 use Rattle.table.specs.TableRows.{Action, assign, save, takeBack, saveTurn, clear, turnRound, tableVariables}
-use Rattle.run.specs.Attempts.{Attempt, through, halted, _>>=_, whole, look}
+use Rattle.run.specs.Attempts.{through, halted, _>>=_, whole, look}
 use Rattle.run.specs.Actions.{Memory, Setting, evaluated, acted, stored, withStore}
 use Rattle.claims.specs.ReadLog.{originalAt, readsOf}
+use Rattle.claims.proofs.AttemptLaws.{Ready, gives, stops, whole-ready}
 use Rattle.claims.proofs.Stores.{is-below, same-default, at-known, at-first-part, at-second-part, set-second-part}
 
 -- ---- rows that work on the adjoints
@@ -39,16 +40,6 @@ OnAdjoints v needed (takeBack d) = ⊥
 OnAdjoints v needed (saveTurn first) = ⊥
 OnAdjoints v needed (clear d) = (v ≤ d) × (d < tableVariables v)
 OnAdjoints v needed turnRound = ⊥
-
--- ---- what an attempt that isn't stuck comes to
-
-pub data Ready {W X : Type 0} (m : Attempt W X) : Type 0 where
-  gives : (x : X) → m ≡ through x → Ready m
-  stops : (why : W) → m ≡ halted why → Ready m
-
-pub whole-ready : {W X : Type 0} (o : Outcome X W) → Ready (whole o)
-whole-ready (value x) = gives x refl
-whole-ready (stop why) = stops why refl
 
 module _ (A : Arithmetic) where
   -- two stores that agree on a set

@@ -4,7 +4,7 @@ use Prim.Native.Nat.{ℕ, zero, suc, _+_, _<_}
 use mathlib.Core.Path.{_≡_, refl, sym, ap, subst, _∙_}
 use mathlib.Core.Bool.{Bool, true, false, cond}
 use mathlib.Core.List.{List, [], _∷_, _++_}
-use lib.ListN.{length, getD, drop, length-append, List·getD-eq-default}
+use lib.ListN.{length, getD, drop, List·getD-eq-default}
 use lib.Dec.{T}
 use native.Mathlib.Decide.{decLt}
 use native.Mathlib.Nat.{zero-add}
@@ -26,11 +26,13 @@ use Rattle.run.specs.Calls.{settingOf}
 use Rattle.claims.specs.Execution.{Executed, Progress, Stop, performed, execution, executed}
 use Rattle.claims.specs.IdealSweep.{swept, Ideal, ideal}
 use Rattle.claims.specs.EquationTwo.{Instance, valueNo, Trace, EquationTwo}
-use Rattle.claims.proofs.Runs.{Runs, stay, row, left, right, last, more, runs, was-performed, went, same-through}
+use Rattle.claims.proofs.AttemptLaws.{same-through, went}
+use Rattle.claims.proofs.Runs.{Runs, stay, row, left, right, last, more, runs, was-performed}
 use Rattle.claims.proofs.RunsKeepSizes.{performed-keeps, runs-keep}
 use Rattle.claims.proofs.ResiduesGo.{execution-goes}
 use Rattle.claims.proofs.EquationTwoSolved.{fullStep, fullSwept, seedAt, full-sweep-solves}
 use Rattle.claims.proofs.ResidueDerivatives.{derived-goes}
+use Rattle.claims.proofs.RowSeventeen.{first-size}
 use Rattle.claims.proofs.LeanStep.{Agrees, agrees-within, agrees-before}
 
 -- ---- back through an execution
@@ -215,11 +217,6 @@ seeded-at [] seeds x = nothing-past x
 seeded-at (role ∷ roles) seeds zero = refl
 seeded-at (role ∷ roles) seeds (suc x) = seeded-at roles (drop 1 seeds) x ∙ ap (λ y. cond (isDependent (getD roles x 0)) y 0) (getD-tail seeds x)
 
-seeded-length : (roles seeds : List ℕ) → length (seeded residues roles seeds) ≡ length roles
-unfolding seeded
-seeded-length [] seeds = refl
-seeded-length (role ∷ roles) seeds = ap suc (seeded-length roles (drop 1 seeds))
-
 seed-below : (roles seeds : List ℕ) → ((x : ℕ) → x < length roles → getD seeds x 0 < modulus) → (x : ℕ) → seedAt roles seeds x < modulus
 unfolding seedAt
 seed-below roles seeds below x = by-case (decLt x (length roles))
@@ -241,7 +238,7 @@ seeds-agree : (varied : VariableSet) (roles seeds : List ℕ) → ((x : ℕ) →
 unfolding seedAt
 seeds-agree varied roles seeds below =
     record {
-      size = length-append (seeded residues roles seeds) (0 ∷ 0 ∷ []) ∙ ap (λ n. n + 2) (seeded-length roles seeds);
+      size = first-size residues roles seeds;
       below = λ x. subst (λ y. y < modulus) (sym (seeded-at roles seeds x)) (seed-below roles seeds below x);
       useless = λ x h unused. unseeded (isDependent (getD roles x 0)) (getD seeds x 0)
           (λ m. unused (subst T (sym (places-has isDependent 0 refl roles x)) m));

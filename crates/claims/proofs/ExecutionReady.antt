@@ -13,10 +13,10 @@ use Rattle.sheet.specs.Names.{SourcePresent, AssignmentPresent, TestPresent, Pr
 use Rattle.run.specs.Attempts.{Attempt, through, _>>=_, whole, look}
 use Rattle.run.specs.Actions.{evaluated, compared}
 use Rattle.claims.specs.Execution.{Progress, Stop, performed, turned, chosen, executed}
+use Rattle.claims.proofs.AttemptLaws.{Ready, gives, ready-then, stops, whole-ready}
 use Rattle.claims.proofs.Runs.{runs}
 use Rattle.claims.proofs.RunsKeepSizes.{performed-keeps, runs-keep}
 use Rattle.claims.proofs.Stores.{known-at}
-use Rattle.claims.proofs.DerivativeRows.{Ready, gives, stops, whole-ready}
 use Rattle.claims.proofs.Originals.{replaced-alone}
 
 module _ (A : Arithmetic) (constants : List ℕ) (v : ℕ) where
@@ -33,11 +33,6 @@ module _ (A : Arithmetic) (constants : List ℕ) (v : ℕ) where
   evaluated-ready (difference a b) store n p = both-ready (A .difference) a b store n (p .0) (p .1)
   evaluated-ready (product a b) store n p = both-ready (A .product) a b store n (p .0) (p .1)
   evaluated-ready (negation a) store n p = rw (known-at store a (A .zero) (omega arith)) (whole-ready (A .negation _))
-
-  -- one thing after another that isn't stuck
-  ready-then : {W X Y : Type 0} (m : Attempt W X) (next : X → Attempt W Y) → Ready m → ((x : X) → m ≡ through x → Ready (next x)) → Ready (m >>= next)
-  ready-then m next (gives x e) h = rw e (h x e)
-  ready-then m next (stops why e) h = rw e (stops why refl)
 
   performed-ready : (p : ℕ) (b : Assignment) (now : Progress A) → length (now .store) ≡ v → AssignmentPresent v (length constants) b
       → Ready (performed A constants p b now)

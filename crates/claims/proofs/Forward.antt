@@ -21,7 +21,8 @@ use Rattle.run.specs.Actions.{Memory, Setting, evaluated, acted, compared, verd
 use Rattle.claims.specs.Execution.{Progress, Stop, from, onward, performed, turned, chosen, executed}
 use Rattle.claims.specs.IdealSweep.{tableRun}
 use Rattle.claims.specs.SavedRows.{onto, savedValues}
-use Rattle.claims.proofs.Runs.{bind-assoc, bind-same, was-performed, Runs, stay, row, left, right, last, more, runs}
+use Rattle.claims.proofs.AttemptLaws.{bind-assoc, bind-same}
+use Rattle.claims.proofs.Runs.{was-performed, Runs, stay, row, left, right, last, more, runs}
 use Rattle.claims.proofs.Stores.{is-below}
 use Rattle.claims.proofs.RunsKeepSizes.{performed-keeps, runs-keep}
 use Rattle.claims.proofs.Originals.{evaluated-originals, compared-originals, replaced-original, replaced-alone, looked-up}

@@ -9,26 +9,13 @@ use Rattle.sheet.specs.Rows.{Assignment, _≔_}
 use Rattle.sheet.specs.Reading.{Sheet}
 use Rattle.sets.specs.Transfers.{Activity}
 use Rattle.table.specs.Adjoint.{derivativeRows}
-use Rattle.run.specs.Attempts.{Attempt, through, halted, stuck, _>>=_}
+use Rattle.run.specs.Attempts.{Attempt, stuck}
 use Rattle.run.specs.Actions.{Setting}
 use Rattle.run.specs.Calls.{settingOf}
 use Rattle.claims.specs.Execution.{Executed, Stop, execution}
 use Rattle.claims.specs.IdealSweep.{tableRun, derivedBy, swept, Ideal, ideal}
+use Rattle.claims.proofs.AttemptLaws.{bind-unless}
 use Rattle.claims.proofs.Heights.{withRooms, more-room-same-in-the-large}
-
--- what comes after something that is stuck is stuck
-stuck-first : {W X Y : Type 0} (m : Attempt W X) (next : X → Attempt W Y) → ((m >>= next) ≡ stuck → ⊥) → m ≡ stuck → ⊥
-stuck-first m next unstuck e = unstuck (rw e refl)
-
--- a bind whose parts are the same unless they are stuck
-bind-unless : {W X Y : Type 0} (m m′ : Attempt W X) (f f′ : X → Attempt W Y) → ((m ≡ stuck → ⊥) → m′ ≡ m)
-    → ((x : X) → (f x ≡ stuck → ⊥) → f′ x ≡ f x) → ((m >>= f) ≡ stuck → ⊥) → (m′ >>= f′) ≡ (m >>= f)
-bind-unless m m′ f f′ first then unstuck = rw (first (stuck-first m f unstuck)) (by-outcome m unstuck)
-  where
-    by-outcome : (m : Attempt _ _) → ((m >>= f) ≡ stuck → ⊥) → (m >>= f′) ≡ (m >>= f)
-    by-outcome (through x) unstuck = then x unstuck
-    by-outcome (halted why) unstuck = refl
-    by-outcome stuck unstuck = refl
 
 module _ (A : Arithmetic) (setting : Setting A) (values turns : ℕ) (moreValues : setting .valueRoom ≤ values) (moreTurns : setting .turnRoom ≤ turns) where
   abbrev larger : Setting A

@@ -10,6 +10,7 @@ pub mod ReadingExactlyWhen
 pub mod StartExactlyWhen
 pub mod ExactlyWhenHolds
 -- demand 3: the replay
+pub mod AttemptLaws
 pub mod Runs
 pub mod RunsKeepSizes
 pub mod Stores
@@ -25,6 +26,8 @@ pub mod MachineFollows
 pub mod MachineLogs
 pub mod Heights
 pub mod IdealRooms
+pub mod RowSeventeen
+pub mod RunInTheLarge
 pub mod WholeRunMatches
 pub mod RunAccepted
 pub mod RunsAnswer

@@ -1,11 +1,11 @@
 -- The claims speak of something: sheets E (a repeat that saves) and D (an "if") meet every hypothesis, and what is claimed of them isn't empty.
 use Prim.Native.Nat.{ℕ, zero, suc, _<_}
 use mathlib.Core.Path.{_≡_, refl, sym}
-use mathlib.Core.Bool.{Bool, true, false}
+use mathlib.Core.Bool.{true}
 use mathlib.Core.List.{List, [], _∷_, _++_, map}
-use lib.ListN.{length, getD, replicate}
+use lib.ListN.{getD, replicate}
 use native.Mathlib.Omega.{arith}
-use Rattle.number.specs.Residues.{modulus, residues, residue, opposite, residueOf}
+use Rattle.number.specs.Residues.{modulus, residues, residue}
 use Rattle.sheet.specs.Refusals.{Answer, refused, given}
 use Rattle.sheet.specs.Tree.{done}
 use Rattle.sheet.specs.Reading.{Sheet, variablesOf, read}
@@ -16,7 +16,7 @@ use Rattle.run.specs.Attempts.{Attempt, through, halted, stuck}
 use Rattle.run.specs.Actions.{seeded}
 use Rattle.run.specs.Calls.{Lent, settingOf, readToRun, run}
 use Rattle.claims.specs.Execution.{Progress, Stop, execution}
-use Rattle.claims.specs.ReadLog.{Entry, sweptLog}
+use Rattle.claims.specs.ReadLog.{sweptLog}
 use Rattle.claims.specs.EquationTwo.{Instance, valueNo, EquationTwo}
 use Rattle.claims.specs.SavedRows.{savedValues, recordedIn}
 use Rattle.claims.specs.Demands.{AuditSolves, DemandThree, SameAsAllSaved}

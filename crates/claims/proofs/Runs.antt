@@ -1,52 +1,19 @@
 -- An execution that went through, as a derivation: what the claims go by.
 use Prim.Native.Nat.{ℕ, zero, suc, _+_, _<_}
-use mathlib.Core.Path.{_≡_, refl, subst}
-use mathlib.Core.Bool.{Bool, true, false, cond}
+use mathlib.Core.Path.{_≡_, subst}
+use mathlib.Core.Bool.{Bool, true, false}
 use mathlib.Core.List.{List}
-use mathlib.Core.Option.{Option, none, some}
+use mathlib.Core.Option.{some}
 use lib.ListN.{length, set}
-use lib.Dec.{ltb, ltb→lt}
 use native.Mathlib.Omega.{arith}
 use Rattle.number.specs.Arithmetic.{Arithmetic}
 use Rattle.sheet.specs.Tree.{Tree, done, one, fork, again, rows}
 use Rattle.sheet.specs.Rows.{Assignment, _≔_, Source, Test}
 use Rattle.table.specs.TableRows.{Origin, ofRow, itself}
-use Rattle.run.specs.Attempts.{Attempt, through, halted, stuck, _>>=_, present, replaced}
+use Rattle.run.specs.Attempts.{Attempt, through, halted, stuck, present, replaced}
 use Rattle.run.specs.Actions.{evaluated, compared}
 use Rattle.claims.specs.Execution.{Progress, from, onward, performed, turned, chosen, executed}
-
--- ---- attempts in turn
-
-pub bind-assoc : {W X Y Z : Type 0} (m : Attempt W X) (f : X → Attempt W Y) (g : Y → Attempt W Z) → (m >>= f >>= g) ≡ (m >>= λ x. f x >>= g)
-bind-assoc (through x) f g = refl
-bind-assoc (halted why) f g = refl
-bind-assoc stuck f g = refl
-
-pub bind-same : {W X Y : Type 0} (m : Attempt W X) (f g : X → Attempt W Y) → ((x : X) → m ≡ through x → f x ≡ g x) → (m >>= f) ≡ (m >>= g)
-bind-same (through x) f g h = h x refl
-bind-same (halted why) f g h = refl
-bind-same stuck f g h = refl
-
-pub went : {W X Y : Type 0} (m : Attempt W X) (next : X → Attempt W Y) (y : Y) → (m >>= next) ≡ through y
-    → (x : X) × (m ≡ through x) × (next x ≡ through y)
-went (through x) next y e = (x, refl, e)
-went (halted why) next y e = let z : _≡_ {A = ℕ} 0 1 = cc in absurd (omega arith)
-went stuck next y e = let z : _≡_ {A = ℕ} 0 1 = cc in absurd (omega arith)
-
-pub same-through : {W X : Type 0} {x y : X} → _≡_ {A = Attempt W X} (through x) (through y) → x ≡ y
-same-through e = cc
-
-pub is-present : {W X : Type 0} (o : Option X) (x : X) → present {Why = W} o ≡ through x → o ≡ some x
-is-present none x e = let z : _≡_ {A = ℕ} 0 1 = cc in absurd (omega arith)
-is-present (some y) x e = cc
-
--- a store that was replaced at a place had that place
-pub was-replaced : {W X : Type 0} (xs ys : List X) (i : ℕ) (x : X) → replaced {Why = W} xs i x ≡ through ys → (i < length xs) × (ys ≡ set xs i x)
-was-replaced {W} {X} xs ys i x e = by-test (ltb i (length xs)) refl e
-  where
-    by-test : (b : Bool) → ltb i (length xs) ≡ b → cond {A = Attempt W (List X)} b (through (set xs i x)) stuck ≡ through ys → (i < length xs) × (ys ≡ set xs i x)
-    by-test true p q = (ltb→lt i (length xs) (rw p tt), cc)
-    by-test false p q = let z : _≡_ {A = ℕ} 0 1 = cc in absurd (omega arith)
+use Rattle.claims.proofs.AttemptLaws.{gives, is-present, same-through, was-replaced, went}
 
 module _ (A : Arithmetic) where
   pub came : {X : Type 0} (origin : Origin) (m : Attempt (A .Why) X) (x : X) → from A origin m ≡ through x → m ≡ through x
