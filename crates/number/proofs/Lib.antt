@@ -1,2 +1,5 @@
 -- Laws of the arithmetics.
 pub mod ResidueLaws
+pub mod DoubleLaws
+pub mod WholeDoubles
+pub mod ConstantLaws
