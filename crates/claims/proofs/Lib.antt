@@ -2,6 +2,7 @@
 
 -- 01's starred sheets
 pub mod WorkedSheetsHold
+pub mod TableBoundReached
 -- demand 1: each refusal exactly when
 pub mod FirstFailing
 pub mod SectionsJudged

@@ -1,2 +1,3 @@
 -- What is proved of the table.
 pub mod TableLength
+pub mod TableBounds
