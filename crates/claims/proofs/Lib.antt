@@ -27,6 +27,7 @@ pub mod MachineFollows
 pub mod MachineLogs
 pub mod Heights
 pub mod IdealRooms
+pub mod StopRow
 pub mod RowSeventeen
 pub mod RunInTheLarge
 pub mod WholeRunMatches

@@ -7,16 +7,16 @@ use mathlib.Core.List.{List, [], _∷_, _++_, map}
 use lib.ListN.{length, getD, take, drop}
 use Rattle.number.specs.Arithmetic.{Arithmetic}
 use Rattle.number.specs.Residues.{residues}
-use Rattle.sheet.specs.Tree.{Tree, done, one, fork, again, basic}
+use Rattle.sheet.specs.Tree.{Tree, done, one, fork, again, basic, RowNumber}
 use Rattle.sheet.specs.Rows.{Assignment, Test, isIndependent}
 use Rattle.sheet.specs.Reading.{Sheet, variablesOf}
 use Rattle.sets.specs.Equations.{Least}
 use Rattle.sets.specs.Marks.{marked, varied, useful, required, variedEquations, usefulEquations, requiredEquations, activityAt}
-use Rattle.table.specs.TableRows.{TableLine, ofTurningRound, turnRound, turnWord, linesOf}
+use Rattle.table.specs.TableRows.{TableLine, TableRow, Origin, ofTurningRound, turnRound, turnWord, linesOf}
 use Rattle.table.specs.Adjoint.{tableOf}
 use Rattle.table.specs.Sizes.{valuesNeeded, turnsNeeded}
-use Rattle.run.specs.Attempts.{through}
-use Rattle.run.specs.Actions.{Setting, seeded}
+use Rattle.run.specs.Attempts.{through, halted}
+use Rattle.run.specs.Actions.{Memory, Setting, acted, seeded}
 use Rattle.run.specs.Machine.{State, Step, goesOn, sticks, stateAfter, stepsOf}
 use Rattle.run.specs.Calls.{Lent, Ran, settingOf, startOf, runOf, run}
 use Rattle.claims.specs.ExactlyWhen.{CheckExactly, WriteExactly, RunExactly}
@@ -62,6 +62,16 @@ pub record LeastSets (sheet : Sheet) : Type 0 where
   pub varies : Least (variedEquations sheet) (varied sheet)
   pub isUseful : Least (usefulEquations sheet) (useful sheet)
   pub isRequired : Least (requiredEquations sheet (varied sheet) (useful sheet)) (required sheet)
+
+-- "A stop is .. reported in the rows of the real table": the row reported stands in the table, has the stop's origin, and is the one whose
+-- operation the arithmetic refused
+pub record StoppedThere (A : Arithmetic) (setting : Setting A) (lines : List TableLine) (row : RowNumber) (origin : Origin) (why : A .Why) : Type 0 where
+  pub line : TableRow
+  pub rest : List TableLine
+  pub there : drop (row .index) lines ≡ basic line ∷ rest
+  pub comesFrom : line .origin ≡ origin
+  pub memory : Memory A
+  pub refuses : acted A setting (line .action) memory ≡ halted why
 
 -- ---- demand 3: "For every accepted sheet, any start values and seeds, stacks of the sizes 01 computes"
 
