@@ -10,6 +10,7 @@ pub mod RowsJudged
 pub mod ReadingExactlyWhen
 pub mod StartExactlyWhen
 pub mod ExactlyWhenHolds
+pub mod ReaderExactlyWhen
 -- demand 3: the replay
 pub mod AttemptLaws
 pub mod Runs

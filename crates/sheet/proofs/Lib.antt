@@ -1,4 +1,4 @@
--- What is proved of reading.
+-- What is proved of reading, of the definitions first.
 pub mod TreeOnly
 pub mod RowsCounted
 pub mod RowsBack
@@ -8,3 +8,14 @@ pub mod Settled
 pub mod ReadingParts
 pub mod ReadingExact
 pub mod NamesPresent
+-- the laws that the reader's functions are proved by
+pub mod CountsJudged
+pub mod RolesJudged
+pub mod PartsRead
+pub mod Saturated
+pub mod Levels
+pub mod RowsFollowed
+pub mod ShapeRead
+-- what the layers above cite
+pub mod TreeInWords
+pub mod ReaderLaws

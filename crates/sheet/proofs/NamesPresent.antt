@@ -187,7 +187,7 @@ count-judged words place low high width count e =
     })
 
 -- a section of one-word items that are there is as long as its count
-section-length : (words : List ℕ) (place count : ℕ) → suc place + count * 1 ≤ length words → length (take count (drop (suc place) words)) ≡ count
+pub section-length : (words : List ℕ) (place count : ℕ) → suc place + count * 1 ≤ length words → length (take count (drop (suc place) words)) ≡ count
 section-length words place count h = simp (length-take, length-drop) (omega arith)
 
 -- an accepted sheet's roles and constants are as many as its counts say, which are in range

@@ -67,7 +67,7 @@ module _ (v k : ℕ) where
   unfolding fits
   unused-is-0 word e = eqb→eq word 0 (T-of e)
 
-  turns-above-0 : (word : ℕ) → fits v k turns word ≡ true → suc (pred word) ≡ word
+  pub turns-above-0 : (word : ℕ) → fits v k turns word ≡ true → suc (pred word) ≡ word
   unfolding fits
   turns-above-0 word e = let h = leb→le 1 word (T-of (both (leb 1 word) _ e .0)) in omega arith
 

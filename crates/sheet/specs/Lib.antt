@@ -6,3 +6,5 @@ pub mod Rows
 pub mod LongestRun
 pub mod Reading
 pub mod Names
+pub mod Answers
+pub mod Steps

@@ -1,0 +1,36 @@
+-- W up to one above its bound: sums, products and the larger of two can be taken of it as of W.
+use Prim.Native.Nat.{ℕ, suc, _+_, _*_, _≤_, _<_, min, max}
+use mathlib.Core.Path.{_≡_}
+use native.Mathlib.Decide.{decLe}
+use native.Mathlib.Omega.{arith}
+use native.Mathlib.Nat.{mul-le-mul, suc-mul, min-eq-left, min-eq-right}
+use Rattle.sheet.specs.Bounds.{limit}
+use Rattle.sheet.specs.Steps.{saturated}
+
+-- two words multiplied stay far below 2^64
+pub product-small : (m n : ℕ) → m < 65536 → n < 65536 → m * (1 + n) ≤ 65536 * 65536
+product-small m n h k = let p : m ≤ 65536 = omega arith in let q : 1 + n ≤ 65536 = omega arith in mul-le-mul p q
+
+pub saturated-sum : (a b : ℕ) → saturated (saturated a + b) ≡ saturated (a + b)
+unfolding saturated
+saturated-sum a b = omega arith
+
+pub saturated-sum-right : (a b : ℕ) → saturated (a + saturated b) ≡ saturated (a + b)
+unfolding saturated
+saturated-sum-right a b = omega arith
+
+pub saturated-larger : (a b c : ℕ) → saturated (a + (1 + max (saturated b) (saturated c))) ≡ saturated (a + (1 + max b c))
+unfolding saturated
+saturated-larger a b c = omega arith
+
+-- m + 1 turns of a body: beyond the bound as soon as the body is
+pub saturated-product : (a m b : ℕ) → saturated (a + (1 + suc m * (1 + saturated b))) ≡ saturated (a + (1 + suc m * (1 + b)))
+unfolding saturated
+saturated-product a m b = by (decLe b (suc (limit .longestRun)))
+  where
+    above : (n : ℕ) → n ≤ suc m * n
+    above n = omega (arith, suc-mul m n)
+
+    by : Dec (b ≤ 4097) → min (a + (1 + suc m * (1 + min b 4097))) 4097 ≡ min (a + (1 + suc m * (1 + b))) 4097
+    by (yes h) = rw (min-eq-left h)
+    by (no h) = let beyond : 4097 ≤ b = omega arith in rw (min-eq-right beyond) (omega (arith, above 4098, above (1 + b)))

@@ -1,0 +1,165 @@
+-- What the reader's inner functions answer: counts and roles, a row as the blocks see it, the open blocks by their W alone, and W kept from
+-- growing beyond its bound. Nothing here needs to be believed: the contract of `read_sheet` cites none of it.
+use Prim.Native.Nat.{ℕ, suc, _+_, _*_, min, max}
+use mathlib.Core.Bool.{Bool, true, false, _&&_}
+use mathlib.Core.List.{List, map}
+use lib.ListN.{length}
+use lib.Dec.{leb, ltb, eqb}
+use Rattle.sheet.specs.Bounds.{limit}
+use Rattle.sheet.specs.Refusals.{Answer, refused, given, _>>=_}
+use Rattle.sheet.specs.Tree.{basic, ifLine, elseLine, endIf, repeat, endRepeat}
+use Rattle.sheet.specs.Rows.{SheetLine, Row, fits, Kind, kinds}
+use Rattle.sheet.specs.Rows as rows
+use Rattle.sheet.specs.LongestRun.{longestRun}
+use Rattle.sheet.specs.Reading.{Block, Item, bodyOf}
+use Rattle.sheet.specs.Answers.{refusalOf}
+use Rattle.sheet.specs.declared.No.the-variants.{WordsLeft, TooLong}
+use Rattle.sheet.specs.declared.Shape.{Shape}
+use Rattle.sheet.specs.declared.Reading.{Reading}
+use Rattle.sheet.specs.declared.Reading.the-variants as reading
+use Rattle.sheet.specs.declared.Count.{Count}
+use Rattle.sheet.specs.declared.Count.the-variants as count
+use Rattle.sheet.specs.declared.Roles.{Roles}
+use Rattle.sheet.specs.declared.Roles.the-variants as roles
+use Rattle.sheet.specs.declared.Slot.{Slot}
+use Rattle.sheet.specs.declared.Slot.the-variants as slot
+use Rattle.sheet.specs.declared.Form.{Form}
+use Rattle.sheet.specs.declared.Part.{Part}
+use Rattle.sheet.specs.declared.Part.the-variants as part
+use Rattle.sheet.specs.declared.Open.{Open}
+use Rattle.sheet.specs.declared.Open.the-variants as block
+use Rattle.sheet.specs.declared.Level.{Level}
+use Rattle.sheet.specs.declared.Step.{Step}
+use Rattle.sheet.specs.declared.Step.the-variants as step
+use Rattle.sheet.specs.declared.Body.{Body}
+use Rattle.sheet.specs.declared.Body.the-variants as body
+
+abbrev pub pick : {A : Type 0} → Bool → A → A → A
+pick true a b = a
+pick false a b = b
+
+-- ---- counts and roles
+
+abbrev pub countSaid : Count → Answer ℕ
+countSaid (count.Refused why) = refused (refusalOf why)
+countSaid (count.Is n) = given n
+
+abbrev pub rolesSaid : Roles → Answer (Unit {0})
+rolesSaid (roles.Refused why) = refused (refusalOf why)
+rolesSaid roles.Fit = given tt
+
+-- ---- the table of kinds
+
+-- a slot as the code names it
+abbrev pub slotOf : rows.Slot → Slot
+slotOf rows.variable = slot.Variable
+slotOf rows.constant = slot.Constant
+slotOf rows.turns = slot.Turns
+slotOf rows.unused = slot.Unused
+
+-- and what it stands for
+abbrev pub slotSaid : Slot → rows.Slot
+slotSaid slot.Variable = rows.variable
+slotSaid slot.Constant = rows.constant
+slotSaid slot.Turns = rows.turns
+slotSaid slot.Unused = rows.unused
+
+abbrev pub fitsSlot : (variables constants : ℕ) → Slot → ℕ → Bool
+fitsSlot v k slot word = fits v k (slotSaid slot) word
+
+abbrev pub formOf : Kind → Form
+formOf kind = record { d = slotOf (kind .d); a = slotOf (kind .a); b = slotOf (kind .b) }
+
+-- the form of each kind, from kind 1 on
+abbrev pub forms : List Form
+forms = map formOf kinds
+
+-- what the logic reads beyond the table; the code never looks there
+abbrev pub noForm : Form
+noForm = record { d = slot.Variable; a = slot.Variable; b = slot.Variable }
+
+-- each of a row's three words fits its slot
+abbrev pub formFits : (variables constants : ℕ) → Form → (d a b : ℕ) → Bool
+formFits v k form d a b = fitsSlot v k (form .d) d && fitsSlot v k (form .a) a && fitsSlot v k (form .b) b
+
+-- ---- a row as the blocks see it
+
+-- by its line, or refused
+abbrev pub partOf : Answer SheetLine → Part
+partOf (refused r) = part.Wrong
+partOf (given (basic b)) = part.Assignment
+partOf (given (ifLine f)) = part.If
+partOf (given elseLine) = part.Else
+partOf (given endIf) = part.EndIf
+partOf (given (repeat m)) = part.Repeat (suc m)
+partOf (given endRepeat) = part.EndRepeat
+
+-- the same of a row that fits, by its kind and its repeat count
+unfoldable pub partFor : (kind a : ℕ) → Part
+partFor kind a =
+    pick (eqb kind 7) part.If
+    (pick (eqb kind 8) part.Else
+    (pick (eqb kind 9) part.EndIf
+    (pick (eqb kind 10) (part.Repeat a)
+    (pick (eqb kind 11) part.EndRepeat part.Assignment))))
+
+-- ---- what a row does to the blocks that are open
+
+-- W up to one above its bound
+unfoldable pub saturated : ℕ → ℕ
+saturated n = min n (suc (limit .longestRun))
+
+unfoldable pub enterOf : ℕ → Open → Step
+enterOf depth block = pick (ltb depth (limit .depth)) (step.Enter (record { block = block; longest = 0 })) step.BadBlock
+
+unfoldable pub splitOf : Open → ℕ → Step
+splitOf block.Outermost longest = step.BadBlock
+splitOf block.First longest = step.Stay (record { block = block.Second longest; longest = 0 })
+splitOf (block.Second first) longest = step.BadBlock
+splitOf (block.Turns m) longest = step.BadBlock
+
+unfoldable pub ifEndOf : Open → ℕ → Level → Step
+unfolding saturated
+ifEndOf block.Outermost longest outer = step.BadBlock
+ifEndOf block.First longest outer = step.BadBlock
+ifEndOf (block.Second first) longest outer =
+    step.Leave (record { block = outer .block; longest = saturated (outer .longest + (1 + max first longest)) })
+ifEndOf (block.Turns m) longest outer = step.BadBlock
+
+unfoldable pub repeatEndOf : Open → ℕ → Level → Step
+unfolding saturated
+repeatEndOf block.Outermost longest outer = step.BadBlock
+repeatEndOf block.First longest outer = step.BadBlock
+repeatEndOf (block.Second first) longest outer = step.BadBlock
+repeatEndOf (block.Turns m) longest outer =
+    step.Leave (record { block = outer .block; longest = saturated (outer .longest + (1 + m * (1 + longest))) })
+
+unfoldable pub stepOf : Part → (depth : ℕ) → (inner outer : Level) → Step
+unfolding saturated enterOf splitOf ifEndOf repeatEndOf
+stepOf part.Wrong depth inner outer = step.BadRow
+stepOf part.Assignment depth inner outer = step.Stay (record { block = inner .block; longest = saturated (inner .longest + 1) })
+stepOf part.If depth inner outer = enterOf depth block.First
+stepOf part.Else depth inner outer = splitOf (inner .block) (inner .longest)
+stepOf part.EndIf depth inner outer = ifEndOf (inner .block) (inner .longest) outer
+stepOf (part.Repeat m) depth inner outer = enterOf depth (block.Turns m)
+stepOf part.EndRepeat depth inner outer = repeatEndOf (inner .block) (inner .longest) outer
+
+-- ---- all rows
+
+abbrev pub bodySaid : Body → Answer ℕ
+bodySaid (body.Refused why) = refused (refusalOf why)
+bodySaid (body.Longest longest) = given longest
+
+-- W of what the rows are after what has been read, up to one above its bound
+unfoldable pub bodyRun : (variables constants : ℕ) → List Row → (place : ℕ) → List Block → List Item → Answer ℕ
+unfolding bodyOf longestRun saturated
+bodyRun v k rows place blocks items = do
+  tree ← bodyOf v k rows place blocks items
+  given (saturated (longestRun tree))
+
+-- what is judged after the rows
+unfoldable pub finishOf : Shape → (after length : ℕ) → Reading
+finishOf shape after length =
+    pick (leb length after)
+    (pick (leb (shape .longest) (limit .longestRun)) (reading.Accepted shape) (reading.Refused TooLong))
+    (reading.Refused (WordsLeft after))
