@@ -3,3 +3,6 @@ pub mod Attempts
 pub mod Actions
 pub mod Machine
 pub mod Calls
+pub mod Answers
+pub mod Buffers
+pub mod RowWords

@@ -1,0 +1,155 @@
+-- Row 17 as one loop: a turn of it copies one value out and sets one adjoint.
+use Prim.Native.Nat.{ℕ, zero, suc, _+_, _*_, _≤_, _<_}
+use mathlib.Core.Path.{_≡_, refl, sym, ap, _∙_}
+use mathlib.Core.Bool.{cond}
+use mathlib.Core.List.{List, [], _∷_, _++_, append-nil}
+use native.Mathlib.Nat.{zero-add}
+use native.Mathlib.Numerals.{add-one}
+use native.Mathlib.Omega.{arith}
+use lib.ListN.{length, getD, take, drop, set, length-append, List·getD-append, drop-of-length-le}
+use lib.Seq.{paste, paste-zero, paste-suc, length-paste, getD-take, getD-drop, take-all, length-take-le}
+use Rattle.number.specs.Arithmetic.{Arithmetic}
+use Rattle.sheet.specs.Rows.{isDependent}
+use Rattle.run.specs.Attempts.{through, stuck}
+use Rattle.run.specs.Actions.{seeded, turnedRound, acted}
+use Rattle.run.specs.Buffers.{RoundSizes, TurnsRound}
+
+any-default : {X : Type 0} (l : List X) (i : ℕ) (y z : X) → i < length l → getD l i y ≡ getD l i z
+any-default [] i y z h = absurd (omega arith)
+any-default (x ∷ l) zero y z h = refl
+any-default (x ∷ l) (suc i) y z h = any-default l i y z (omega arith)
+
+module _ (A : Arithmetic) where
+  pub seeded-length : (roles : List ℕ) (seeds : List (A .Carrier)) → length (seeded A roles seeds) ≡ length roles
+  unfolding seeded
+  seeded-length [] seeds = refl
+  seeded-length (role ∷ roles) seeds = ap suc (seeded-length roles (drop 1 seeds))
+
+  pub seeded-at : (roles : List ℕ) (seeds : List (A .Carrier)) (i : ℕ) (z : A .Carrier) → i < length roles
+      → getD (seeded A roles seeds) i z ≡ cond (isDependent (getD roles i 0)) (getD seeds i (A .zero)) (A .zero)
+  unfolding seeded
+  seeded-at [] seeds i z h = absurd (omega arith)
+  seeded-at (role ∷ roles) seeds zero z h = refl
+  seeded-at (role ∷ roles) seeds (suc i) z h =
+      let next : 1 + i ≡ suc i = omega arith in
+      seeded-at roles (drop 1 seeds) i z (omega arith)
+      ∙ ap (λ x. cond (isDependent (getD roles i 0)) x (A .zero)) (getD-drop 1 seeds i (A .zero) ∙ ap (λ n. getD seeds n (A .zero)) next)
+
+  module _ (roles : List ℕ) (seeds store copied : List (A .Carrier)) where
+    -- the buffers after i turns
+    pub record Copying (i : ℕ) (storeNow copiedNow : List (A .Carrier)) : Type 0 where
+      pub storeIs : storeNow ≡ paste store (length roles) (seeded A roles seeds) i
+      pub copiedIs : copiedNow ≡ paste copied 0 store i
+
+    pub copying-starts : Copying 0 store copied
+    copying-starts =
+        record { storeIs = paste-zero store (length roles) (seeded A roles seeds); copiedIs = paste-zero copied 0 store }
+
+    module _ (sizes : RoundSizes A roles seeds store copied) where
+      pub copying-store-length : {i : ℕ} {s c : List (A .Carrier)} → i ≤ length roles → Copying i s c → length s ≡ length store
+      copying-store-length {i} h now =
+          let enough = sizes .storeFits in
+          ap length (now .storeIs)
+          ∙ length-paste store (length roles) (seeded A roles seeds) i (omega arith) (rw (seeded-length roles seeds) h)
+
+      pub copying-copied-length : {i : ℕ} {s c : List (A .Carrier)} → i ≤ length roles → Copying i s c → length c ≡ length copied
+      copying-copied-length {i} h now =
+          let enough = sizes .storeFits in
+          let room = sizes .copiedFits in
+          ap length (now .copiedIs) ∙ length-paste copied 0 store i (omega arith) (omega arith)
+
+      -- the originals stay as they are
+      original-kept : (i j : ℕ) (z : A .Carrier) → j < length roles
+          → getD (paste store (length roles) (seeded A roles seeds) i) j z ≡ getD store j z
+      original-kept i j z h =
+          let v = length roles in
+          let adjoints = take i (seeded A roles seeds) in
+          let enough = sizes .storeFits in
+          let whole : length (take v store) ≡ v = length-take-le v store (omega arith) in
+          let more = length-append (take v store) adjoints in
+          List·getD-append (take v store ++ adjoints) (drop (v + i) store) z j (omega arith)
+          ∙ List·getD-append (take v store) adjoints z j (omega arith)
+          ∙ getD-take v store j z h
+
+      pub copying-goes-on : (i : ℕ) (s c : List (A .Carrier)) (z : A .Carrier) → i < length roles → Copying i s c
+          → Copying (i + 1) (set s (length roles + i) (cond (isDependent (getD roles i 0)) (getD seeds i z) (A .zero))) (set c i (getD s i z))
+      copying-goes-on i s c z h now =
+          let v = length roles in
+          let enough = sizes .storeFits in
+          let room = sizes .copiedFits in
+          let there : i < length seeds = rw (sizes .seedsFit) h in
+          let seed : cond (isDependent (getD roles i 0)) (getD seeds i z) (A .zero) ≡ getD (seeded A roles seeds) i z =
+          rw (any-default seeds i z (A .zero) there) (sym (seeded-at roles seeds i z h)) in
+          rw (add-one i, seed, now .storeIs, now .copiedIs, original-kept i i z h)
+          (record {
+            storeIs = paste-suc store v (seeded A roles seeds) i z (omega arith) (rw (seeded-length roles seeds) h);
+            copiedIs =
+                ap (λ n. set (paste copied 0 store i) n (getD store i z)) (sym (zero-add i))
+                ∙ paste-suc copied 0 store i z (omega arith) (omega arith);
+          })
+
+      store-done : (s c : List (A .Carrier)) → Copying (length roles) s c
+          → s ≡ take (length roles) store ++ seeded A roles seeds ++ drop (2 * length roles) store
+      store-done s c now =
+          let v = length roles in
+          let twice : v + v ≡ 2 * v = omega arith in
+          let all : take v (seeded A roles seeds) ≡ seeded A roles seeds =
+          take-all v (seeded A roles seeds) (omega (arith, seeded-length roles seeds)) in
+          now .storeIs ∙ rw (all, twice)
+
+      copied-done : (s c : List (A .Carrier)) → Copying (length roles) s c → c ≡ take (length roles) store
+      copied-done s c now =
+          let v = length roles in
+          let room = sizes .copiedFits in
+          let none-left : drop (0 + v) copied ≡ [] = drop-of-length-le copied {i = 0 + v} (omega arith) in
+          now .copiedIs ∙ rw none-left (append-nil (take v store))
+
+      pub round-done : (s c : List (A .Carrier)) → Copying (length roles) s c → TurnsRound A roles seeds store copied s c (through tt)
+      unfolding acted turnedRound
+      round-done s c now =
+          record {
+            round = λ _ setting values height turns turnHeight former v r e sound.
+                record {
+                  meaning = rw (v, r, e, store-done s c now, copied-done s c now);
+                  sound = record { values = sound .values; turns = sound .turns; valueRoom = sound .valueRoom; turnRoom = sound .turnRoom };
+                  unchanged = λ not. absurd (not refl);
+                };
+            refused = λ not. absurd (not sizes);
+          }
+
+    -- no turn at all
+    pub round-refused : (RoundSizes A roles seeds store copied → ⊥) → TurnsRound A roles seeds store copied store copied stuck
+    round-refused not = record { round = λ sizes. absurd (not sizes); refused = λ _. (refl, refl, refl) }
+
+    -- the loop's invariant: i turns are done
+    pub record Turning (i : ℕ) (storeNow copiedNow : List (A .Carrier)) : Type 0 where
+      pub within : i ≤ length roles
+      pub sizes : RoundSizes A roles seeds store copied
+      pub storeLength : length storeNow ≡ length store
+      pub copiedLength : length copiedNow ≡ length copied
+      pub copying : Copying i storeNow copiedNow
+
+    pub turning-starts : RoundSizes A roles seeds store copied → Turning 0 store copied
+    turning-starts sizes = record { within = omega arith; sizes = sizes; storeLength = refl; copiedLength = refl; copying = copying-starts }
+
+    pub turning-goes-on : (i : ℕ) (s c : List (A .Carrier)) (z x : A .Carrier) → i < length roles
+        → x ≡ cond (isDependent (getD roles i 0)) (getD seeds i z) (A .zero)
+        → Turning i s c
+        → Turning (i + 1) (set s (length roles + i) x) (set c i (getD s i z))
+    turning-goes-on i s c z x h is now =
+        let next : i + 1 ≤ length roles = omega arith in
+        let sizes = now .sizes in
+        let copying = rw (sym is) at (copying-goes-on sizes i s c z h (now .copying)) in
+        record {
+          within = next;
+          sizes = sizes;
+          storeLength = copying-store-length sizes next copying;
+          copiedLength = copying-copied-length sizes next copying;
+          copying = copying;
+        }
+
+    pub turning-ends : (i : ℕ) (s c : List (A .Carrier)) → length roles ≤ i → Turning i s c
+        → TurnsRound A roles seeds store copied s c (through tt)
+    turning-ends i s c h now =
+        let all : i ≡ length roles = omega arith in
+        round-done (now .sizes) s c (rw all at (now .copying))

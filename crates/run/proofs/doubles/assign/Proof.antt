@@ -1,0 +1,62 @@
+-- `run::doubles::assign` meets its contract.
+use Rattle.number.specs.Doubles.{doubles}
+use Rattle.number.specs.Doubles.{notFinite}
+use Rattle.run.proofs.RowLaws.{assign-goes, assign-stops, assign-sticks, assign-nowhere}
+use borrow.Author.Needs.{needs}
+use Rattle.run.proofs.doubles.assign.Statement.{statement}
+use Rattle.run.proofs.doubles.assign.Tie as tie
+
+enum-known-read : tie.Need-enum-known-read
+enum-known-read c = search needs
+
+returns : tie.Need-returns
+returns c =
+    let args = c .before .before .before .before .args in
+    let x = c .before .before .read .given .0 .0 in
+    rw (c .before .before .read .given .1) (assign-nowhere doubles (args .d) (args .vals .now) x (c .if1 .taken))
+
+mul-vals : tie.Need-mul-vals
+mul-vals c = search needs
+
+slice-write-vals : tie.Need-slice-write-vals
+slice-write-vals c = search needs
+
+same-length : tie.Need-same-length
+same-length c = search needs
+
+returns-2 : tie.Need-returns-2
+returns-2 c =
+    let args = c .before .before .before .before .args in
+    let x = c .before .before .read .given .0 .0 in
+    rw (c .before .before .read .given .1) (assign-goes doubles (args .d) (args .vals .now) x (c .if1 .left))
+
+enum-told : tie.Need-enum-told
+enum-told c = search needs
+
+returns-3 : tie.Need-returns-3
+returns-3 c =
+    let args = c .before .before .args in
+    rw (c .enum-told .given .1) (assign-stops doubles (args .d) (args .vals .now) notFinite)
+
+enum-told-2 : tie.Need-enum-told-2
+enum-told-2 c = search needs
+
+returns-4 : tie.Need-returns-4
+returns-4 c =
+    let args = c .before .before .args in
+    rw (c .enum-told2 .given .1) (assign-sticks doubles (args .d) (args .vals .now))
+
+pub assign-spec : {M : Type 1} → statement M
+assign-spec =
+    tie.close
+    (tie.spec
+    enum-known-read
+    returns
+    mul-vals
+    slice-write-vals
+    same-length
+    returns-2
+    enum-told
+    returns-3
+    enum-told-2
+    returns-4)

@@ -1,0 +1,32 @@
+-- `run::doubles::clear` meets its contract.
+use Rattle.number.specs.Doubles.{doubles}
+use Rattle.run.proofs.RowLaws.{clear-goes, clear-nowhere}
+use borrow.Author.Needs.{needs}
+use Rattle.run.proofs.doubles.clear.Statement.{statement}
+use Rattle.run.proofs.doubles.clear.Tie as tie
+
+returns : tie.Need-returns
+returns c =
+    let args = c .before .before .args in
+    clear-nowhere doubles (args .d) (args .vals .now) (c .if1 .taken)
+
+zero-requires : tie.Need-zero-requires
+zero-requires c κs = search needs
+
+mul-vals : tie.Need-mul-vals
+mul-vals c = search needs
+
+slice-write-vals : tie.Need-slice-write-vals
+slice-write-vals c = search needs
+
+same-length : tie.Need-same-length
+same-length c = search needs
+
+returns-2 : tie.Need-returns-2
+returns-2 c =
+    let args = c .before .before .before .args in
+    rw (c .zero .ensures) (clear-goes doubles (args .d) (args .vals .now) (c .before .if1 .left))
+
+pub clear-spec : {M : Type 1} → statement M
+clear-spec =
+    tie.close (tie.spec returns zero-requires mul-vals slice-write-vals same-length returns-2)

@@ -1,0 +1,29 @@
+-- `run::doubles::copied` meets its contract: what stands at the place, if it is there.
+use mathlib.Core.Path.{sym}
+use lib.Ieee.{nan}
+use Rattle.run.specs.Actions.{evaluated}
+use Rattle.run.proofs.PlaceLaws.{look-there, look-missing}
+use borrow.Author.Needs.{needs}
+use Rattle.run.proofs.doubles.copied.Statement.{statement}
+use Rattle.run.proofs.doubles.copied.Tie as tie
+
+mul-t6 : tie.Need-mul-t6
+mul-t6 c = search needs
+
+shared-slice-read-t8 : tie.Need-shared-slice-read-t8
+shared-slice-read-t8 c = search needs
+
+returns : tie.Need-returns
+unfolding evaluated
+returns c constants =
+    let args = c .before .before .args in
+    sym (look-there (args .vals .now) (args .a) nan (c .before .if1 .taken))
+
+returns-2 : tie.Need-returns-2
+unfolding evaluated
+returns-2 c constants =
+    let args = c .before .args in
+    sym (look-missing (args .vals .now) (args .a) (c .if1 .left))
+
+pub copied-spec : {M : Type 1} → statement M
+copied-spec = tie.close (tie.spec mul-t6 shared-slice-read-t8 returns returns-2)

@@ -1,0 +1,19 @@
+-- `run::doubles::read_of` meets its contract.
+use borrow.Author.Needs.{needs}
+use Rattle.run.proofs.doubles.read_of.Statement.{statement}
+use Rattle.run.proofs.doubles.read_of.Tie as tie
+
+enum-known-outcome : tie.Need-enum-known-outcome
+enum-known-outcome c = search needs
+
+enum-told : tie.Need-enum-told
+enum-told c = search needs
+
+returns : tie.Need-returns
+returns c = rw (c .before .outcome .given .1)
+
+returns-2 : tie.Need-returns-2
+returns-2 c = search needs
+
+pub read-of-spec : {M : Type 1} → statement M
+read-of-spec = tie.close (tie.spec enum-known-outcome enum-told returns returns-2)

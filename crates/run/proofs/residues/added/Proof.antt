@@ -1,0 +1,58 @@
+-- `run::residues::added` meets its contract: both places are there, or the first that isn't is where it is stuck.
+use mathlib.Core.Path.{ap, _∙_}
+use Rattle.number.specs.Residues.{residues}
+use Rattle.run.specs.Attempts.{whole}
+use Rattle.run.specs.Actions.{evaluated}
+use Rattle.run.proofs.PlaceLaws.{operands-there, first-missing, second-missing}
+use borrow.Author.Needs.{needs}
+use Rattle.run.proofs.residues.added.Statement.{statement}
+use Rattle.run.proofs.residues.added.Tie as tie
+
+returns : tie.Need-returns
+unfolding evaluated
+returns c constants =
+    let args = c .before .before .args in
+    first-missing (args .vals .now) (λ x y. whole (residues .sum x y)) (args .a) (args .b) (c .if1 .taken)
+
+returns-2 : tie.Need-returns-2
+unfolding evaluated
+returns-2 c constants =
+    let args = c .before .before .before .args in
+    second-missing (args .vals .now) (λ x y. whole (residues .sum x y)) (args .a) (args .b) 0 (c .before .if1 .left) (c .if2 .taken)
+
+mul-sum : tie.Need-mul-sum
+mul-sum c = search needs
+
+shared-slice-read-sum : tie.Need-shared-slice-read-sum
+shared-slice-read-sum c = search needs
+
+mul-sum-2 : tie.Need-mul-sum-2
+mul-sum-2 c = search needs
+
+shared-slice-read-sum-2 : tie.Need-shared-slice-read-sum-2
+shared-slice-read-sum-2 c = search needs
+
+sum-requires : tie.Need-sum-requires
+sum-requires c κs = search needs
+
+returns-3 : tie.Need-returns-3
+unfolding evaluated
+returns-3 c constants =
+    let args = c .before .before .before .before .before .before .args in
+    ap whole (c .sum .ensures)
+    ∙ operands-there (args .vals .now) (λ x y. whole (residues .sum x y)) (args .a) (args .b) 0
+    (c .before .before .before .before .if1 .left)
+    (c .before .before .before .if2 .left)
+
+pub added-spec : {M : Type 1} → statement M
+added-spec =
+    tie.close
+    (tie.spec
+    returns
+    returns-2
+    mul-sum
+    shared-slice-read-sum
+    mul-sum-2
+    shared-slice-read-sum-2
+    sum-requires
+    returns-3)

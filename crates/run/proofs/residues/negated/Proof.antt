@@ -1,0 +1,34 @@
+-- `run::residues::negated` meets its contract: the opposite of what stands at the place, if it is there.
+use mathlib.Core.Path.{ap}
+use Rattle.run.specs.Actions.{evaluated}
+use Rattle.run.specs.Attempts.{whole}
+use Rattle.run.proofs.PlaceLaws.{look-there, look-missing}
+use borrow.Author.Needs.{needs}
+use Rattle.run.proofs.residues.negated.Statement.{statement}
+use Rattle.run.proofs.residues.negated.Tie as tie
+
+mul-negation : tie.Need-mul-negation
+mul-negation c = search needs
+
+shared-slice-read-negation : tie.Need-shared-slice-read-negation
+shared-slice-read-negation c = search needs
+
+negation-requires : tie.Need-negation-requires
+negation-requires c κs = search needs
+
+returns : tie.Need-returns
+unfolding evaluated
+returns c constants =
+    let args = c .before .before .before .before .args in
+    rw (look-there (args .vals .now) (args .a) 0 (c .before .before .if1 .taken)) (ap whole (c .negation .ensures))
+
+returns-2 : tie.Need-returns-2
+unfolding evaluated
+returns-2 c constants =
+    let args = c .before .before .args in
+    rw (look-missing (args .vals .now) (args .a) (c .if1 .left))
+
+pub negated-spec : {M : Type 1} → statement M
+negated-spec =
+    tie.close
+    (tie.spec mul-negation shared-slice-read-negation negation-requires returns returns-2)

@@ -1,0 +1,132 @@
+-- `run::residues::turn_round` meets its contract.
+use borrow.Author.Needs.{needs}
+use Prim.Native.Nat.{_-_}
+use native.Mathlib.Omega.{arith}
+use lib.ListN.{length}
+use Rattle.number.specs.Residues.{residues}
+use Rattle.run.proofs.RoundLaws.{Turning, turning-starts, turning-goes-on, turning-ends, round-refused}
+use Rattle.run.proofs.residues.turn_round.Statement.{statement}
+use Rattle.run.proofs.residues.turn_round.Tie as tie
+
+abbrev Inv-loop : tie.InvT-loop
+Inv-loop roles seeds vals₀ copied₀ variables i₀ vals copied i = Turning residues roles seeds vals₀ copied₀ i vals copied
+
+abbrev μ-loop : tie.MeasureT-loop
+μ-loop roles seeds vals₀ copied₀ variables i₀ vals copied i = length roles - i
+
+returns : tie.Need-returns Inv-loop μ-loop
+returns c =
+    let args = c .before .before .before .before .before .args in
+    round-refused residues (args .roles .now) (args .seeds .now) (args .vals .now) (args .copied .now) (λ sizes. omega (arith, sizes .seedsFit))
+
+returns-2 : tie.Need-returns-2 Inv-loop μ-loop
+returns-2 c =
+    let args = c .before .before .before .before .before .before .args in
+    round-refused residues (args .roles .now) (args .seeds .now) (args .vals .now) (args .copied .now) (λ sizes. omega (arith, sizes .copiedFits))
+
+add-if3 : tie.Need-add-if3 Inv-loop μ-loop
+add-if3 c = omega arith
+
+returns-3 : tie.Need-returns-3 Inv-loop μ-loop
+returns-3 c =
+    let args = c .before .before .before .before .before .before .before .args in
+    round-refused residues (args .roles .now) (args .seeds .now) (args .vals .now) (args .copied .now) (λ sizes. omega (arith, sizes .storeFits))
+
+loop-holds : tie.Need-loop-holds Inv-loop μ-loop
+loop-holds c =
+    let args = c .before .before .before .before .before .before .before .args in
+    turning-starts residues (args .roles .now) (args .seeds .now) (args .vals .now) (args .copied .now)
+    (record { seedsFit = omega arith; storeFits = omega arith; copiedFits = omega arith })
+
+mul-copied : tie.Need-mul-copied Inv-loop μ-loop
+mul-copied c = omega arith
+
+slice-read-copied : tie.Need-slice-read-copied Inv-loop μ-loop
+slice-read-copied c = omega arith
+
+mul-copied-2 : tie.Need-mul-copied-2 Inv-loop μ-loop
+mul-copied-2 c = omega arith
+
+slice-write-copied : tie.Need-slice-write-copied Inv-loop μ-loop
+slice-write-copied c = omega arith
+
+mul-seed-or-zero : tie.Need-mul-seed-or-zero Inv-loop μ-loop
+mul-seed-or-zero c = omega arith
+
+shared-slice-read-seed-or-zero : tie.Need-shared-slice-read-seed-or-zero Inv-loop μ-loop
+shared-slice-read-seed-or-zero c = omega arith
+
+mul-seed-or-zero-2 : tie.Need-mul-seed-or-zero-2 Inv-loop μ-loop
+mul-seed-or-zero-2 c = omega arith
+
+shared-slice-read-seed-or-zero-2 : tie.Need-shared-slice-read-seed-or-zero-2 Inv-loop μ-loop
+shared-slice-read-seed-or-zero-2 c = omega arith
+
+seed-or-zero-requires : tie.Need-seed-or-zero-requires Inv-loop μ-loop
+seed-or-zero-requires c κs = search needs
+
+add-vals : tie.Need-add-vals Inv-loop μ-loop
+add-vals c = omega arith
+
+mul-vals : tie.Need-mul-vals Inv-loop μ-loop
+mul-vals c = omega arith
+
+slice-write-vals : tie.Need-slice-write-vals Inv-loop μ-loop
+slice-write-vals c = omega arith
+
+add-i : tie.Need-add-i Inv-loop μ-loop
+add-i c = omega arith
+
+loop-less : tie.Need-loop-less Inv-loop μ-loop
+loop-less c = omega arith
+
+loop-again : tie.Need-loop-again Inv-loop μ-loop
+loop-again c =
+    let args = c .before .before .before .before .before .before .before .before .before .before .before .before .before .args in
+    let loop = c .before .before .before .before .before .loop in
+    turning-goes-on residues (args .roles .now) (args .seeds .now) (args .vals .now) (args .copied .now) (loop .i) (loop .vals) (loop .copied) 0 (c .seed-or-zero .result)
+    (c .before .before .before .before .loop-test .taken)
+    (c .seed-or-zero .ensures)
+    (loop .inv)
+
+same-length : tie.Need-same-length Inv-loop μ-loop
+same-length c = omega arith
+
+same-length-2 : tie.Need-same-length-2 Inv-loop μ-loop
+same-length-2 c = omega arith
+
+returns-4 : tie.Need-returns-4 Inv-loop μ-loop
+returns-4 c =
+    let args = c .before .before .before .before .before .before .before .before .before .args in
+    let loop = c .before .loop in
+    turning-ends residues (args .roles .now) (args .seeds .now) (args .vals .now) (args .copied .now) (loop .i) (loop .vals) (loop .copied) (c .loop-test .left) (loop .inv)
+
+pub turn-round-spec : {M : Type 1} → statement M
+turn-round-spec =
+    tie.close
+    (tie.spec
+    Inv-loop
+    μ-loop
+    returns
+    returns-2
+    add-if3
+    returns-3
+    loop-holds
+    mul-copied
+    slice-read-copied
+    mul-copied-2
+    slice-write-copied
+    mul-seed-or-zero
+    shared-slice-read-seed-or-zero
+    mul-seed-or-zero-2
+    shared-slice-read-seed-or-zero-2
+    seed-or-zero-requires
+    add-vals
+    mul-vals
+    slice-write-vals
+    add-i
+    loop-less
+    loop-again
+    same-length
+    same-length-2
+    returns-4)

@@ -1,0 +1,66 @@
+-- What an answer of the code stands for: an attempt, or the branch that a test picks.
+use Prim.Native.Nat.{ℕ}
+use mathlib.Core.Bool.{Bool, true, false}
+use mathlib.Core.Option.{Option, none, some}
+use lib.Ieee.{Float}
+use Rattle.number.specs.Doubles.{doubles, notFinite}
+use Rattle.number.specs.Residues.{residues}
+use Rattle.run.specs.Attempts.{Attempt, through, halted, stuck}
+use Rattle.run.specs.Actions.{Try}
+use Rattle.run.specs.declared.ResidueRead.{ResidueRead}
+use Rattle.run.specs.declared.ResidueRead.the-variants as residue-read
+use Rattle.run.specs.declared.DoubleRead.{DoubleRead}
+use Rattle.run.specs.declared.DoubleRead.the-variants as double-read
+use Rattle.run.specs.declared.Went.{Went}
+use Rattle.run.specs.declared.Went.the-variants as went
+use Rattle.run.specs.declared.Did.{Did}
+use Rattle.run.specs.declared.Did.the-variants as did
+use Rattle.run.specs.declared.Moved.{Moved}
+use Rattle.run.specs.declared.Moved.the-variants as moved
+use Rattle.run.specs.declared.Branch.{Branch}
+use Rattle.run.specs.declared.Branch.the-variants as branch
+use Rattle.run.specs.declared.Branched.{Branched}
+use Rattle.run.specs.declared.Branched.the-variants as branched
+
+abbrev pub readResidue : ResidueRead → Try residues ℕ
+readResidue (residue-read.Is x) = through x
+readResidue residue-read.Stuck = stuck
+
+abbrev pub readDouble : DoubleRead → Try doubles Float
+readDouble (double-read.Is x) = through x
+readDouble double-read.Stopped = halted notFinite
+readDouble double-read.Stuck = stuck
+
+abbrev pub whetherDid : Did → Try doubles (Unit {0})
+whetherDid did.On = through tt
+whetherDid did.Stopped = halted notFinite
+whetherDid did.Stuck = stuck
+
+module _ {Why : Type 0} where
+  abbrev pub whetherWent : Went → Attempt Why (Unit {0})
+  whetherWent went.On = through tt
+  whetherWent went.Stuck = stuck
+
+  abbrev pub whetherMoved : Moved → Attempt Why (Unit {0})
+  whetherMoved (moved.To height) = through tt
+  whetherMoved moved.Stuck = stuck
+
+-- the height after the row, which stays where the row is stuck
+abbrev pub heightAfter : Moved → ℕ → ℕ
+heightAfter (moved.To height) before = height
+heightAfter moved.Stuck before = before
+
+abbrev pub branchOf : Branch → Option Bool
+branchOf branch.First = some true
+branchOf branch.Second = some false
+branchOf branch.Stuck = none
+
+abbrev pub turnOf : Branched → Option Bool
+turnOf (branched.First height) = some true
+turnOf (branched.Second height) = some false
+turnOf branched.Stuck = none
+
+abbrev pub heightBranched : Branched → ℕ → ℕ
+heightBranched (branched.First height) before = height
+heightBranched (branched.Second height) before = height
+heightBranched branched.Stuck before = before
