@@ -6,7 +6,7 @@ use native.Mathlib.Decide.{ℕ-discrete, decLt}
 use native.Mathlib.Omega.{arith}
 use mathlib.Core.Path.{_≡_, refl, sym, ap, subst, _∙_}
 use mathlib.Core.Bool.{Bool, true, false}
-use mathlib.Core.List.{List, [], _∷_, List·Memᴰ, List·Memᴰ·head, List·Memᴰ·tail, List·Memᴰ·cases-cons}
+use mathlib.Core.List.{List, [], _∷_, List·Memᴰ·head, List·Memᴰ·tail, List·Memᴰ·cases-cons}
 use mathlib.Core.Logic.{_⊎_, inl, inr}
 use lib.ListN.{length, set, replicate, length-set, length-replicate, getD-replicate, List·getD-eq-default}
 use lib.Seq.{getD-set-same, getD-set-other}
@@ -15,24 +15,10 @@ use lib.Pow.{pow-pos}
 use Rattle.sheet.proofs.RowsBack.{both}
 use Rattle.sets.specs.VariableSets.{VariableSet, empty, _∪_, _⊆_}
 use Rattle.sets.specs.Equations.{Equation, pointOf, rightSide, Satisfy, setAt, Least, round, same, settled, least}
+use Rattle.sets.specs.ProperEquations.{_∈_, Within, Proper}
 use Rattle.sets.proofs.Truths.{T-of, of-T}
 use Rattle.sets.proofs.VariableSetLaws.{empty-within, union-left, union-right, union-least, ⊆-antisym}
 use Rattle.sets.proofs.VariableSetSizes.{union-below, count, count-most, count-grows}
-
-infix 40 _∈_
-abbrev pub _∈_ : Equation → List Equation → Type 0
-e ∈ es = List·Memᴰ e es
-
--- sets at points, each within another's
-abbrev pub Within : (at at′ : ℕ → VariableSet) → Type 0
-Within at at′ = (p : ℕ) → at p ⊆ at′ p
-
--- what rounds need of equations: each settles a point of its own, and its right side is monotone and keeps to v variables
-pub record Proper (v points : ℕ) (es : List Equation) : Type 0 where
-  pub there : (e : Equation) → e ∈ es → pointOf e < points
-  pub only : (e e′ : Equation) → e ∈ es → e′ ∈ es → pointOf e ≡ pointOf e′ → e ≡ e′
-  pub monotone : (e : Equation) → e ∈ es → (at at′ : ℕ → VariableSet) → Within at at′ → rightSide e at ⊆ rightSide e at′
-  pub below : (e : Equation) → e ∈ es → (at : ℕ → VariableSet) → ((p : ℕ) → at p < 2 ^ v) → rightSide e at < 2 ^ v
 
 -- ---- one store
 
@@ -70,11 +56,11 @@ round-keeps P [] keeps sets h = h
 round-keeps P (e ∷ es) keeps sets h =
     round-keeps P es (λ e′ m. keeps e′ (List·Memᴰ·tail m)) (stored e sets) (keeps e (List·Memᴰ·head refl) sets h)
 
-settled-on : (n : ℕ) (es : List Equation) (sets : List VariableSet) → same sets (round es sets) ≡ false → settled (suc n) es sets ≡ settled n es (round es sets)
+pub settled-on : (n : ℕ) (es : List Equation) (sets : List VariableSet) → same sets (round es sets) ≡ false → settled (suc n) es sets ≡ settled n es (round es sets)
 unfolding settled
 settled-on n es sets e = rw (e, settled)
 
-settled-rests : (n : ℕ) (es : List Equation) (sets : List VariableSet) → same sets (round es sets) ≡ true → settled (suc n) es sets ≡ sets
+pub settled-rests : (n : ℕ) (es : List Equation) (sets : List VariableSet) → same sets (round es sets) ≡ true → settled (suc n) es sets ≡ sets
 unfolding settled
 settled-rests n es sets e = rw (e, settled)
 
@@ -90,29 +76,29 @@ settled-keeps P es keeps (suc n) sets h = go (same sets (round es sets)) refl (s
 
 -- ---- how many members there are at all points
 
-same-equal : (xs ys : List VariableSet) → same xs ys ≡ true → xs ≡ ys
+pub same-equal : (xs ys : List VariableSet) → same xs ys ≡ true → xs ≡ ys
 unfolding same
 same-equal [] [] e = refl
 same-equal [] (y ∷ ys) e = let z : _≡_ {A = ℕ} 0 1 = cc in absurd (omega arith)
 same-equal (x ∷ xs) [] e = let z : _≡_ {A = ℕ} 0 1 = cc in absurd (omega arith)
 same-equal (x ∷ xs) (y ∷ ys) e = let h = both (eqb x y) (same xs ys) e in cc (eqb→eq x y (T-of (h .0)), same-equal xs ys (h .1))
 
-same-refl : (xs : List VariableSet) → same xs xs ≡ true
+pub same-refl : (xs : List VariableSet) → same xs xs ≡ true
 unfolding same
 same-refl [] = refl
 same-refl (x ∷ xs) = rw (of-T (eqb x x) (eqb-refl x)) (same-refl xs)
 
-total : ℕ → List VariableSet → ℕ
+pub total : ℕ → List VariableSet → ℕ
 total v [] = 0
 total v (s ∷ sets) = count v s + total v sets
 
-total-most : (v : ℕ) (sets : List VariableSet) → total v sets ≤ length sets * v
+pub total-most : (v : ℕ) (sets : List VariableSet) → total v sets ≤ length sets * v
 unfolding total
 total-most v [] = zero-le
 total-most v (s ∷ sets) = omega (arith, suc-mul (length sets) v, count-most v s, total-most v sets)
 
 -- sets that only grow are the same or have more members
-total-grows : (v : ℕ) (xs ys : List VariableSet) → length xs ≡ length ys → Within (setAt xs) (setAt ys) → ((p : ℕ) → setAt xs p < 2 ^ v)
+pub total-grows : (v : ℕ) (xs ys : List VariableSet) → length xs ≡ length ys → Within (setAt xs) (setAt ys) → ((p : ℕ) → setAt xs p < 2 ^ v)
     → ((p : ℕ) → setAt ys p < 2 ^ v) → (xs ≡ ys) ⊎ (total v xs < total v ys)
 unfolding total
 total-grows v [] [] l w h k = inl refl
@@ -147,9 +133,9 @@ satisfied (e ∷ es) at h = (h e (List·Memᴰ·head refl), satisfied es at (λ 
 -- ---- proper equations
 
 -- What every store keeps. `behind`: no set has more than its right side makes of the present sets.
-record Kept (v points : ℕ) (es : List Equation) (sets : List VariableSet) : Type 0 where
-  long : length sets ≡ points
-  below : (p : ℕ) → setAt sets p < 2 ^ v
+pub record Kept (v points : ℕ) (es : List Equation) (sets : List VariableSet) : Type 0 where
+  pub long : length sets ≡ points
+  pub below : (p : ℕ) → setAt sets p < 2 ^ v
   behind : (e : Equation) → e ∈ es → setAt sets (pointOf e) ⊆ rightSide e (setAt sets)
 
 module _ (v points : ℕ) (es : List Equation) (proper : Proper v points es) where
@@ -185,17 +171,17 @@ module _ (v points : ℕ) (es : List Equation) (proper : Proper v points es) whe
         behind = store-behind e m sets kept;
       }
 
-  round-kept : (sets : List VariableSet) → Kept v points es sets → Kept v points es (round es sets)
+  pub round-kept : (sets : List VariableSet) → Kept v points es sets → Kept v points es (round es sets)
   round-kept = round-keeps (Kept v points es) es store-keeps
 
   -- ---- a round only adds members; one that adds none has found a solution
 
   -- sets of the right length that have grown from these
-  record Grown (from : List VariableSet) (sets : List VariableSet) : Type 0 where
-    long : length sets ≡ points
-    grows : Within (setAt from) (setAt sets)
+  pub record Grown (from : List VariableSet) (sets : List VariableSet) : Type 0 where
+    pub long : length sets ≡ points
+    pub grows : Within (setAt from) (setAt sets)
 
-  round-grows : (rest : List Equation) → ((e : Equation) → e ∈ rest → e ∈ es) → (sets : List VariableSet) → length sets ≡ points
+  pub round-grows : (rest : List Equation) → ((e : Equation) → e ∈ rest → e ∈ es) → (sets : List VariableSet) → length sets ≡ points
       → Grown sets (round rest sets)
   round-grows rest part sets long =
       round-keeps (Grown sets) rest
@@ -285,7 +271,7 @@ module _ (v points : ℕ) (es : List Equation) (proper : Proper v points es) whe
       go (yes l) = getD-replicate points p empty empty l
       go (no l) = List·getD-eq-default (replicate points empty) empty (omega (arith, length-replicate points empty))
 
-  start-kept : Kept v points es (replicate points empty)
+  pub start-kept : Kept v points es (replicate points empty)
   start-kept =
       record {
         long = length-replicate points empty;

@@ -19,7 +19,8 @@ use Rattle.sets.specs.Marks.{points, variedEquations, usefulEquations, r
 use Rattle.sets.proofs.VariableSetLaws.{⊆-refl, union-mono}
 use Rattle.sets.proofs.VariableSetSizes.{union-below, places-below}
 use Rattle.sets.proofs.TransferLaws.{Transfer, varied-transfer, useful-transfer, required-transfer}
-use Rattle.sets.proofs.EquationsLeast.{_∈_, Within, Proper, equations-least, least-length, least-below}
+use Rattle.sets.specs.ProperEquations.{_∈_, Within, Proper}
+use Rattle.sets.proofs.EquationsLeast.{equations-least, least-length, least-below}
 
 -- ---- each equation settles its own point
 
@@ -185,20 +186,20 @@ sized : (sheet : Sheet) (es : List Equation) → Proper (variablesOf sheet) (poi
 sized sheet es h = record { long = least-length _ _ es h; below = least-below _ _ es h }
 
 module _ (words : List ℕ) (sheet : Sheet) (accepted : read words ≡ given sheet) where
-  varied-proper : Proper (variablesOf sheet) (points sheet) (variedEquations sheet)
+  pub varied-proper : Proper (variablesOf sheet) (points sheet) (variedEquations sheet)
   unfolding variedEquations points
   varied-proper =
       forward-proper (variablesOf sheet) _ (λ p. variedAfter) (λ p. varied-transfer (variablesOf sheet) _) (sheet .body)
       (places isIndependent (sheet .roles)) (names-present words sheet accepted) (places-below isIndependent (sheet .roles))
 
-  useful-proper : Proper (variablesOf sheet) (points sheet) (usefulEquations sheet)
+  pub useful-proper : Proper (variablesOf sheet) (points sheet) (usefulEquations sheet)
   unfolding usefulEquations points
   useful-proper =
       backward-proper (variablesOf sheet) _ (λ p. usefulBefore) (λ p. useful-transfer (variablesOf sheet) _) (sheet .body)
       (places isDependent (sheet .roles)) (names-present words sheet accepted) (places-below isDependent (sheet .roles))
 
   -- whatever the first two sets are
-  required-proper : (varied useful : List VariableSet) → Proper (variablesOf sheet) (points sheet) (requiredEquations sheet varied useful)
+  pub required-proper : (varied useful : List VariableSet) → Proper (variablesOf sheet) (points sheet) (requiredEquations sheet varied useful)
   unfolding requiredEquations points
   required-proper varied useful =
       forward-proper (variablesOf sheet) _ (λ p b. requiredAfter b (activityAt varied useful p b))

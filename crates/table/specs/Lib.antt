@@ -2,4 +2,5 @@
 pub mod TableRows
 pub mod Adjoint
 pub mod Sizes
+pub mod MarkedRows
 pub mod Calls

@@ -1,0 +1,311 @@
+-- One pass over a tree's lines leaves each of its rows with its partner, and changes nothing outside.
+use Prim.Native.Nat.{ℕ, zero, suc, _+_, _≤_, _<_}
+use native.Mathlib.Omega.{arith}
+use mathlib.Core.Path.{_≡_, refl, ap, subst, _∙_}
+use mathlib.Core.List.{List}
+use mathlib.Core.Logic.{_⊎_, inl, inr}
+use lib.ListN.{length, getD, set, length-set}
+use lib.Seq.{getD-set-same, getD-set-other}
+use Rattle.sheet.specs.Tree.{Tree, done, one, fork, again, rows, basic, ifLine, elseLine, endIf, repeat, endRepeat}
+use Rattle.sheet.specs.Rows.{Assignment, Test, SheetLine}
+use Rattle.sets.specs.Partners.{CameFrom, GoesTo, Found, foundAt, foundOver}
+use Rattle.sets.proofs.RowByRow.{LinesAt}
+
+-- ---- lists that differ from place lo up to hi at most
+
+pub record Keeps (lo hi : ℕ) (xs ys : List ℕ) : Type 0 where
+  pub long : length ys ≡ length xs
+  pub at : (i : ℕ) → (i < lo) ⊎ (hi ≤ i) → getD ys i 0 ≡ getD xs i 0
+
+keeps-all : (lo hi : ℕ) (xs : List ℕ) → Keeps lo hi xs xs
+keeps-all lo hi xs = record { long = refl; at = λ i h. refl }
+
+wider : (lo hi lo′ hi′ : ℕ) (xs ys : List ℕ) → lo′ ≤ lo → hi ≤ hi′ → Keeps lo hi xs ys → Keeps lo′ hi′ xs ys
+wider lo hi lo′ hi′ xs ys l h k = record { long = k .long; at = λ i o. k .at i (go i o) }
+  where
+    go : (i : ℕ) → (i < lo′) ⊎ (hi′ ≤ i) → (i < lo) ⊎ (hi ≤ i)
+    go i (inl x) = inl (omega arith)
+    go i (inr x) = inr (omega arith)
+
+keeps-then : (lo hi : ℕ) (xs ys zs : List ℕ) → Keeps lo hi xs ys → Keeps lo hi ys zs → Keeps lo hi xs zs
+keeps-then lo hi xs ys zs k l = record { long = l .long ∙ k .long; at = λ i o. l .at i o ∙ k .at i o }
+
+store-keeps : (xs : List ℕ) (j v : ℕ) → Keeps j (suc j) xs (set xs j v)
+store-keeps xs j v = record { long = length-set xs j v; at = λ i o. getD-set-other xs j i v 0 (λ e. go i o e) }
+  where
+    go : (i : ℕ) → (i < j) ⊎ (suc j ≤ i) → i ≡ j → ⊥
+    go i (inl x) e = omega arith
+    go i (inr x) e = omega arith
+
+-- ---- partners where they were, if nothing changed there
+
+came-stays : (t : Tree Assignment Test) (p : ℕ) (xs ys : List ℕ) → ((i : ℕ) → p ≤ i → i < p + rows t → getD ys i 0 ≡ getD xs i 0) → CameFrom xs t p
+    → CameFrom ys t p
+unfolding CameFrom rows
+came-stays done p xs ys s c = tt
+came-stays (one b k) p xs ys s c = came-stays k (suc p) xs ys (λ i l h. s i (omega arith) (omega arith)) c
+came-stays (fork f a b k) p xs ys s c = (
+  came-stays a _ xs ys (λ i l h. s i (omega arith) (omega arith)) (c .0),
+  s _ (omega arith) (omega arith) ∙ c .1,
+  came-stays b _ xs ys (λ i l h. s i (omega arith) (omega arith)) (c .2),
+  s _ (omega arith) (omega arith) ∙ c .3,
+  came-stays k _ xs ys (λ i l h. s i (omega arith) (omega arith)) (c .4),
+)
+came-stays (again m a k) p xs ys s c = (
+  s p (omega arith) (omega arith) ∙ c .0,
+  came-stays a _ xs ys (λ i l h. s i (omega arith) (omega arith)) (c .1),
+  came-stays k _ xs ys (λ i l h. s i (omega arith) (omega arith)) (c .2),
+)
+
+goes-stays : (t : Tree Assignment Test) (p : ℕ) (xs ys : List ℕ) → ((i : ℕ) → p ≤ i → i < p + rows t → getD ys i 0 ≡ getD xs i 0) → GoesTo xs t p
+    → GoesTo ys t p
+unfolding GoesTo rows
+goes-stays done p xs ys s c = tt
+goes-stays (one b k) p xs ys s c = goes-stays k (suc p) xs ys (λ i l h. s i (omega arith) (omega arith)) c
+goes-stays (fork f a b k) p xs ys s c = (
+  s p (omega arith) (omega arith) ∙ c .0,
+  goes-stays a _ xs ys (λ i l h. s i (omega arith) (omega arith)) (c .1),
+  s _ (omega arith) (omega arith) ∙ c .2,
+  goes-stays b _ xs ys (λ i l h. s i (omega arith) (omega arith)) (c .3),
+  goes-stays k _ xs ys (λ i l h. s i (omega arith) (omega arith)) (c .4),
+)
+goes-stays (again m a k) p xs ys s c = (
+  goes-stays a _ xs ys (λ i l h. s i (omega arith) (omega arith)) (c .0),
+  s _ (omega arith) (omega arith) ∙ c .1,
+  goes-stays k _ xs ys (λ i l h. s i (omega arith) (omega arith)) (c .2),
+)
+
+-- ---- what a pass over a tree comes to
+
+pub record Passed (t : Tree Assignment Test) (p : ℕ) (s s′ : Found) : Type 0 where
+  pub top : s′ .top ≡ s .top
+  pub came : CameFrom (s′ .came) t p
+  pub goes : GoesTo (s′ .goes) t p
+  pub cameKept : Keeps p (p + rows t) (s .came) (s′ .came)
+  pub goesKept : Keeps p (p + rows t) (s .goes) (s′ .goes)
+
+-- each part's store and pass changes only its own places; x to z are the sizes of the parts
+came-fork : (p x y z : ℕ) (c c₂ c₄ c₆ : List ℕ) (top₂ top₄ : ℕ) → let q = suc p + x in let r = suc q + y in suc r ≤ length c
+    → Keeps (suc p) (suc p + x) c c₂ → Keeps (suc q) (suc q + y) (set c₂ q top₂) c₄ → Keeps (suc r) (suc r + z) (set c₄ r top₄) c₆
+    → Keeps p (suc r + z) c c₆ × Keeps q (suc r + z) c₂ c₆ × Keeps r (suc r + z) c₄ c₆ × (getD c₆ q 0 ≡ top₂) × (getD c₆ r 0 ≡ top₄)
+came-fork p x y z c c₂ c₄ c₆ top₂ top₄ l k₁ k₃ k₅ =
+    let q = suc p + x in
+    let r = suc q + y in
+    let e = suc r + z in
+    let k₂ = store-keeps c₂ q top₂ in
+    let k₄ = store-keeps c₄ r top₄ in
+    let t₄ : Keeps r e c₄ c₆ = keeps-then r e _ _ _ (wider r (suc r) r e _ _ (omega arith) (omega arith) k₄) (wider (suc r) e r e _ _ (omega arith) (omega arith) k₅) in
+    let t₃ : Keeps (suc q) e (set c₂ q top₂) c₆ =
+    keeps-then (suc q) e _ _ _ (wider (suc q) r (suc q) e _ _ (omega arith) (omega arith) k₃) (wider r e (suc q) e _ _ (omega arith) (omega arith) t₄) in
+    let t₂ : Keeps q e c₂ c₆ = keeps-then q e _ _ _ (wider q (suc q) q e _ _ (omega arith) (omega arith) k₂) (wider (suc q) e q e _ _ (omega arith) (omega arith) t₃) in (
+      keeps-then p e _ _ _ (wider (suc p) q p e _ _ (omega arith) (omega arith) k₁) (wider q e p e _ _ (omega arith) (omega arith) t₂),
+      t₂,
+      t₄,
+      t₃ .at q (inl (omega arith)) ∙ getD-set-same c₂ q top₂ 0 (omega (arith, k₁ .long)),
+      k₅ .at r (inl (omega arith)) ∙ getD-set-same c₄ r top₄ 0 (omega (arith, k₁ .long, k₂ .long, k₃ .long)),
+    )
+
+-- what is read and left of the list of where rows go to
+record GoesFork (p q r e top : ℕ) (g g₂ g₄ g₆ : List ℕ) : Type 0 where
+  outer : getD g₄ q 0 ≡ top
+  whole : Keeps p e g g₆
+  first : (i : ℕ) → suc p ≤ i → i < q → getD g₆ i 0 ≡ getD g₂ i 0
+  second : (i : ℕ) → suc q ≤ i → i < r → getD g₆ i 0 ≡ getD g₄ i 0
+  atIf : getD g₆ p 0 ≡ q
+  atElse : getD g₆ q 0 ≡ r
+
+goes-fork : (p x y z top : ℕ) (g g₂ g₄ g₆ : List ℕ) → let q = suc p + x in let r = suc q + y in let e = suc r + z in suc r ≤ length g
+    → Keeps (suc p) q (set g p top) g₂ → Keeps (suc q) r (set (set g₂ p q) q (getD g₂ p 0)) g₄ → Keeps (suc r) e (set g₄ q r) g₆
+    → GoesFork p q r e top g g₂ g₄ g₆
+goes-fork p x y z top g g₂ g₄ g₆ l k₁ k₃ k₅ =
+    let q = suc p + x in
+    let r = suc q + y in
+    let e = suc r + z in
+    let k₀ = store-keeps g p top in
+    let k₂ = store-keeps g₂ p q in
+    let k₂′ = store-keeps (set g₂ p q) q (getD g₂ p 0) in
+    let k₄ = store-keeps g₄ q r in
+    let long₂ : length g₂ ≡ length g = k₁ .long ∙ k₀ .long in
+    let long₃ : length (set g₂ p q) ≡ length g = k₂ .long ∙ long₂ in
+    let long₄ : length g₄ ≡ length g = k₃ .long ∙ k₂′ .long ∙ long₃ in
+    record {
+      outer =
+          k₃ .at q (inl (omega arith)) ∙ getD-set-same (set g₂ p q) q _ 0 (omega arith) ∙ k₁ .at p (inl (omega arith)) ∙ getD-set-same g p top 0 (omega arith);
+      whole =
+          keeps-then p e _ _ _ (wider p (suc p) p e _ _ (omega arith) (omega arith) k₀)
+          (keeps-then p e _ _ _ (wider (suc p) q p e _ _ (omega arith) (omega arith) k₁)
+          (keeps-then p e _ _ _ (wider p (suc p) p e _ _ (omega arith) (omega arith) k₂)
+          (keeps-then p e _ _ _ (wider q (suc q) p e _ _ (omega arith) (omega arith) k₂′)
+          (keeps-then p e _ _ _ (wider (suc q) r p e _ _ (omega arith) (omega arith) k₃)
+          (keeps-then p e _ _ _ (wider q (suc q) p e _ _ (omega arith) (omega arith) k₄) (wider (suc r) e p e _ _ (omega arith) (omega arith) k₅))))));
+      first =
+          λ i lo hi. k₅ .at i (inl (omega arith)) ∙ k₄ .at i (inl hi) ∙ k₃ .at i (inl (omega arith)) ∙ k₂′ .at i (inl hi) ∙ k₂ .at i (inr lo);
+      second = λ i lo hi. k₅ .at i (inl (omega arith)) ∙ k₄ .at i (inr lo);
+      atIf =
+          k₅ .at p (inl (omega arith)) ∙ k₄ .at p (inl (omega arith)) ∙ k₃ .at p (inl (omega arith)) ∙ k₂′ .at p (inl (omega arith))
+          ∙ getD-set-same g₂ p q 0 (omega arith);
+      atElse = k₅ .at q (inl (omega arith)) ∙ getD-set-same g₄ q r 0 (omega arith);
+    }
+
+module _ (f : Test) (a b k : Tree Assignment Test) (p : ℕ) (s s₂ s₄ s₆ : Found) where
+  after-fork : let q = suc p + rows a in let r = suc q + rows b in suc r ≤ length (s .came) → suc r ≤ length (s .goes)
+      → Passed a (suc p) (foundAt (ifLine f) p s) s₂ → Passed b (suc q) (foundAt elseLine q s₂) s₄ → Passed k (suc r) (foundAt endIf r s₄) s₆
+      → Passed (fork f a b k) p s s₆
+  unfolding foundAt CameFrom GoesTo rows
+  after-fork lc lg A B K =
+      let q = suc p + rows a in
+      let r = suc q + rows b in
+      let e = suc r + rows k in
+      let upto : e ≤ p + (3 + (rows a + rows b + rows k)) = omega arith in
+      let C = came-fork p (rows a) (rows b) (rows k) (s .came) (s₂ .came) (s₄ .came) (s₆ .came) (s₂ .top) (s₄ .top) lc (A .cameKept) (B .cameKept) (K .cameKept) in
+      let k₃ = subst (λ j. Keeps (suc q) r (set (set (s₂ .goes) j q) q (getD (s₂ .goes) j 0)) (s₄ .goes)) (A .top) (B .goesKept) in
+      let k₅ = subst (λ j. Keeps (suc r) e (set (s₄ .goes) j r) (s₆ .goes)) (B .top) (K .goesKept) in
+      let G = goes-fork p (rows a) (rows b) (rows k) (s .top) (s .goes) (s₂ .goes) (s₄ .goes) (s₆ .goes) lg (A .goesKept) k₃ k₅ in
+      record {
+        top = K .top ∙ ap (λ j. getD (s₄ .goes) j 0) (B .top) ∙ G .outer;
+        came = (
+          came-stays a (suc p) (s₂ .came) (s₆ .came) (λ i l h. C .1 .at i (inl h)) (A .came),
+          C .3 ∙ A .top,
+          came-stays b (suc q) (s₄ .came) (s₆ .came) (λ i l h. C .2 .at i (inl h)) (B .came),
+          C .4 ∙ B .top,
+          K .came,
+        );
+        goes = (
+          G .atIf,
+          goes-stays a (suc p) (s₂ .goes) (s₆ .goes) (G .first) (A .goes),
+          G .atElse,
+          goes-stays b (suc q) (s₄ .goes) (s₆ .goes) (G .second) (B .goes),
+          K .goes,
+        );
+        cameKept = wider p e p _ _ _ (omega arith) upto (C .0);
+        goesKept = wider p e p _ _ _ (omega arith) upto (G .whole);
+      }
+
+module _ (m : ℕ) (a k : Tree Assignment Test) (p : ℕ) (s s₂ s₄ : Found) where
+  after-again : let q = suc p + rows a in suc q ≤ length (s .came) → suc q ≤ length (s .goes)
+      → Passed a (suc p) (foundAt (repeat m) p s) s₂ → Passed k (suc q) (foundAt endRepeat q s₂) s₄ → Passed (again m a k) p s s₄
+  unfolding foundAt CameFrom GoesTo rows
+  after-again lc lg A K =
+      let q = suc p + rows a in
+      let e = suc q + rows k in
+      let upto : e ≤ p + (2 + (rows a + rows k)) = omega arith in
+      let c₁ = A .cameKept in
+      let c₂ = store-keeps (s₂ .came) p q in
+      let c₃ = subst (λ j. Keeps (suc q) e (set (s₂ .came) j q) (s₄ .came)) (A .top) (K .cameKept) in
+      let g₀ = store-keeps (s .goes) p (s .top) in
+      let g₁ = A .goesKept in
+      let g₂ = store-keeps (s₂ .goes) q (s₂ .top) in
+      let g₃ = K .goesKept in
+      let long : length (s₂ .goes) ≡ length (s .goes) = g₁ .long ∙ g₀ .long in
+      record {
+        top =
+            K .top ∙ ap (λ j. getD (s₂ .goes) j 0) (A .top) ∙ g₁ .at p (inl (omega arith)) ∙ getD-set-same (s .goes) p (s .top) 0 (omega arith);
+        came = (
+          c₃ .at p (inl (omega arith)) ∙ getD-set-same (s₂ .came) p q 0 (omega (arith, c₁ .long)),
+          came-stays a (suc p) (s₂ .came) (s₄ .came) (λ i l h. c₃ .at i (inl (omega arith)) ∙ c₂ .at i (inr l)) (A .came),
+          K .came,
+        );
+        goes = (
+          goes-stays a (suc p) (s₂ .goes) (s₄ .goes) (λ i l h. g₃ .at i (inl (omega arith)) ∙ g₂ .at i (inl h)) (A .goes),
+          g₃ .at q (inl (omega arith)) ∙ getD-set-same (s₂ .goes) q (s₂ .top) 0 (omega arith) ∙ A .top,
+          K .goes,
+        );
+        cameKept =
+            wider p e p _ _ _ (omega arith) upto
+            (keeps-then p e _ _ _ (wider (suc p) q p e _ _ (omega arith) (omega arith) c₁)
+            (keeps-then p e _ _ _ (wider p (suc p) p e _ _ (omega arith) (omega arith) c₂) (wider (suc q) e p e _ _ (omega arith) (omega arith) c₃)));
+        goesKept =
+            wider p e p _ _ _ (omega arith) upto
+            (keeps-then p e _ _ _ (wider p (suc p) p e _ _ (omega arith) (omega arith) g₀)
+            (keeps-then p e _ _ _ (wider (suc p) q p e _ _ (omega arith) (omega arith) g₁)
+            (keeps-then p e _ _ _ (wider q (suc q) p e _ _ (omega arith) (omega arith) g₂) (wider (suc q) e p e _ _ (omega arith) (omega arith) g₃))));
+      }
+
+-- ---- the pass, part by part
+
+module _ (line : ℕ → SheetLine) where
+  found-both : (p m n : ℕ) (s : Found) → foundOver line p (m + n) s ≡ foundOver line (p + m) n (foundOver line p m s)
+  unfolding foundOver
+  found-both p zero n s = let here : p + 0 ≡ p = omega arith in let all : 0 + n ≡ n = omega arith in rw (here, all)
+  found-both p (suc m) n s =
+      let all : suc m + n ≡ suc (m + n) = omega arith in
+      let here : p + suc m ≡ suc p + m = omega arith in
+      rw (all, here) (found-both (suc p) m n (foundAt (line p) p s))
+
+  found-one : (p x : ℕ) (s : Found) (b : Assignment) → line p ≡ basic b → foundOver line p (1 + x) s ≡ foundOver line (suc p) x s
+  unfolding foundOver foundAt
+  found-one p x s b e =
+      let count : 1 + x ≡ suc x = omega arith in
+      rw count (ap (foundOver line (suc p) x) (ap (λ l. foundAt l p s) e))
+
+  found-again : (p x z : ℕ) (s : Found) → let q = suc p + x in
+      foundOver line p (2 + (x + z)) s ≡ foundOver line (suc q) z (foundAt (line q) q (foundOver line (suc p) x (foundAt (line p) p s)))
+  unfolding foundOver
+  found-again p x z s =
+      let count : 2 + (x + z) ≡ suc (x + suc z) = omega arith in
+      rw count (found-both (suc p) x (suc z) (foundAt (line p) p s))
+
+  found-fork : (p x y z : ℕ) (s : Found) → let q = suc p + x in let r = suc q + y in
+      foundOver line p (3 + (x + y + z)) s
+      ≡ foundOver line (suc r) z (foundAt (line r) r (foundOver line (suc q) y (foundAt (line q) q (foundOver line (suc p) x (foundAt (line p) p s)))))
+  unfolding foundOver
+  found-fork p x y z s =
+      let count : 3 + (x + y + z) ≡ 2 + (x + (y + suc z)) = omega arith in
+      rw count
+      (found-again p x (y + suc z) s
+      ∙ found-both (suc (suc p + x)) y (suc z) (foundAt (line (suc p + x)) (suc p + x) (foundOver line (suc p) x (foundAt (line p) p s))))
+
+  found-long : (l : SheetLine) (p : ℕ) (s : Found) → (length (foundAt l p s .came) ≡ length (s .came)) × (length (foundAt l p s .goes) ≡ length (s .goes))
+  unfolding foundAt
+  found-long (basic b) p s = (refl, refl)
+  found-long (ifLine f) p s = (refl, length-set (s .goes) p (s .top))
+  found-long elseLine p s = (length-set (s .came) p (s .top), length-set (set (s .goes) (s .top) p) p (getD (s .goes) (s .top) 0) ∙ length-set (s .goes) (s .top) p)
+  found-long endIf p s = (length-set (s .came) p (s .top), length-set (s .goes) (s .top) p)
+  found-long (repeat m) p s = (refl, length-set (s .goes) p (s .top))
+  found-long endRepeat p s = (length-set (s .came) (s .top) p, length-set (s .goes) p (s .top))
+
+  pub passed-over : (t : Tree Assignment Test) (p : ℕ) (s : Found) → LinesAt line t p → p + rows t ≤ length (s .came) → p + rows t ≤ length (s .goes)
+      → Passed t p s (foundOver line p (rows t) s)
+  unfolding LinesAt CameFrom GoesTo rows foundOver
+  passed-over done p s l lc lg =
+      record { top = refl; came = tt; goes = tt; cameKept = keeps-all p (p + 0) (s .came); goesKept = keeps-all p (p + 0) (s .goes) }
+  passed-over (one b k) p s l lc lg =
+      let K = passed-over k (suc p) s (l .1) (omega arith) (omega arith) in
+      rw (found-one p (rows k) s b (l .0)) (record {
+        top = K .top;
+        came = K .came;
+        goes = K .goes;
+        cameKept = wider (suc p) (suc p + rows k) p (p + (1 + rows k)) _ _ (omega arith) (omega arith) (K .cameKept);
+        goesKept = wider (suc p) (suc p + rows k) p (p + (1 + rows k)) _ _ (omega arith) (omega arith) (K .goesKept);
+      })
+  passed-over (fork f a b k) p s l lc lg =
+      let q = suc p + rows a in
+      let r = suc q + rows b in
+      let s₁ = foundAt (ifLine f) p s in
+      let s₂ = foundOver line (suc p) (rows a) s₁ in
+      let s₃ = foundAt elseLine q s₂ in
+      let s₄ = foundOver line (suc q) (rows b) s₃ in
+      let s₅ = foundAt endIf r s₄ in
+      let l₁ = found-long (ifLine f) p s in
+      let A = passed-over a (suc p) s₁ (l .1) (omega (arith, l₁)) (omega (arith, l₁)) in
+      let l₃ = found-long elseLine q s₂ in
+      let lc₃ : length (s₃ .came) ≡ length (s .came) = l₃ .0 ∙ A .cameKept .long ∙ l₁ .0 in
+      let lg₃ : length (s₃ .goes) ≡ length (s .goes) = l₃ .1 ∙ A .goesKept .long ∙ l₁ .1 in
+      let B = passed-over b (suc q) s₃ (l .3) (omega arith) (omega arith) in
+      let l₅ = found-long endIf r s₄ in
+      let lc₅ : length (s₅ .came) ≡ length (s .came) = l₅ .0 ∙ B .cameKept .long ∙ lc₃ in
+      let lg₅ : length (s₅ .goes) ≡ length (s .goes) = l₅ .1 ∙ B .goesKept .long ∙ lg₃ in
+      let K = passed-over k (suc r) s₅ (l .5) (omega arith) (omega arith) in
+      rw (found-fork p (rows a) (rows b) (rows k) s, l .0, l .2, l .4) (after-fork f a b k p s s₂ s₄ _ (omega arith) (omega arith) A B K)
+  passed-over (again m a k) p s l lc lg =
+      let q = suc p + rows a in
+      let s₁ = foundAt (repeat m) p s in
+      let s₂ = foundOver line (suc p) (rows a) s₁ in
+      let s₃ = foundAt endRepeat q s₂ in
+      let l₁ = found-long (repeat m) p s in
+      let A = passed-over a (suc p) s₁ (l .1) (omega (arith, l₁)) (omega (arith, l₁)) in
+      let l₃ = found-long endRepeat q s₂ in
+      let lc₃ : length (s₃ .came) ≡ length (s .came) = l₃ .0 ∙ A .cameKept .long ∙ l₁ .0 in
+      let lg₃ : length (s₃ .goes) ≡ length (s .goes) = l₃ .1 ∙ A .goesKept .long ∙ l₁ .1 in
+      let K = passed-over k (suc q) s₃ (l .3) (omega arith) (omega arith) in
+      rw (found-again p (rows a) (rows k) s, l .0, l .2) (after-again m a k p s s₂ _ (omega arith) (omega arith) A K)

@@ -1,0 +1,123 @@
+-- The rows of an accepted sheet: each says its line, and names nothing beyond a mask's bits.
+use Prim.Native.Nat.{ℕ, zero, suc, _+_, _*_, _≤_, _<_}
+use native.Mathlib.Omega.{arith}
+use mathlib.Core.Path.{_≡_, refl, sym, ap, subst, _∙_}
+use mathlib.Core.List.{List, [], _∷_, map}
+use lib.ListN.{length}
+use Rattle.sheet.specs.Bounds.{limit}
+use Rattle.sheet.specs.Tree.{Tree, done, one, fork, again, rows, flat, basic, ifLine, elseLine, endIf, repeat, endRepeat}
+use Rattle.sheet.specs.Rows.{Assignment, _≔_, copy, fixed, sum, difference, product, negation, less, Test, SheetLine, kindOf, sheetRowOf, treeRows}
+use Rattle.sheet.specs.Names.{SourcePresent, AssignmentPresent, Present}
+use Rattle.sheet.specs.Reading.{rowAt, rowsAt}
+use Rattle.sheet.proofs.RowsCounted.{lines-counted}
+use Rattle.sets.specs.RowEquations.{lineOfRow, lineIn, Readable, Small}
+use Rattle.sets.proofs.RowByRow.{LinesAt}
+
+line-back : (l : SheetLine) → lineOfRow (sheetRowOf l) ≡ l
+unfolding lineOfRow kindOf sheetRowOf
+line-back (basic (d ≔ copy a)) = refl
+line-back (basic (d ≔ fixed a)) = refl
+line-back (basic (d ≔ sum a b)) = refl
+line-back (basic (d ≔ difference a b)) = refl
+line-back (basic (d ≔ product a b)) = refl
+line-back (basic (d ≔ negation a)) = refl
+line-back (ifLine (less a b)) = refl
+line-back elseLine = refl
+line-back endIf = refl
+line-back (repeat m) = refl
+line-back endRepeat = refl
+
+-- ---- rows by number
+
+-- lines, by number from p on
+abbrev LinesFrom : (ℕ → SheetLine) → List SheetLine → ℕ → Type 0
+LinesFrom line [] p = Unit {0}
+LinesFrom line (l ∷ ls) p = (line p ≡ l) × LinesFrom line ls (suc p)
+
+-- rows that stand in the words say these lines
+module _ (words : List ℕ) (first : ℕ) where
+  rows-say : (ls : List SheetLine) (p n place : ℕ) → place ≡ first + p * limit .rowWords → map sheetRowOf ls ≡ rowsAt words place n
+      → LinesFrom (lineIn words first) ls p
+  unfolding rowsAt
+  rows-say [] p n place at e = tt
+  rows-say (l ∷ ls) p zero place at e = let z : _≡_ {A = ℕ} 0 1 = cc in absurd (omega arith)
+  rows-say (l ∷ ls) p (suc n) place at e =
+      let here : sheetRowOf l ≡ rowAt words place = cc in
+      let more : map sheetRowOf ls ≡ rowsAt words (place + limit .rowWords) n = cc in
+      (ap lineOfRow (sym (here ∙ ap (rowAt words) at)) ∙ line-back l, rows-say ls (suc p) n (place + limit .rowWords) (omega arith) more)
+
+module _ (line : ℕ → SheetLine) where
+  lines-part : (t : Tree Assignment Test) (p : ℕ) (rest : List SheetLine) → LinesFrom line (flat t rest) p → LinesAt line t p × LinesFrom line rest (p + rows t)
+  unfolding flat rows LinesAt
+  lines-part done p rest h = (tt, subst (LinesFrom line rest) (omega arith) h)
+  lines-part (one b k) p rest h =
+      let K = lines-part k (suc p) rest (h .1) in
+      ((h .0, K .0), subst (LinesFrom line rest) (omega arith) (K .1))
+  lines-part (fork f a b k) p rest h =
+      let A = lines-part a (suc p) (elseLine ∷ flat b (endIf ∷ flat k rest)) (h .1) in
+      let B = lines-part b (suc (suc p + rows a)) (endIf ∷ flat k rest) (A .1 .1) in
+      let K = lines-part k (suc (suc (suc p + rows a) + rows b)) rest (B .1 .1) in
+      ((h .0, A .0, A .1 .0, B .0, B .1 .0, K .0), subst (LinesFrom line rest) (omega arith) (K .1))
+  lines-part (again m a k) p rest h =
+      let A = lines-part a (suc p) (endRepeat ∷ flat k rest) (h .1) in
+      let K = lines-part k (suc (suc p + rows a)) rest (A .1 .1) in
+      ((h .0, A .0, A .1 .0, K .0), subst (LinesFrom line rest) (omega arith) (K .1))
+
+pub lines-at : (words : List ℕ) (first n : ℕ) (t : Tree Assignment Test) → treeRows t ≡ rowsAt words first n → LinesAt (lineIn words first) t 0
+unfolding treeRows
+lines-at words first n t e = lines-part (lineIn words first) t 0 [] (rows-say words first (flat t []) 0 n first (omega arith) e) .0
+
+-- ---- every row
+
+-- what every one of a list's places has
+abbrev Each : {A : Type 0} → (A → Type 0) → List A → Type 0
+Each P [] = Unit {0}
+Each P (x ∷ xs) = P x × Each P xs
+
+module _ (words : List ℕ) (first : ℕ) (P : SheetLine → Type 0) where
+  -- a row of those that stand in the words says its line, which P holds of
+  row-says : (ls : List SheetLine) (p n place : ℕ) → place ≡ first + p * limit .rowWords → map sheetRowOf ls ≡ rowsAt words place n → Each P ls
+      → (i : ℕ) → i < length ls
+      → let r = rowAt words (first + (p + i) * limit .rowWords) in (sheetRowOf (lineOfRow r) ≡ r) × P (lineOfRow r)
+  unfolding rowsAt
+  row-says [] p n place at e h i below = absurd (omega arith)
+  row-says (l ∷ ls) p zero place at e h i below = let z : _≡_ {A = ℕ} 0 1 = cc in absurd (omega arith)
+  row-says (l ∷ ls) p (suc n) place at e h zero below =
+      let here : sheetRowOf l ≡ rowAt words place = cc in
+      let place-is : first + (p + 0) * limit .rowWords ≡ place = omega arith in
+      rw (place-is, sym here, line-back l) (refl, h .0)
+  row-says (l ∷ ls) p (suc n) place at e h (suc i) below =
+      let more : map sheetRowOf ls ≡ rowsAt words (place + limit .rowWords) n = cc in
+      let place-is : p + suc i ≡ suc p + i = omega arith in
+      rw place-is (row-says ls (suc p) n (place + limit .rowWords) (omega arith) more (h .1) i (omega arith))
+
+-- an assignment's names are few enough
+abbrev Named : SheetLine → Type 0
+Named l = let r = sheetRowOf l in Small (r .kind) (r .d) (r .a) (r .b)
+
+module _ (v k : ℕ) (vs : v ≤ 64) (ks : k ≤ 64) where
+  assignment-named : (b : Assignment) → AssignmentPresent v k b → Named (basic b)
+  unfolding AssignmentPresent SourcePresent sheetRowOf
+  assignment-named (d ≔ copy a) h = λ x. (omega (arith, h), omega (arith, h), omega arith)
+  assignment-named (d ≔ fixed a) h = λ x. (omega (arith, h), omega (arith, h), omega arith)
+  assignment-named (d ≔ sum a b) h = λ x. (omega (arith, h), omega (arith, h), omega (arith, h))
+  assignment-named (d ≔ difference a b) h = λ x. (omega (arith, h), omega (arith, h), omega (arith, h))
+  assignment-named (d ≔ product a b) h = λ x. (omega (arith, h), omega (arith, h), omega (arith, h))
+  assignment-named (d ≔ negation a) h = λ x. (omega (arith, h), omega (arith, h), omega arith)
+
+  tree-named : (t : Tree Assignment Test) (rest : List SheetLine) → Present v k t → Each Named rest → Each Named (flat t rest)
+  unfolding flat Present sheetRowOf
+  tree-named done rest n h = h
+  tree-named (one b t) rest n h = (assignment-named b (n .0), tree-named t rest (n .1) h)
+  tree-named (fork (less x y) a b t) rest n h =
+      (λ z. absurd (omega arith), tree-named a _ (n .1) (λ z. absurd (omega arith), tree-named b _ (n .2) (λ z. absurd (omega arith), tree-named t rest (n .3) h)))
+  tree-named (again m a t) rest n h = (λ z. absurd (omega arith), tree-named a _ (n .0) (λ z. absurd (omega arith), tree-named t rest (n .1) h))
+
+  pub rows-readable : (words : List ℕ) (first n : ℕ) (t : Tree Assignment Test) → treeRows t ≡ rowsAt words first n → Present v k t
+      → (p : ℕ) → p < rows t → Readable words first p
+  unfolding treeRows
+  rows-readable words first n t e present p below =
+      let h = row-says words first Named (flat t []) 0 n first (omega arith) e (tree-named t [] present tt) p (omega (arith, lines-counted t)) in
+      let here : 0 + p ≡ p = omega arith in
+      let says = rw here at (h .0) in
+      record { says = says; small = rw says at (rw here at (h .1)) }

@@ -1,0 +1,39 @@
+-- What a call that marks a sheet is handed: the words of an accepted sheet, and where its rows are.
+use Prim.Native.Nat.{ℕ, suc, _+_, _≤_}
+use mathlib.Core.Path.{_≡_}
+use mathlib.Core.List.{List}
+use lib.ListN.{length, getD}
+use Rattle.sheet.specs.Tree.{rows}
+use Rattle.sheet.specs.Refusals.{given}
+use Rattle.sheet.specs.Reading.{Sheet, read}
+use Rattle.sets.specs.VariableSets.{VariableSet}
+use Rattle.sets.specs.Marks.{varied, useful, required}
+use Rattle.sets.specs.MarkBytes.{markBytes, written}
+
+pub record Laid (words : List ℕ) (variables first count : ℕ) : Type 0 where
+  pub sheet : Sheet
+  pub accepted : read words ≡ given sheet
+  pub variablesAre : variables ≡ length (sheet .roles)
+  -- after three counts, the roles and the constants
+  pub firstIs : first ≡ 3 + (length (sheet .roles) + length (sheet .constants))
+  pub rowsAre : count ≡ rows (sheet .body)
+
+-- the sets that were left are the least ones; each row's byte is its marks', and the bytes after the rows' are kept
+pub record MarksLeft (sheet : Sheet) (count : ℕ) (sets₁ sets₂ sets₃ : List VariableSet) (before after : List ℕ) : Type 0 where
+  pub variedLeft : sets₁ ≡ varied sheet
+  pub usefulLeft : sets₂ ≡ useful sheet
+  pub requiredLeft : sets₃ ≡ required sheet
+  pub marksLeft : after ≡ written (λ p. getD (markBytes sheet) p 0) count before
+
+abbrev pub AllMarked : (words : List ℕ) (count : ℕ) (sets₁ sets₂ sets₃ : List VariableSet) (before after : List ℕ) → Type 0
+AllMarked words count sets₁ sets₂ sets₃ before after =
+    (sheet : Sheet) → read words ≡ given sheet → MarksLeft sheet count sets₁ sets₂ sets₃ before after
+
+-- the lengths of what is lent: partners and marks for every row, sets for every point
+pub record Room (count came goes sets₁ sets₂ sets₃ marks : ℕ) : Type 0 where
+  pub cameRoom : count ≤ came
+  pub goesRoom : count ≤ goes
+  pub variedRoom : sets₁ ≡ suc count
+  pub usefulRoom : sets₂ ≡ suc count
+  pub requiredRoom : sets₃ ≡ suc count
+  pub marksRoom : count ≤ marks

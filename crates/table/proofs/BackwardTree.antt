@@ -1,0 +1,194 @@
+-- The rows that the backward walk writes are the backward part of the sheet's marked body.
+use Prim.Native.Nat.{ℕ, suc, _+_, _-_}
+use mathlib.Core.Path.{_≡_, refl, sym, ap, _∙_}
+use mathlib.Core.Bool.{Bool, true, false}
+use mathlib.Core.List.{List, [], _∷_, _++_, append-assoc, append-nil}
+use lib.ListN.{getD}
+use native.Mathlib.Omega.{arith}
+use Rattle.sheet.specs.Tree.{Tree, done, one, fork, again, basic, ifLine, elseLine, endIf, repeat, endRepeat, flat, rows, RowNumber}
+use Rattle.sheet.specs.Rows.{Assignment, Test, less, SheetLine, Row, sheetRowOf, rowOf, rowOfAssignment, rowOfTest, treeRows, _≔_, Source, copy, fixed, sum, difference, product, negation}
+use Rattle.sheet.specs.Reading.{rowsAt}
+use Rattle.sets.specs.Transfers.{Activity}
+use Rattle.sets.specs.Marks.{Marked, numbered}
+use Rattle.table.specs.TableRows.{Table, tableRowOf, rowOfAction, rowOfTableTest, onTurn, assign, clear, takeBack, t, u, adjointOf}
+use Rattle.table.specs.Adjoint.{addInto, subtractFrom, scaled, partsOf, derivativeRows, backwardOf, backwardPart}
+use Rattle.table.specs.MarkedRows.{row4, rowIf, rowsIn, lineOfRow, backwardOfLine, stepBack, turnsBack, Handed, rowOfNumber, backwardAt, wayBack, backwardRows, MarkSays, Noted, anyRow, knownBy, savedBy}
+use Rattle.table.proofs.AssignmentRows.{rows-of-put, rows-of-put-if, rows-of-done}
+use Rattle.table.proofs.LineRows.{line-back}
+use Rattle.table.proofs.TreeRows.{StandsAt, tree-stands, stands-after, fork-before, again-before}
+
+-- ---- one assignment's rows before others, without the row that they come from
+
+module _ (v : ℕ) where
+  partList : Source → Activity → List Row
+  partList (copy a) known = rowIf (known .variedA) (rowOfAction (addInto v a (t v)))
+  partList (fixed c) known = []
+  partList (sum a b) known = rowIf (known .variedA) (rowOfAction (addInto v a (t v))) ++ rowIf (known .variedB) (rowOfAction (addInto v b (t v)))
+  partList (difference a b) known =
+      rowIf (known .variedA) (rowOfAction (addInto v a (t v))) ++ rowIf (known .variedB) (rowOfAction (subtractFrom v b (t v)))
+  partList (product a b) known =
+      rowIf (known .variedA) (rowOfAction (scaled v b)) ++ (rowIf (known .variedA) (rowOfAction (addInto v a (u v)))
+      ++ (rowIf (known .variedB) (rowOfAction (scaled v a)) ++ rowIf (known .variedB) (rowOfAction (addInto v b (u v)))))
+  partList (negation a) known = rowIf (known .variedA) (rowOfAction (subtractFrom v a (t v)))
+
+  parts-before : (source : Source) (row : RowNumber) (known : Activity) (rest : Table)
+      → rowsIn (partsOf v source row known rest) ≡ partList source known ++ rowsIn rest
+  unfolding partsOf partList
+  parts-before (copy a) row known rest = rw (rows-of-put-if (known .variedA))
+  parts-before (fixed c) row known rest = refl
+  parts-before (sum a b) row known rest = rw (rows-of-put-if (known .variedA), rows-of-put-if (known .variedB)) (simp append-assoc)
+  parts-before (difference a b) row known rest = rw (rows-of-put-if (known .variedA), rows-of-put-if (known .variedB)) (simp append-assoc)
+  parts-before (product a b) row known rest =
+      rw (rows-of-put-if (known .variedA), rows-of-put-if (known .variedA), rows-of-put-if (known .variedB), rows-of-put-if (known .variedB))
+      (simp append-assoc)
+  parts-before (negation a) row known rest = rw (rows-of-put-if (known .variedA))
+
+  derivativeList : Bool → ℕ → Source → Activity → List Row
+  derivativeList false d source known = rowOfAction (clear (adjointOf v d)) ∷ []
+  derivativeList true d source known =
+      rowOfAction (assign (t v ≔ copy (adjointOf v d))) ∷ rowOfAction (clear (adjointOf v d)) ∷ partList source known
+
+  derivative-before : (active : Bool) (d : ℕ) (source : Source) (row : RowNumber) (known : Activity) (rest : Table)
+      → rowsIn (derivativeRows v active d source row known rest) ≡ derivativeList active d source known ++ rowsIn rest
+  unfolding derivativeRows derivativeList
+  derivative-before false d source row known rest = rows-of-put row _ _ rest
+  derivative-before true d source row known rest = rw (rows-of-put, rows-of-put, parts-before source row known rest)
+
+  backList : Assignment → Activity → Bool → List Row
+  backList (d ≔ source) known saved = rowIf saved (rowOfAction (takeBack d)) ++ derivativeList (known .active) d source known
+
+  back-before : (b : Assignment) (row : RowNumber) (known : Activity) (saved : Bool) (rest : Table)
+      → rowsIn (backwardOf v b row known saved rest) ≡ backList b known saved ++ rowsIn rest
+  unfolding backwardOf backList
+  back-before (d ≔ source) row known saved rest =
+      rw (rows-of-put-if saved, derivative-before (known .active) d source row known rest) (simp append-assoc)
+
+  pub marked-backward : {byte : ℕ} {b : Assignment} {m : Marked} → MarkSays byte b m → (turns : ℕ) (rest : Table)
+      → rowsIn (backwardOf v (m .assignment) (m .row) (m .known) (m .saved) rest) ≡ backwardOfLine v byte turns (basic b) ++ rowsIn rest
+  unfolding backwardOfLine
+  marked-backward {byte} {b} {m} says turns rest =
+      let these = backList b (knownBy byte) (savedBy byte) in
+      let alone : rowsIn (backwardOf v b anyRow (knownBy byte) (savedBy byte) done) ≡ these =
+      back-before b anyRow (knownBy byte) (savedBy byte) done ∙ ap (λ rs. these ++ rs) rows-of-done ∙ append-nil these in
+      back-before (m .assignment) (m .row) (m .known) (m .saved) rest
+      ∙ rw (says .assignment, says .known, says .saved) (ap (λ rs. rs ++ rowsIn rest) (sym alone))
+
+-- ---- one turn of the walk
+
+-- from an assignment to the row before
+pub step-assignment : (opened closed : List ℕ) (q : ℕ) (b : Assignment) → stepBack opened closed q (sheetRowOf (basic b) .kind) ≡ q
+unfolding stepBack sheetRowOf rowOf rowOfAssignment
+step-assignment opened closed q (d ≔ copy a) = refl
+step-assignment opened closed q (d ≔ fixed a) = refl
+step-assignment opened closed q (d ≔ sum a b) = refl
+step-assignment opened closed q (d ≔ difference a b) = refl
+step-assignment opened closed q (d ≔ product a b) = refl
+step-assignment opened closed q (d ≔ negation a) = refl
+
+pub step-if : (opened closed : List ℕ) (q : ℕ) (f : Test) → stepBack opened closed q (sheetRowOf (ifLine f) .kind) ≡ getD closed (getD closed q 0) 0
+unfolding stepBack sheetRowOf rowOf rowOfTest
+step-if opened closed q (less a b) = refl
+
+none-before : (after : List Row) → rowsIn done ++ after ≡ after
+none-before after = rw rows-of-done
+
+module _ (given : Handed) (mark : ℕ → Assignment → Marked) where
+  backward-turn : (n e : ℕ) → backwardRows given (suc n) e ≡ backwardAt given (e - 1) ++ backwardRows given n (wayBack given (e - 1))
+  unfolding backwardRows
+  backward-turn n e = refl
+
+  -- the rows of a line at row q, then those from `next` on
+  backward-step : (l : SheetLine) (q next n : ℕ) → rowOfNumber given q ≡ sheetRowOf l
+      → stepBack (given .opened) (given .closed) q (sheetRowOf l .kind) ≡ next
+      → backwardRows given (suc n) (suc q)
+      ≡ backwardOfLine (given .variables) (getD (given .marks) q 0) (turnsBack (given .words) (given .first) (given .opened) q (sheetRowOf l .kind)) l
+      ++ backwardRows given n next
+  backward-step l q next n stands goes =
+      let here : suc q - 1 ≡ q = omega arith in
+      backward-turn n (suc q)
+      ∙ ap (λ p. backwardAt given p ++ backwardRows given n (wayBack given p)) here
+      ∙ ap (λ r. backwardOfLine (given .variables) (getD (given .marks) q 0) (turnsBack (given .words) (given .first) (given .opened) q (r .kind)) (lineOfRow r)
+      ++ backwardRows given n (stepBack (given .opened) (given .closed) q (r .kind))) stands
+      ∙ ap (λ line. backwardOfLine (given .variables) (getD (given .marks) q 0) (turnsBack (given .words) (given .first) (given .opened) q (sheetRowOf l .kind)) line
+      ++ backwardRows given n (stepBack (given .opened) (given .closed) q (sheetRowOf l .kind))) (line-back l)
+      ∙ ap (λ p. backwardOfLine (given .variables) (getD (given .marks) q 0) (turnsBack (given .words) (given .first) (given .opened) q (sheetRowOf l .kind)) l
+      ++ backwardRows given n p) goes
+
+  -- an "end repeat" at row q whose "repeat" is at row p becomes that "repeat"
+  repeat-back : (m p q : ℕ) → getD (given .opened) q 0 ≡ p → rowOfNumber given p ≡ sheetRowOf (repeat m)
+      → backwardOfLine (given .variables) (getD (given .marks) q 0) (turnsBack (given .words) (given .first) (given .opened) q 11) endRepeat ≡ row4 10 0 (suc m) 0 ∷ []
+  unfolding backwardOfLine turnsBack sheetRowOf rowOf
+  repeat-back m p q opens stands = ap (λ n. row4 10 0 n 0 ∷ []) (ap (λ x. rowOfNumber given x .a) opens ∙ ap (λ r. r .a) stands)
+
+  -- a tree's rows, walked from its end, then those of `rest` and `after`
+  backward-tree : (t : Tree Assignment Test) (ls : List SheetLine) (rest : Table) (after : List Row) (p n c e : ℕ)
+      → c ≡ rows t + n → e ≡ p + rows t → StandsAt (given .words) (given .first) (flat t ls) p
+      → Noted (given .marks) (given .opened) (given .closed) mark t p
+      → backwardRows given n p ≡ rowsIn rest ++ after
+      → backwardRows given c e ≡ rowsIn (backwardPart (given .variables) (numbered mark t p) rest) ++ after
+  unfolding StandsAt Noted flat rows backwardPart numbered backwardOfLine tableRowOf rowOf rowOfTableTest stepBack sheetRowOf
+  backward-tree done ls rest after p n c e hc he s w h =
+      let same : c ≡ n = omega arith in
+      let here : e ≡ p = omega arith in
+      rw (same, here) h
+  backward-tree (one b k) ls rest after p n c e hc he s w h =
+      let v = given .variables in
+      let m = mark p b in
+      let this = backwardOf v (m .assignment) (m .row) (m .known) (m .saved) rest in
+      let turns = turnsBack (given .words) (given .first) (given .opened) p (sheetRowOf (basic b) .kind) in
+      let rs = backwardOfLine v (getD (given .marks) p 0) turns (basic b) in
+      let row =
+      backward-step (basic b) p p n (s .0) (step-assignment (given .opened) (given .closed) p b) ∙ ap (λ l. rs ++ l) h
+      ∙ sym (append-assoc rs (rowsIn rest) after) ∙ ap (λ l. l ++ after) (sym (marked-backward v (w .0) turns rest)) in
+      backward-tree k ls this after (suc p) (suc n) c e (omega arith) (omega arith) (s .1) (w .1) row
+  backward-tree (fork f a b k) ls rest after p n c e hc he s w h =
+      let v = given .variables in
+      let split = suc p + rows a in
+      let end = suc split + rows b in
+      let A = backwardPart v (numbered mark a (suc p)) done in
+      let B = backwardPart v (numbered mark b (suc split)) done in
+      let partners = w .0 in
+      let atSplit = stands-after (given .words) (given .first) a (elseLine ∷ flat b (endIf ∷ flat k ls)) (suc p) refl (s .1) in
+      let atEnd = stands-after (given .words) (given .first) b (endIf ∷ flat k ls) (suc split) refl (atSplit .1) in
+      let last = row4 9 0 0 0 ∷ (rowsIn rest ++ after) in
+      let middle = row4 8 0 0 0 ∷ (rowsIn B ++ last) in
+      let elseRow = backward-step elseLine split p n (atSplit .0) (partners .elseOpened) ∙ ap (λ l. row4 9 0 0 0 ∷ l) h ∙ sym (none-before last) in
+      let secondBranch =
+      backward-tree b (endIf ∷ flat k ls) done last (suc split) (suc n) (rows b + suc n) end refl refl (atSplit .1) (w .1 .1 .0) elseRow in
+      let ifRow =
+      backward-step (ifLine f) p end (rows b + suc n) (s .0)
+      (step-if (given .opened) (given .closed) p f ∙ ap (λ x. getD (given .closed) x 0) (partners .ifClosed) ∙ partners .elseClosed)
+      ∙ ap (λ l. row4 8 0 0 0 ∷ l) secondBranch ∙ sym (none-before middle) in
+      let firstBranch =
+      backward-tree a (elseLine ∷ flat b (endIf ∷ flat k ls)) done middle (suc p) (suc (rows b + suc n)) (rows a + suc (rows b + suc n)) split
+      refl refl (s .1) (w .1 .0) ifRow in
+      let endRow =
+      backward-step endIf end split (rows a + suc (rows b + suc n)) (atEnd .0) (partners .endOpened) ∙ ap (λ l. row4 15 0 0 0 ∷ l) firstBranch
+      ∙ sym (fork-before onTurn A B rest after) in
+      backward-tree k ls (fork onTurn A B rest) after (suc end) (suc (rows a + suc (rows b + suc n))) c e (omega arith) (omega arith) (atEnd .1) (w .1 .1 .1) endRow
+  backward-tree (again m a k) ls rest after p n c e hc he s w h =
+      let v = given .variables in
+      let end = suc p + rows a in
+      let A = backwardPart v (numbered mark a (suc p)) done in
+      let atEnd = stands-after (given .words) (given .first) a (endRepeat ∷ flat k ls) (suc p) refl (s .1) in
+      let last = row4 11 0 0 0 ∷ (rowsIn rest ++ after) in
+      let repeatRow = backward-step (repeat m) p p n (s .0) refl ∙ ap (λ l. row4 11 0 0 0 ∷ l) h ∙ sym (none-before last) in
+      let body = backward-tree a (endRepeat ∷ flat k ls) done last (suc p) (suc n) (rows a + suc n) end refl refl (s .1) (w .1 .0) repeatRow in
+      let endRow =
+      backward-step endRepeat end end (rows a + suc n) (atEnd .0) refl
+      ∙ ap (λ l. l ++ backwardRows given (rows a + suc n) end) (repeat-back m p end (w .0 .endOpened) (s .0))
+      ∙ ap (λ l. row4 10 0 (suc m) 0 ∷ l) body ∙ sym (again-before m A rest after) in
+      backward-tree k ls (again m A rest) after (suc end) (suc (rows a + suc n)) c e (omega arith) (omega arith) (atEnd .1) (w .1 .1) endRow
+
+  backward-end : (e : ℕ) → backwardRows given 0 e ≡ rowsIn done ++ []
+  unfolding backwardRows
+  backward-end e = sym (none-before [])
+
+  -- all rows
+  pub backward-is-backward-part : (tree : Tree Assignment Test) → treeRows tree ≡ rowsAt (given .words) (given .first) (given .rows)
+      → given .rows ≡ rows tree → Noted (given .marks) (given .opened) (given .closed) mark tree 0
+      → backwardRows given (given .rows) (given .rows) ≡ rowsIn (backwardPart (given .variables) (numbered mark tree 0) done)
+  backward-is-backward-part tree says counted noted =
+      backward-tree tree [] done [] 0 0 (given .rows) (given .rows) (omega arith) (omega arith)
+      (tree-stands (given .words) (given .first) (given .rows) tree says) noted (backward-end 0)
+      ∙ append-nil (rowsIn (backwardPart (given .variables) (numbered mark tree 0) done))

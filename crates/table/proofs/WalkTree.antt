@@ -1,0 +1,133 @@
+-- What the two passes ask of the rows holds of the rows of a tree: each says a line, and the walk back stays on them.
+use Prim.Native.Nat.{ℕ, zero, suc, _+_, _-_, _≤_, _<_}
+use mathlib.Core.Path.{_≡_, refl, sym, ap, _∙_, subst}
+use mathlib.Core.List.{List, [], _∷_}
+use lib.ListN.{length, length-map, getD}
+use native.Mathlib.Omega.{arith}
+use Rattle.sheet.specs.Tree.{Tree, done, one, fork, again, basic, ifLine, elseLine, endIf, repeat, endRepeat, flat, rows}
+use Rattle.sheet.specs.Rows.{Assignment, Test, less, SheetLine, Row, sheetRowOf, rowOf, rowOfAssignment, rowOfTest, treeRows, _≔_, copy, fixed, sum, difference, product, negation}
+use Rattle.sheet.specs.Reading.{rowsAt}
+use Rattle.sheet.proofs.RowsCounted.{lines-counted}
+use Rattle.sets.specs.Marks.{Marked}
+use Rattle.table.specs.MarkedRows.{rowNumbered, lineOfRow, Says, stepBack, Handed, rowOfNumber, wayBack, Visited, Walks, Noted}
+use Rattle.table.proofs.LineRows.{line-back}
+use Rattle.table.proofs.TreeRows.{StandsAt, tree-stands, stands-after}
+use Rattle.table.proofs.BackwardTree.{step-assignment, step-if}
+
+-- ---- each row says a line
+
+line-says : {r : Row} (l : SheetLine) → r ≡ sheetRowOf l → Says r
+line-says l e = record { back = ap sheetRowOf (ap lineOfRow e ∙ line-back l) ∙ sym e }
+
+stands-say : (words : List ℕ) (first : ℕ) (ls : List SheetLine) (p q r : ℕ) → r ≡ p + q → q < length ls → StandsAt words first ls p → Says (rowNumbered words first r)
+unfolding StandsAt
+stands-say words first [] p q r e h s = absurd (omega arith)
+stands-say words first (l ∷ ls) p zero r e h s = let here : r ≡ p = omega arith in rw here (line-says l (s .0))
+stands-say words first (l ∷ ls) p (suc q) r e h s = stands-say words first ls (suc p) q r (omega arith) (omega arith) (s .1)
+
+rows-at-length : (words : List ℕ) (place n : ℕ) → length (rowsAt words place n) ≡ n
+unfolding rowsAt
+rows-at-length words place zero = refl
+rows-at-length words place (suc n) = omega (arith, rows-at-length words (place + 4) n)
+
+pub rows-of-tree : (words : List ℕ) (first n : ℕ) (t : Tree Assignment Test) → treeRows t ≡ rowsAt words first n → n ≡ rows t
+unfolding treeRows
+rows-of-tree words first n t e =
+    sym (rows-at-length words first n) ∙ ap length (sym e) ∙ length-map (flat t []) sheetRowOf ∙ lines-counted t
+
+pub tree-says : (words : List ℕ) (first n : ℕ) (t : Tree Assignment Test) → treeRows t ≡ rowsAt words first n → (p : ℕ) → p < n → Says (rowNumbered words first p)
+tree-says words first n t e p h =
+    stands-say words first (flat t []) 0 p p (omega arith) (omega (arith, rows-of-tree words first n t e, lines-counted t)) (tree-stands words first n t e)
+
+-- ---- the walk
+
+assignment-kind : (b : Assignment) → sheetRowOf (basic b) .kind ≤ 6
+unfolding sheetRowOf rowOf rowOfAssignment
+assignment-kind (d ≔ copy a) = omega arith
+assignment-kind (d ≔ fixed a) = omega arith
+assignment-kind (d ≔ sum a b) = omega arith
+assignment-kind (d ≔ difference a b) = omega arith
+assignment-kind (d ≔ product a b) = omega arith
+assignment-kind (d ≔ negation a) = omega arith
+
+if-kind : (f : Test) → sheetRowOf (ifLine f) .kind ≡ 7
+unfolding sheetRowOf rowOf rowOfTest
+if-kind (less a b) = refl
+
+module _ (given : Handed) (mark : ℕ → Assignment → Marked) where
+  walk-turn : (n e : ℕ) → Visited given e → Walks given n (wayBack given (e - 1)) → Walks given (suc n) e
+  unfolding Walks
+  walk-turn n e v w = (v, w)
+
+  walk-step : (l : SheetLine) (q next n : ℕ) → rowOfNumber given q ≡ sheetRowOf l
+      → stepBack (given .opened) (given .closed) q (sheetRowOf l .kind) ≡ next → q < given .rows
+      → (sheetRowOf l .kind ≡ 7 → getD (given .closed) q 0 < given .rows) → (sheetRowOf l .kind ≡ 11 → getD (given .opened) q 0 < given .rows)
+      → Walks given n next → Walks given (suc n) (suc q)
+  walk-step l q next n stands goes below branch loop w =
+      let here : suc q - 1 ≡ q = omega arith in
+      let kind = ap (λ r. r .kind) stands in
+      walk-turn n (suc q)
+      (record {
+        some = omega arith;
+        within = omega arith;
+        branch = rw here (λ e. branch (sym kind ∙ e));
+        loop = rw here (λ e. loop (sym kind ∙ e));
+      })
+      (rw here (subst (Walks given n) (sym (ap (stepBack (given .opened) (given .closed) q) kind ∙ goes)) w))
+
+  walks-tree : (t : Tree Assignment Test) (ls : List SheetLine) (p n c e : ℕ)
+      → c ≡ rows t + n → e ≡ p + rows t → e ≤ given .rows → StandsAt (given .words) (given .first) (flat t ls) p
+      → Noted (given .marks) (given .opened) (given .closed) mark t p
+      → Walks given n p → Walks given c e
+  unfolding StandsAt Noted flat rows stepBack sheetRowOf rowOf
+  walks-tree done ls p n c e hc he below s w h =
+      let same : c ≡ n = omega arith in
+      let here : e ≡ p = omega arith in
+      rw (same, here) h
+  walks-tree (one b k) ls p n c e hc he below s w h =
+      let row =
+      walk-step (basic b) p p n (s .0) (step-assignment (given .opened) (given .closed) p b) (omega arith)
+      (λ kind. absurd (omega (arith, assignment-kind b))) (λ kind. absurd (omega (arith, assignment-kind b))) h in
+      walks-tree k ls (suc p) (suc n) c e (omega arith) (omega arith) below (s .1) (w .1) row
+  walks-tree (fork f a b k) ls p n c e hc he below s w h =
+      let split = suc p + rows a in
+      let end = suc split + rows b in
+      let partners = w .0 in
+      let atSplit = stands-after (given .words) (given .first) a (elseLine ∷ flat b (endIf ∷ flat k ls)) (suc p) refl (s .1) in
+      let atEnd = stands-after (given .words) (given .first) b (endIf ∷ flat k ls) (suc split) refl (atSplit .1) in
+      let elseRow =
+      walk-step elseLine split p n (atSplit .0) (partners .elseOpened) (omega arith) (λ kind. absurd (omega arith)) (λ kind. absurd (omega arith)) h in
+      let secondBranch =
+      walks-tree b (endIf ∷ flat k ls) (suc split) (suc n) (rows b + suc n) end refl refl (omega arith) (atSplit .1) (w .1 .1 .0) elseRow in
+      let ifRow =
+      walk-step (ifLine f) p end (rows b + suc n) (s .0)
+      (step-if (given .opened) (given .closed) p f ∙ ap (λ x. getD (given .closed) x 0) (partners .ifClosed) ∙ partners .elseClosed)
+      (omega arith) (λ kind. omega (arith, partners .ifClosed)) (λ kind. absurd (omega (arith, if-kind f))) secondBranch in
+      let firstBranch =
+      walks-tree a (elseLine ∷ flat b (endIf ∷ flat k ls)) (suc p) (suc (rows b + suc n)) (rows a + suc (rows b + suc n)) split
+      refl refl (omega arith) (s .1) (w .1 .0) ifRow in
+      let endRow =
+      walk-step endIf end split (rows a + suc (rows b + suc n)) (atEnd .0) (partners .endOpened) (omega arith)
+      (λ kind. absurd (omega arith)) (λ kind. absurd (omega arith)) firstBranch in
+      walks-tree k ls (suc end) (suc (rows a + suc (rows b + suc n))) c e (omega arith) (omega arith) below (atEnd .1) (w .1 .1 .1) endRow
+  walks-tree (again m a k) ls p n c e hc he below s w h =
+      let end = suc p + rows a in
+      let atEnd = stands-after (given .words) (given .first) a (endRepeat ∷ flat k ls) (suc p) refl (s .1) in
+      let repeatRow =
+      walk-step (repeat m) p p n (s .0) refl (omega arith) (λ kind. absurd (omega arith)) (λ kind. absurd (omega arith)) h in
+      let body = walks-tree a (endRepeat ∷ flat k ls) (suc p) (suc n) (rows a + suc n) end refl refl (omega arith) (s .1) (w .1 .0) repeatRow in
+      let endRow =
+      walk-step endRepeat end end (rows a + suc n) (atEnd .0) refl (omega arith)
+      (λ kind. absurd (omega arith)) (λ kind. omega (arith, w .0 .endOpened)) body in
+      walks-tree k ls (suc end) (suc (rows a + suc n)) c e (omega arith) (omega arith) below (atEnd .1) (w .1 .1) endRow
+
+  walks-none : (e : ℕ) → Walks given 0 e
+  unfolding Walks
+  walks-none e = tt
+
+  pub tree-walks : (t : Tree Assignment Test) → treeRows t ≡ rowsAt (given .words) (given .first) (given .rows)
+      → Noted (given .marks) (given .opened) (given .closed) mark t 0 → Walks given (given .rows) (given .rows)
+  tree-walks t says noted =
+      let counted = rows-of-tree (given .words) (given .first) (given .rows) t says in
+      walks-tree t [] 0 0 (given .rows) (given .rows) (omega arith) (omega arith) (omega arith)
+      (tree-stands (given .words) (given .first) (given .rows) t says) noted (walks-none 0)

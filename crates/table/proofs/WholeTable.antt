@@ -1,0 +1,74 @@
+-- The whole table's words in the buffer: what the writer leaves is what `write` promises.
+use Prim.Native.Nat.{ℕ, _+_, _≤_}
+use mathlib.Core.Path.{_≡_, sym, ap, _∙_}
+use mathlib.Core.Bool.{true, false}
+use mathlib.Core.List.{List, _∷_, _++_, append-assoc}
+use lib.ListN.{length, set, drop, length-map}
+use lib.Seq.{sets-eq}
+use native.Mathlib.Omega.{arith}
+use Rattle.sheet.specs.Tree.{Tree, done, one, fork, again, rows}
+use Rattle.sheet.specs.Rows.{Assignment, Test, treeRows}
+use Rattle.sheet.specs.Reading.{rowsAt}
+use Rattle.sheet.proofs.RowsCounted.{lines-counted}
+use Rattle.sets.specs.Marks.{Marked, numbered}
+use Rattle.table.specs.TableRows.{Table, tableRowOf, linesOf, wordsOf, tableWords, rowOfAction, whether, turnRound, ofTurningRound, saveTurn, turning}
+use Rattle.table.specs.Adjoint.{Body, put, forwardPart, backwardPart, adjointTable}
+use Rattle.table.specs.Calls.{overwritten}
+use Rattle.table.specs.MarkedRows.{row4, Room, Wrote, rowsIn, Handed, wholeRows, Noted}
+use Rattle.table.proofs.AssignmentRows.{rows-of-done}
+use Rattle.table.proofs.WritingLaws.{four-words-each}
+use Rattle.table.proofs.TreeRows.{rows-of-one, rows-of-fork, rows-of-again}
+use Rattle.table.proofs.ForwardTree.{forward-row, forward-is-forward-part}
+use Rattle.table.proofs.BackwardTree.{backward-is-backward-part}
+use Rattle.table.proofs.WalkTree.{rows-of-tree}
+
+-- the forward part puts its rows before the rest
+forward-before : (t : Body) (rest : Table) → rowsIn (forwardPart t rest) ≡ rowsIn (forwardPart t done) ++ rowsIn rest
+unfolding forwardPart
+forward-before done rest = sym (ap (λ rs. rs ++ rowsIn rest) rows-of-done)
+forward-before (one m k) rest =
+    rw (forward-row m (forwardPart k rest), forward-row m (forwardPart k done), forward-before k rest) (simp append-assoc)
+forward-before (fork f a b k) rest =
+    let A = forwardPart a (put (f .row) turning (saveTurn true) done) in
+    let B = forwardPart b (put (f .row) turning (saveTurn false) done) in
+    rw (rows-of-fork (whether (f .test)) A B (forwardPart k rest), rows-of-fork (whether (f .test)) A B (forwardPart k done), forward-before k rest)
+    (simp append-assoc)
+forward-before (again n a k) rest =
+    rw (rows-of-again n (forwardPart a done) (forwardPart k rest), rows-of-again n (forwardPart a done) (forwardPart k done), forward-before k rest)
+    (simp append-assoc)
+
+pub adjoint-rows : (v : ℕ) (t : Body)
+    → rowsIn (adjointTable v t) ≡ rowsIn (forwardPart t done) ++ (row4 17 0 0 0 ∷ rowsIn (backwardPart v t done))
+unfolding adjointTable rowOfAction
+adjoint-rows v t =
+    let turned : Table = one (record { origin = ofTurningRound; action = turnRound }) (backwardPart v t done) in
+    forward-before t turned ∙ ap (λ rs. rowsIn (forwardPart t done) ++ rs) (rows-of-one (record { origin = ofTurningRound; action = turnRound }) (backwardPart v t done))
+
+-- the rows that the writer puts are the adjoint table's
+pub whole-is-table : (given : Handed) (mark : ℕ → Assignment → Marked) (t : Tree Assignment Test)
+    → treeRows t ≡ rowsAt (given .words) (given .first) (given .rows) → Noted (given .marks) (given .opened) (given .closed) mark t 0
+    → wholeRows given ≡ rowsIn (adjointTable (given .variables) (numbered mark t 0))
+unfolding wholeRows
+whole-is-table given mark t says noted =
+    let counted = rows-of-tree (given .words) (given .first) (given .rows) t says in
+    rw (
+      forward-is-forward-part (given .words) (given .first) (given .marks) (given .opened) (given .closed) mark (given .rows) t says counted noted,
+      backward-is-backward-part given mark t says counted noted,
+    )
+    (sym (adjoint-rows (given .variables) (numbered mark t 0)))
+
+-- R
+pub rows-counted : (table : Table) → length (rowsIn table) ≡ rows table
+unfolding rowsIn linesOf
+rows-counted table = length-map (linesOf table) tableRowOf ∙ lines-counted table
+
+-- the count and the rows, written from word 0 on, are the table over the buffer
+pub buffer-overwritten : (buffer after : List ℕ) (count next : ℕ) (table : Table) → count ≡ rows table → Room buffer 1 (rowsIn table)
+    → Wrote (set buffer 0 count) 1 (rowsIn table) after next → after ≡ overwritten (tableWords table) buffer
+unfolding overwritten tableWords rowsIn linesOf
+buffer-overwritten buffer after count next table counted room wrote =
+    let ws = wordsOf (rowsIn table) in
+    let n : length (linesOf table) ≡ count = lines-counted table ∙ sym counted in
+    let fits : 0 + length (count ∷ ws) ≤ length buffer = omega (arith, room .fits, four-words-each (rowsIn table)) in
+    let zero-first : 0 + length (count ∷ ws) ≡ length (count ∷ ws) = omega arith in
+    rw n (wrote .words ∙ sets-eq (count ∷ ws) buffer 0 fits ∙ ap (λ k. (count ∷ ws) ++ drop k buffer) zero-first)

@@ -1,0 +1,255 @@
+-- What the writer is handed: a sheet's rows, a byte of marks for each assignment and each block row's partners. And what it writes of them,
+-- row by row, into a lent buffer.
+use Prim.Native.Nat.{ℕ, zero, suc, _+_, _*_, _-_, _≤_, _<_, _/_, _%_}
+use mathlib.Core.Path.{_≡_}
+use mathlib.Core.Bool.{Bool, true, false, cond, _||_}
+use mathlib.Core.List.{List, [], _∷_, _++_, map}
+use mathlib.Core.Option.{Option, none, some}
+use lib.ListN.{length, getD}
+use lib.Seq.{sets}
+use lib.Dec.{eqb}
+use Rattle.sheet.specs.Reading.{rowAt}
+use Rattle.sheet.specs.Bounds.{limit}
+use Rattle.sheet.specs.Tree.{Tree, done, one, fork, again, rows, RowNumber, basic, ifLine, elseLine, endIf, repeat, endRepeat}
+use Rattle.sheet.specs.Rows.{Assignment, Test, _≔_, Source, fixed, SheetLine, Row, Kind, kindOf, rowOfTest, sheetRowOf}
+use Rattle.sets.specs.Transfers.{Activity}
+use Rattle.sets.specs.Marks.{Marked}
+use Rattle.table.specs.TableRows.{Table, linesOf, tableRowOf, wordsOf, rowOfAction, saveTurn, onTurn}
+use Rattle.table.specs.Adjoint.{forwardRow, partsOf, backwardOf}
+
+-- ---- rows in a buffer
+
+abbrev pub row4 : (kind d a b : ℕ) → Row
+row4 kind d a b = record { kind = kind; d = d; a = a; b = b }
+
+-- a buffer has room for rows from a place on
+pub record Room (buffer : List ℕ) (place : ℕ) (rs : List Row) : Type 0 where
+  pub fits : place + 4 * length rs ≤ length buffer
+
+-- the buffer holds the rows' words from a place on and is else as it was; `reached` is the place after them
+pub record Wrote (before : List ℕ) (place : ℕ) (rs : List Row) (after : List ℕ) (reached : ℕ) : Type 0 where
+  pub words : after ≡ sets before place (wordsOf rs)
+  pub place-after : reached ≡ place + 4 * length rs
+
+-- a row, only if
+abbrev pub rowIf : Bool → Row → List Row
+rowIf true r = r ∷ []
+rowIf false r = []
+
+-- a table's rows, without where they come from
+unfoldable pub rowsIn : Table → List Row
+unfolding linesOf tableRowOf
+rowsIn table = map tableRowOf (linesOf table)
+
+-- ---- the marks
+
+-- one bit of a mark
+abbrev pub bitOf : (mark weight : ℕ) → Bool
+bitOf mark weight = eqb (mark / weight % 2) 1
+
+-- "1 where a is varied before it, 2 where b is, 4 where the row is active"
+abbrev pub knownBy : ℕ → Activity
+knownBy mark = record { variedA = bitOf mark 1; variedB = bitOf mark 2; active = bitOf mark 4 }
+
+-- "8 where it is saved"
+abbrev pub savedBy : ℕ → Bool
+savedBy mark = bitOf mark 8
+
+-- ---- one sheet row
+
+-- the row number that a row's words don't show
+abbrev pub anyRow : RowNumber
+anyRow = record { index = 0 }
+
+abbrev pub meansBy : Option Kind → Row → SheetLine
+meansBy none r = endRepeat
+meansBy (some kind) r = kind .means (r .d) (r .a) (r .b)
+
+-- the line that a row says; a row of no kind says none, and isn't asked
+unfoldable pub lineOfRow : Row → SheetLine
+unfolding kindOf
+lineOfRow r = meansBy (kindOf (r .kind)) r
+
+-- small enough words that every number in the table fits a word
+pub record Small (variables : ℕ) (r : Row) : Type 0 where
+  pub few : variables ≤ limit .variables
+  pub d : r .d ≤ limit .turns
+  pub a : r .a ≤ limit .turns
+  pub b : r .b ≤ limit .turns
+
+-- a row that says a line says nothing else: its unused words are 0
+pub record Says (r : Row) : Type 0 where
+  pub back : sheetRowOf (lineOfRow r) ≡ r
+
+abbrev pub sourceIn : Assignment → Source
+sourceIn (d ≔ source) = source
+
+abbrev pub sourceSaid : SheetLine → Source
+sourceSaid (basic b) = sourceIn b
+sourceSaid (ifLine f) = fixed 0
+sourceSaid elseLine = fixed 0
+sourceSaid endIf = fixed 0
+sourceSaid (repeat m) = fixed 0
+sourceSaid endRepeat = fixed 0
+
+-- what an assignment's row reads
+unfoldable pub sourceOf : (kind a b : ℕ) → Source
+unfolding lineOfRow
+sourceOf kind a b = sourceSaid (lineOfRow (row4 kind 0 a b))
+
+-- the rows of an assignment's parts, and all its backward rows
+unfoldable pub partRows : (variables kind a b : ℕ) → (variedA variedB : Bool) → List Row
+unfolding sourceOf partsOf rowsIn
+partRows v kind a b variedA variedB =
+    rowsIn (partsOf v (sourceOf kind a b) anyRow (record { variedA = variedA; variedB = variedB; active = true }) done)
+
+unfoldable pub assignmentBack : (variables kind d a b mark : ℕ) → List Row
+unfolding sourceOf backwardOf rowsIn
+assignmentBack v kind d a b mark = rowsIn (backwardOf v (d ≔ sourceOf kind a b) anyRow (knownBy mark) (savedBy mark) done)
+
+-- a sheet row's rows in the forward part
+unfoldable pub forwardOfLine : (mark : ℕ) → SheetLine → List Row
+unfolding forwardRow rowsIn rowOfTest rowOfAction tableRowOf
+forwardOfLine mark (basic b) = rowsIn (forwardRow (record { row = anyRow; assignment = b; known = knownBy mark; saved = savedBy mark }) done)
+forwardOfLine mark (ifLine f) = rowOfTest f ∷ []
+forwardOfLine mark elseLine = rowOfAction (saveTurn true) ∷ tableRowOf elseLine ∷ []
+forwardOfLine mark endIf = rowOfAction (saveTurn false) ∷ tableRowOf endIf ∷ []
+forwardOfLine mark (repeat m) = tableRowOf (repeat m) ∷ []
+forwardOfLine mark endRepeat = tableRowOf endRepeat ∷ []
+
+-- and in the backward part: a block's end is its start there, with the turns of its "repeat"
+unfoldable pub backwardOfLine : (variables mark turns : ℕ) → SheetLine → List Row
+unfolding backwardOf rowsIn tableRowOf
+backwardOfLine v mark turns (basic b) = rowsIn (backwardOf v b anyRow (knownBy mark) (savedBy mark) done)
+backwardOfLine v mark turns (ifLine f) = tableRowOf elseLine ∷ []
+backwardOfLine v mark turns elseLine = tableRowOf endIf ∷ []
+backwardOfLine v mark turns endIf = tableRowOf (ifLine onTurn) ∷ []
+backwardOfLine v mark turns (repeat m) = tableRowOf endRepeat ∷ []
+backwardOfLine v mark turns endRepeat = row4 10 0 turns 0 ∷ []
+
+-- ---- all rows
+
+module _ (words : List ℕ) (first : ℕ) where
+  abbrev pub rowNumbered : ℕ → Row
+  rowNumbered p = rowAt words (first + 4 * p)
+
+  -- what the reader has made sure of: the rows are there, each says a line, and a mark is there for each
+  pub record Readable (rows : ℕ) (marks : List ℕ) : Type 0 where
+    pub within : first + 4 * rows ≤ length words
+    pub marked : rows ≤ length marks
+    pub says : (p : ℕ) → p < rows → Says (rowNumbered p)
+
+  -- the forward part's rows, for so many rows from row p on
+  unfoldable pub forwardRows : (marks : List ℕ) (p count : ℕ) → List Row
+  unfolding forwardOfLine lineOfRow rowAt
+  forwardRows marks p zero = []
+  forwardRows marks p (suc n) = forwardOfLine (getD marks p 0) (lineOfRow (rowNumbered p)) ++ forwardRows marks (suc p) n
+
+-- The backward part walks over the rows from the last on. From a row of a kind it goes to the end of what comes next, which is
+-- the row before; but "end if" to the first branch, "if" to the second, "else" to what is before the block.
+unfoldable pub stepBack : (opened closed : List ℕ) (q kind : ℕ) → ℕ
+stepBack opened closed q kind = cond (eqb kind 7) (getD closed (getD closed q 0) 0) (cond (eqb kind 8 || eqb kind 9) (getD opened q 0) q)
+
+-- the turns of an "end repeat"'s "repeat"
+unfoldable pub turnsBack : (words : List ℕ) (first : ℕ) (opened : List ℕ) (q kind : ℕ) → ℕ
+unfolding rowAt
+turnsBack words first opened q kind = cond (eqb kind 11) (rowNumbered words first (getD opened q 0) .a) 0
+
+-- what the writer is handed for the backward part
+pub record Handed : Type 0 where
+  pub words : List ℕ
+  pub first : ℕ
+  pub rows : ℕ
+  pub marks : List ℕ
+  pub opened : List ℕ
+  pub closed : List ℕ
+  pub variables : ℕ
+
+abbrev pub handed : (words : List ℕ) (first rows : ℕ) (marks opened closed : List ℕ) (variables : ℕ) → Handed
+handed words first rows marks opened closed variables =
+    record { words = words; first = first; rows = rows; marks = marks; opened = opened; closed = closed; variables = variables }
+
+module _ (given : Handed) where
+  abbrev pub rowOfNumber : ℕ → Row
+  rowOfNumber q = rowNumbered (given .words) (given .first) q
+
+  -- the backward part's rows: of row q, and of so many rows from the one before `end` on
+  abbrev pub backwardAt : (q : ℕ) → List Row
+  backwardAt q =
+      backwardOfLine (given .variables) (getD (given .marks) q 0) (turnsBack (given .words) (given .first) (given .opened) q (rowOfNumber q .kind))
+      (lineOfRow (rowOfNumber q))
+
+  abbrev pub wayBack : (q : ℕ) → ℕ
+  wayBack q = stepBack (given .opened) (given .closed) q (rowOfNumber q .kind)
+
+  unfoldable pub backwardRows : (count end : ℕ) → List Row
+  unfolding backwardOfLine turnsBack lineOfRow rowAt stepBack
+  backwardRows zero end = []
+  backwardRows (suc n) end = backwardAt (end - 1) ++ backwardRows n (wayBack (end - 1))
+
+  -- the row before `end` is there, and so are the partners that are looked at there
+  pub record Visited (end : ℕ) : Type 0 where
+    pub some : 1 ≤ end
+    pub within : end ≤ given .rows
+    pub branch : rowOfNumber (end - 1) .kind ≡ 7 → getD (given .closed) (end - 1) 0 < given .rows
+    pub loop : rowOfNumber (end - 1) .kind ≡ 11 → getD (given .opened) (end - 1) 0 < given .rows
+
+  -- the walk stays on the rows for so many of them
+  unfoldable pub Walks : (count end : ℕ) → Type 0
+  unfolding rowAt stepBack
+  Walks zero end = Unit
+  Walks (suc n) end = Visited end × Walks n (wayBack (end - 1))
+
+  -- what the reader has made sure of besides
+  pub record Walkable : Type 0 where
+    pub small : (p : ℕ) → p < given .rows → Small (given .variables) (rowOfNumber p)
+    pub splits : given .rows ≤ length (given .opened)
+    pub ends : given .rows ≤ length (given .closed)
+    pub walks : Walks (given .rows) (given .rows)
+
+-- the forward part, row 17 and the backward part
+unfoldable pub wholeRows : Handed → List Row
+unfolding forwardRows backwardRows
+wholeRows given =
+    forwardRows (given .words) (given .first) (given .marks) 0 (given .rows) ++ (row4 17 0 0 0 ∷ backwardRows given (given .rows) (given .rows))
+
+-- how many rows so many rows from row p on give in both parts
+unfoldable pub countRows : (variables : ℕ) (words : List ℕ) (first : ℕ) (marks : List ℕ) (p count : ℕ) → ℕ
+unfolding forwardOfLine backwardOfLine lineOfRow rowAt
+countRows v words first marks p zero = 0
+countRows v words first marks p (suc n) =
+    length (forwardOfLine (getD marks p 0) (lineOfRow (rowNumbered words first p)))
+    + length (backwardOfLine v (getD marks p 0) 0 (lineOfRow (rowNumbered words first p)))
+    + countRows v words first marks (suc p) n
+
+-- ---- what the arrays hold, of a sheet's tree
+
+-- a byte says what is marked of an assignment
+pub record MarkSays (byte : ℕ) (b : Assignment) (m : Marked) : Type 0 where
+  pub assignment : m .assignment ≡ b
+  pub known : m .known ≡ knownBy byte
+  pub saved : m .saved ≡ savedBy byte
+
+module _ (marks opened closed : List ℕ) (mark : ℕ → Assignment → Marked) where
+  -- the partners of an "if", its "else" and its "end if"
+  pub record BranchNoted (start split end : ℕ) : Type 0 where
+    pub ifClosed : getD closed start 0 ≡ split
+    pub elseClosed : getD closed split 0 ≡ end
+    pub elseOpened : getD opened split 0 ≡ start
+    pub endOpened : getD opened end 0 ≡ split
+
+  -- the partners of a "repeat" and its "end repeat"
+  pub record RepeatNoted (start end : ℕ) : Type 0 where
+    pub repeatClosed : getD closed start 0 ≡ end
+    pub endOpened : getD opened end 0 ≡ start
+
+  -- of the rows of a tree from row p on: each assignment's marks and each block row's partners
+  unfoldable pub Noted : Tree Assignment Test → (p : ℕ) → Type 0
+  unfolding rows
+  Noted done p = Unit
+  Noted (one b k) p = MarkSays (getD marks p 0) b (mark p b) × Noted k (suc p)
+  Noted (fork f a b k) p =
+      let split = suc p + rows a in
+      let end = suc split + rows b in
+      BranchNoted p split end × (Noted a (suc p) × (Noted b (suc split) × Noted k (suc end)))
+  Noted (again m a k) p = let end = suc p + rows a in RepeatNoted p end × (Noted a (suc p) × Noted k (suc end))

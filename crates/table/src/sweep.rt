@@ -1,0 +1,147 @@
+// The two parts of the table, each in one pass over the sheet's rows.
+ghost use mathlib.Core.Path.{_≡_};
+ghost use Prim.Native.Nat.{_+_, _*_, _≤_, _<_};
+ghost use lib.ListN.{length, getD, set};
+ghost use Rattle.table.specs.MarkedRows.{Room, Wrote, Readable, forwardRows, stepBack, turnsBack, handed, Walkable, backwardRows, wholeRows};
+use super::kinds;
+use super::rows;
+
+// The forward part: each row's rows in the sheet's order, from place on. Answers the place after them.
+pub fn forward_part(
+    words: &[u16],
+    first: usize,
+    rows: usize,
+    marks: &[u8],
+    table: &mut [u16],
+    place: usize,
+) -> usize
+    requires { ⌜ Room (now table) place (forwardRows (now words) first (now marks) 0 rows) ⌝ ∗ ⌜ Readable (now words) first rows (now marks) ⌝ }
+    ensures { λ r. ⌜ Wrote (now (table .entry)) place (forwardRows (now (words .entry)) first (now (marks .entry)) 0 rows) (now (table .exit)) r ⌝ }
+{
+    let mut next: usize = place;
+    let mut p: usize = 0;
+    while p < rows {
+        let start = first + kinds::ROW_WORDS * p;
+        next = rows::forward_row(
+            table,
+            next,
+            words[start],
+            words[start + 1],
+            words[start + 2],
+            words[start + 3],
+            marks[p],
+        );
+        p += 1;
+    }
+    next
+}
+
+// Where the backward walk goes from row q: to the end of what comes next there.
+fn step_back(opened: &[u16], closed: &[u16], q: usize, kind: u16) -> usize
+    requires { ⌜ (q < length (now opened)) × (q < length (now closed)) ⌝ ∗ ⌜ (kind ≡ 7 → getD (now closed) q 0 < length (now closed)) ⌝ }
+    ensures { λ r. ⌜ r ≡ stepBack (now (opened .entry)) (now (closed .entry)) q kind ⌝ }
+{
+    if kind == kinds::IF {
+        let split = closed[q] as usize;
+        return closed[split] as usize;
+    }
+    if kind == kinds::ELSE {
+        return opened[q] as usize;
+    }
+    if kind == kinds::END_IF {
+        return opened[q] as usize;
+    }
+    q
+}
+
+// The turns of an "end repeat"'s "repeat"; 0 for any other row.
+fn turns_back(words: &[u16], first: usize, opened: &[u16], q: usize, kind: u16) -> u16
+    requires { ⌜ q < length (now opened) ⌝ ∗ ⌜ (kind ≡ 11 → first + 4 * getD (now opened) q 0 + 2 < length (now words)) ⌝ }
+    ensures { λ r. ⌜ r ≡ turnsBack (now (words .entry)) first (now (opened .entry)) q kind ⌝ }
+{
+    if kind == kinds::END_REPEAT {
+        let p = opened[q] as usize;
+        let start = first + kinds::ROW_WORDS * p;
+        return words[start + 2];
+    }
+    0
+}
+
+// The backward part: each row's rows once, from the last row on, each "if" with its branches in their places and reversed inside.
+pub fn backward_part(
+    words: &[u16],
+    first: usize,
+    rows: usize,
+    marks: &[u8],
+    opened: &[u16],
+    closed: &[u16],
+    variables: u16,
+    table: &mut [u16],
+    place: usize,
+) -> usize
+    requires { ⌜ Room (now table) place (backwardRows (handed (now words) first rows (now marks) (now opened) (now closed) variables) rows rows) ⌝
+        ∗ ⌜ Readable (now words) first rows (now marks) ⌝
+        ∗ ⌜ Walkable (handed (now words) first rows (now marks) (now opened) (now closed) variables) ⌝ }
+    ensures { λ r. ⌜ Wrote (now (table .entry)) place
+        (backwardRows (handed (now (words .entry)) first rows (now (marks .entry)) (now (opened .entry)) (now (closed .entry)) variables) rows rows)
+        (now (table .exit)) r ⌝ }
+{
+    let mut next: usize = place;
+    let mut end: usize = rows;
+    let mut left: usize = rows;
+    while 0 < left {
+        let q = end - 1;
+        let start = first + kinds::ROW_WORDS * q;
+        let kind = words[start];
+        let turns = turns_back(words, first, opened, q, kind);
+        next = rows::backward_row(
+            table,
+            next,
+            variables,
+            kind,
+            words[start + 1],
+            words[start + 2],
+            words[start + 3],
+            marks[q],
+            turns,
+        );
+        end = step_back(opened, closed, q, kind);
+        left -= 1;
+    }
+    next
+}
+
+// The whole table: the row count, the forward part, row 17 and the backward part. Answers the place after it.
+pub fn write_table(
+    words: &[u16],
+    first: usize,
+    rows: usize,
+    marks: &[u8],
+    opened: &[u16],
+    closed: &[u16],
+    variables: u16,
+    count: u16,
+    table: &mut [u16],
+) -> usize
+    requires { ⌜ Room (now table) 1 (wholeRows (handed (now words) first rows (now marks) (now opened) (now closed) variables)) ⌝
+        ∗ ⌜ Readable (now words) first rows (now marks) ⌝
+        ∗ ⌜ Walkable (handed (now words) first rows (now marks) (now opened) (now closed) variables) ⌝ }
+    ensures { λ r. ⌜ Wrote (set (now (table .entry)) 0 count) 1
+        (wholeRows (handed (now (words .entry)) first rows (now (marks .entry)) (now (opened .entry)) (now (closed .entry)) variables))
+        (now (table .exit)) r ⌝ }
+{
+    table[0] = count;
+    let turned = forward_part(words, first, rows, marks, table, 1);
+    let back = rows::put(table, turned, kinds::TURN_ROUND, 0, 0, 0);
+    backward_part(
+        words,
+        first,
+        rows,
+        marks,
+        opened,
+        closed,
+        variables,
+        table,
+        back,
+    )
+}
