@@ -9,20 +9,15 @@ ghost use Rattle.run.specs.Attempts.{whole};
 ghost use Rattle.run.specs.Buffers.{Evaluates, EvaluatesFixed, Assigns, Clears, Saves, TakesBack, Compares, TurnsRound};
 ghost use Rattle.run.specs.RowWords.{EvaluatesWords, AssignsWords};
 use super::Branch;
-use super::CONSTANT;
-use super::COPY;
-use super::DIFFERENCE;
 use super::Did;
 use super::DoubleRead;
 use super::Moved;
-use super::NEGATION;
-use super::PRODUCT;
-use super::SUM;
 use super::Went;
-use super::is_dependent;
 use number::Outcome;
 use number::constant;
 use number::double;
+use sheet::is_dependent;
+use sheet::kinds;
 
 fn read_of(outcome: Outcome) -> DoubleRead
     ensures { λ r. ⌜ readDouble r ≡ whole (outcomeOf outcome) ⌝ }
@@ -109,22 +104,22 @@ pub fn negated(vals: &[f64], a: usize) -> DoubleRead
 pub fn evaluate(kind: u16, a: usize, b: usize, constants: &[u16], vals: &[f64]) -> DoubleRead
     ensures { λ r. ⌜ EvaluatesWords doubles kind a b (now (constants .entry)) (now (vals .entry)) (readDouble r) ⌝ }
 {
-    if kind == COPY {
+    if kind == kinds::COPY {
         return copied(vals, a);
     }
-    if kind == CONSTANT {
+    if kind == kinds::CONSTANT {
         return fixed(constants, a);
     }
-    if kind == SUM {
+    if kind == kinds::SUM {
         return added(vals, a, b);
     }
-    if kind == DIFFERENCE {
+    if kind == kinds::DIFFERENCE {
         return subtracted(vals, a, b);
     }
-    if kind == PRODUCT {
+    if kind == kinds::PRODUCT {
         return multiplied(vals, a, b);
     }
-    if kind == NEGATION {
+    if kind == kinds::NEGATION {
         return negated(vals, a);
     }
     DoubleRead::Stuck

@@ -1,25 +1,9 @@
 // The runners. So far the code of single rows of the row machine, in both arithmetics; the loop over them comes later.
 // Every contract says what the row's written meaning (specs/Actions.antt) makes of the buffers (specs/Buffers.antt), and no place is asked
 // for: one that is not there answers Stuck.
-ghost use mathlib.Core.Path.{_≡_};
-ghost use Rattle.sheet.specs.Rows.{isDependent};
-
 pub mod doubles;
 pub mod residues;
 pub mod turns;
-
-// The kinds of an assignment.
-const COPY: u16 = 1;
-
-const CONSTANT: u16 = 2;
-
-const SUM: u16 = 3;
-
-const DIFFERENCE: u16 = 4;
-
-const PRODUCT: u16 = 5;
-
-const NEGATION: u16 = 6;
 
 // A right side in residues, which nothing stops.
 pub enum ResidueRead {
@@ -64,14 +48,4 @@ pub enum Branched {
     First(usize),
     Second(usize),
     Stuck,
-}
-
-const DEPENDENT: u16 = 2;
-
-const BOTH: u16 = 3;
-
-pub fn is_dependent(role: u16) -> bool
-    ensures { λ r. ⌜ r ≡ isDependent role ⌝ }
-{
-    (role == DEPENDENT) | (role == BOTH)
 }

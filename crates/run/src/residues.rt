@@ -7,18 +7,13 @@ ghost use Rattle.run.specs.Answers.{readResidue, whetherWent, branchOf};
 ghost use Rattle.run.specs.Buffers.{Evaluates, EvaluatesFixed, Assigns, Clears, Saves, TakesBack, Compares, TurnsRound};
 ghost use Rattle.run.specs.RowWords.{EvaluatesWords, AssignsWords};
 use super::Branch;
-use super::CONSTANT;
-use super::COPY;
-use super::DIFFERENCE;
 use super::Moved;
-use super::NEGATION;
-use super::PRODUCT;
 use super::ResidueRead;
-use super::SUM;
 use super::Went;
-use super::is_dependent;
 use number::constant;
 use number::residue;
+use sheet::is_dependent;
+use sheet::kinds;
 
 // Kind 1.
 pub fn copied(vals: &[u32], a: usize) -> ResidueRead
@@ -96,22 +91,22 @@ pub fn negated(vals: &[u32], a: usize) -> ResidueRead
 pub fn evaluate(kind: u16, a: usize, b: usize, constants: &[u16], vals: &[u32]) -> ResidueRead
     ensures { λ r. ⌜ EvaluatesWords residues kind a b (now (constants .entry)) (now (vals .entry)) (readResidue r) ⌝ }
 {
-    if kind == COPY {
+    if kind == kinds::COPY {
         return copied(vals, a);
     }
-    if kind == CONSTANT {
+    if kind == kinds::CONSTANT {
         return fixed(constants, a);
     }
-    if kind == SUM {
+    if kind == kinds::SUM {
         return added(vals, a, b);
     }
-    if kind == DIFFERENCE {
+    if kind == kinds::DIFFERENCE {
         return subtracted(vals, a, b);
     }
-    if kind == PRODUCT {
+    if kind == kinds::PRODUCT {
         return multiplied(vals, a, b);
     }
-    if kind == NEGATION {
+    if kind == kinds::NEGATION {
         return negated(vals, a);
     }
     ResidueRead::Stuck

@@ -14,8 +14,14 @@ ghost use Rattle.sets.specs.Partners.{Found, FoundBy, PartnersFound};
 ghost use Rattle.sets.specs.Growth.{Grown, Stepped, Swept};
 ghost use lib.ListN.{getD, set, length, replicate};
 
-// Words in a row. To be replaced by the constant of the crate sheet.
-const ROW_WORDS: usize = 4;
+// The bits of a row's mark: whether a is varied before it, whether b is, whether the row is active, whether it is recorded.
+pub const VARIED_A: u8 = 1;
+
+pub const VARIED_B: u8 = 2;
+
+pub const ACTIVE: u8 = 4;
+
+pub const SAVED: u8 = 8;
 
 // ---- masks
 
@@ -269,7 +275,7 @@ fn step(
     requires { ⌜ Readable (now words) first row × (first < 65536) × (row < 65536) ⌝ }
     ensures { λ r. ⌜ Stepped (equationIn which (record { words = now (words .entry); first = first; marks = now (marks .entry); partners = now (partners .entry) }) row) (now (sets .entry)) (now (sets .exit)) r ⌝ }
 {
-    let place = first + row * ROW_WORDS;
+    let place = first + row * sheet::ROW_WORDS;
     let kind = word(words, place);
     let d = word(words, place + 1);
     let a = word(words, place + 2);
@@ -434,7 +440,7 @@ fn find_partners(words: &[u16], first: usize, rows: usize, came: &mut [u16], goe
     let mut top: usize = 0;
     let mut row: usize = 0;
     while row < rows {
-        let kind = word(words, first + row * ROW_WORDS);
+        let kind = word(words, first + row * sheet::ROW_WORDS);
         top = partner_step(kind, row, top, came, goes);
         row += 1;
     }
@@ -472,7 +478,7 @@ fn byte_at(
     requires { ⌜ Readable (now words) first row × (first < 65536) × (row < 65536) ⌝ }
     ensures { λ r. ⌜ r ≡ byteAt (now (varied .entry)) (now (useful .entry)) (now (required .entry)) row (lineIn (now (words .entry)) first row) ⌝ }
 {
-    let place = first + row * ROW_WORDS;
+    let place = first + row * sheet::ROW_WORDS;
     let kind = word(words, place);
     if 6 < kind {
         return 0;

@@ -5,7 +5,7 @@ ghost use mathlib.Core.List.{[]};
 ghost use lib.ListN.{length, take, drop, getD};
 ghost use lib.Dec.{ltb};
 ghost use Rattle.sheet.specs.Bounds.{limit};
-ghost use Rattle.sheet.specs.Rows.{kinds};
+ghost use Rattle.sheet.specs.Rows.{kinds, isIndependent, isDependent};
 ghost use Rattle.sheet.specs.Reading.{countAt, rolesFit, rowAt, lineOf, rowsAt};
 ghost use Rattle.sheet.specs.Answers.{said, shapeRead, rowSaid};
 ghost use Rattle.sheet.specs.Steps.{countSaid, rolesSaid, fitsSlot, forms, noForm, formFits, partFor, partOf, saturated, enterOf, splitOf, ifEndOf, repeatEndOf, stepOf, bodySaid, bodyRun, finishOf};
@@ -26,6 +26,8 @@ pub const MAX_TURNS: usize = 1000;
 pub const MAX_DEPTH: usize = 8;
 
 pub const MAX_LONGEST: usize = 4096;
+
+pub mod kinds;
 
 // The kinds of a sheet's rows are 1 to 11: as many as `kinds` in specs/Rows.antt has.
 pub const KINDS: usize = 11;
@@ -59,6 +61,25 @@ pub struct Shape {
 pub enum Reading {
     Refused(No),
     Accepted(Shape),
+}
+
+// The roles besides 0, a parameter.
+const INDEPENDENT: u16 = 1;
+
+const DEPENDENT: u16 = 2;
+
+const BOTH: u16 = 3;
+
+pub fn is_independent(role: u16) -> bool
+    ensures { λ r. ⌜ r ≡ isIndependent role ⌝ }
+{
+    (role == INDEPENDENT) | (role == BOTH)
+}
+
+pub fn is_dependent(role: u16) -> bool
+    ensures { λ r. ⌜ r ≡ isDependent role ⌝ }
+{
+    (role == DEPENDENT) | (role == BOTH)
 }
 
 // A row's four words.

@@ -24,16 +24,16 @@ fn parts_count(kind: u16, first: bool, second: bool) -> usize
 {
     let into_a = one(first);
     let into_b = one(second);
-    if kind == kinds::COPY {
+    if kind == sheet::kinds::COPY {
         return into_a;
     }
-    if kind == kinds::CONSTANT {
+    if kind == sheet::kinds::CONSTANT {
         return 0;
     }
-    if kind == kinds::NEGATION {
+    if kind == sheet::kinds::NEGATION {
         return into_a;
     }
-    if kind == kinds::PRODUCT {
+    if kind == sheet::kinds::PRODUCT {
         return 2 * into_a + 2 * into_b;
     }
     into_a + into_b
@@ -44,10 +44,10 @@ fn assignment_count(kind: u16, mark: u8) -> usize
     requires { ⌜ (1 ≤ kind) × (kind ≤ 6) ⌝ }
     ensures { λ r. ⌜ (((v d a b : ℕ) → r ≡ length (assignmentBack v kind d a b mark)) × (r ≤ 7)) ⌝ }
 {
-    let saved = rows::bit(mark, kinds::SAVED);
-    let active = rows::bit(mark, kinds::ACTIVE);
-    let first = rows::bit(mark, kinds::VARIED_A);
-    let second = rows::bit(mark, kinds::VARIED_B);
+    let saved = rows::bit(mark, sets::SAVED);
+    let active = rows::bit(mark, sets::ACTIVE);
+    let first = rows::bit(mark, sets::VARIED_A);
+    let second = rows::bit(mark, sets::VARIED_B);
     let taken = one(saved);
     let parts = parts_count(kind, first, second);
     if active {
@@ -62,16 +62,16 @@ fn row_count(kind: u16, mark: u8) -> usize
     ensures { λ r. ⌜ (((v turns d a b : ℕ) → Says (row4 kind d a b)
         → r ≡ length (forwardOfLine mark (lineOfRow (row4 kind d a b))) + length (backwardOfLine v mark turns (lineOfRow (row4 kind d a b)))) × (r ≤ 9)) ⌝ }
 {
-    if kind < kinds::IF {
-        let saved = rows::bit(mark, kinds::SAVED);
+    if kind < sheet::kinds::IF {
+        let saved = rows::bit(mark, sets::SAVED);
         let forward = one(saved);
         let backward = assignment_count(kind, mark);
         return forward + 1 + backward;
     }
-    if kind == kinds::ELSE {
+    if kind == sheet::kinds::ELSE {
         return 3;
     }
-    if kind == kinds::END_IF {
+    if kind == sheet::kinds::END_IF {
         return 3;
     }
     2
@@ -85,7 +85,7 @@ pub fn table_rows(words: &[u16], first: usize, rows: usize, marks: &[u8]) -> usi
     let mut sum: usize = 1;
     let mut p: usize = 0;
     while p < rows {
-        let start = first + kinds::ROW_WORDS * p;
+        let start = first + sheet::ROW_WORDS * p;
         let more = row_count(words[start], marks[p]);
         sum += more;
         p += 1;

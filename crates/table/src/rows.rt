@@ -15,7 +15,7 @@ pub fn put(table: &mut [u16], place: usize, kind: u16, d: u16, a: u16, b: u16) -
     table[place + 1] = d;
     table[place + 2] = a;
     table[place + 3] = b;
-    place + kinds::ROW_WORDS
+    place + sheet::ROW_WORDS
 }
 
 // The same, only if given.
@@ -54,10 +54,18 @@ fn product_parts(
     let u = t + 1;
     let to_a = variables + a;
     let to_b = variables + b;
-    let scaled = put_if(first, table, place, kinds::PRODUCT, u, b, t);
-    let added = put_if(first, table, scaled, kinds::SUM, to_a, to_a, u);
-    let scaled_again = put_if(second, table, added, kinds::PRODUCT, u, a, t);
-    put_if(second, table, scaled_again, kinds::SUM, to_b, to_b, u)
+    let scaled = put_if(first, table, place, sheet::kinds::PRODUCT, u, b, t);
+    let added = put_if(first, table, scaled, sheet::kinds::SUM, to_a, to_a, u);
+    let scaled_again = put_if(second, table, added, sheet::kinds::PRODUCT, u, a, t);
+    put_if(
+        second,
+        table,
+        scaled_again,
+        sheet::kinds::SUM,
+        to_b,
+        to_b,
+        u,
+    )
 }
 
 // An assignment's parts, for a first and b second, each only if it is given: t or u into the adjoint of what it reads.
@@ -77,20 +85,20 @@ fn parts(
     let t = 2 * variables;
     let to_a = variables + a;
     let to_b = variables + b;
-    if kind == kinds::COPY {
-        return put_if(first, table, place, kinds::SUM, to_a, to_a, t);
+    if kind == sheet::kinds::COPY {
+        return put_if(first, table, place, sheet::kinds::SUM, to_a, to_a, t);
     }
-    if kind == kinds::CONSTANT {
+    if kind == sheet::kinds::CONSTANT {
         return place;
     }
-    if kind == kinds::NEGATION {
-        return put_if(first, table, place, kinds::DIFFERENCE, to_a, to_a, t);
+    if kind == sheet::kinds::NEGATION {
+        return put_if(first, table, place, sheet::kinds::DIFFERENCE, to_a, to_a, t);
     }
-    if kind == kinds::PRODUCT {
+    if kind == sheet::kinds::PRODUCT {
         return product_parts(table, place, variables, a, b, first, second);
     }
     // A sum and a difference add into ā, and into b̄ do as they do themselves.
-    let added = put_if(first, table, place, kinds::SUM, to_a, to_a, t);
+    let added = put_if(first, table, place, sheet::kinds::SUM, to_a, to_a, t);
     put_if(second, table, added, kind, to_b, to_b, t)
 }
 
@@ -118,12 +126,12 @@ fn assignment_back(
 {
     let t = 2 * variables;
     let adjoint = variables + d;
-    let saved = bit(mark, kinds::SAVED);
-    let active = bit(mark, kinds::ACTIVE);
-    let first = bit(mark, kinds::VARIED_A);
-    let second = bit(mark, kinds::VARIED_B);
+    let saved = bit(mark, sets::SAVED);
+    let active = bit(mark, sets::ACTIVE);
+    let first = bit(mark, sets::VARIED_A);
+    let second = bit(mark, sets::VARIED_B);
     let taken = put_if(saved, table, place, kinds::TAKE_BACK, d, 0, 0);
-    let held = put_if(active, table, taken, kinds::COPY, t, adjoint, 0);
+    let held = put_if(active, table, taken, sheet::kinds::COPY, t, adjoint, 0);
     let cleared = put(table, held, kinds::CLEAR, adjoint, 0, 0);
     if active {
         return parts(table, cleared, variables, kind, a, b, first, second);
@@ -144,16 +152,16 @@ pub fn forward_row(
     requires { ⌜ Room (now table) place (forwardOfLine mark (lineOfRow (row4 kind d a b))) ⌝ ∗ ⌜ Says (row4 kind d a b) ⌝ }
     ensures { λ r. ⌜ Wrote (now (table .entry)) place (forwardOfLine mark (lineOfRow (row4 kind d a b))) (now (table .exit)) r ⌝ }
 {
-    if kind < kinds::IF {
-        let saved = bit(mark, kinds::SAVED);
+    if kind < sheet::kinds::IF {
+        let saved = bit(mark, sets::SAVED);
         let next = put_if(saved, table, place, kinds::SAVE, d, 0, 0);
         return put(table, next, kind, d, a, b);
     }
-    if kind == kinds::ELSE {
+    if kind == sheet::kinds::ELSE {
         let next = put(table, place, kinds::SAVE_TURN, 0, 1, 0);
         return put(table, next, kind, d, a, b);
     }
-    if kind == kinds::END_IF {
+    if kind == sheet::kinds::END_IF {
         let next = put(table, place, kinds::SAVE_TURN, 0, 0, 0);
         return put(table, next, kind, d, a, b);
     }
@@ -175,20 +183,20 @@ pub fn backward_row(
     requires { ⌜ Room (now table) place (backwardOfLine variables mark turns (lineOfRow (row4 kind d a b))) ⌝ ∗ ⌜ Says (row4 kind d a b) ⌝ ∗ ⌜ Small variables (row4 kind d a b) ⌝ }
     ensures { λ r. ⌜ Wrote (now (table .entry)) place (backwardOfLine variables mark turns (lineOfRow (row4 kind d a b))) (now (table .exit)) r ⌝ }
 {
-    if kind < kinds::IF {
+    if kind < sheet::kinds::IF {
         return assignment_back(table, place, variables, kind, d, a, b, mark);
     }
-    if kind == kinds::IF {
-        return put(table, place, kinds::ELSE, 0, 0, 0);
+    if kind == sheet::kinds::IF {
+        return put(table, place, sheet::kinds::ELSE, 0, 0, 0);
     }
-    if kind == kinds::ELSE {
-        return put(table, place, kinds::END_IF, 0, 0, 0);
+    if kind == sheet::kinds::ELSE {
+        return put(table, place, sheet::kinds::END_IF, 0, 0, 0);
     }
-    if kind == kinds::END_IF {
+    if kind == sheet::kinds::END_IF {
         return put(table, place, kinds::ON_TURN, 0, 0, 0);
     }
-    if kind == kinds::REPEAT {
-        return put(table, place, kinds::END_REPEAT, 0, 0, 0);
+    if kind == sheet::kinds::REPEAT {
+        return put(table, place, sheet::kinds::END_REPEAT, 0, 0, 0);
     }
-    put(table, place, kinds::REPEAT, 0, turns, 0)
+    put(table, place, sheet::kinds::REPEAT, 0, turns, 0)
 }

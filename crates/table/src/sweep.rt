@@ -21,7 +21,7 @@ pub fn forward_part(
     let mut next: usize = place;
     let mut p: usize = 0;
     while p < rows {
-        let start = first + kinds::ROW_WORDS * p;
+        let start = first + sheet::ROW_WORDS * p;
         next = rows::forward_row(
             table,
             next,
@@ -41,14 +41,14 @@ fn step_back(opened: &[u16], closed: &[u16], q: usize, kind: u16) -> usize
     requires { ⌜ (q < length (now opened)) × (q < length (now closed)) ⌝ ∗ ⌜ (kind ≡ 7 → getD (now closed) q 0 < length (now closed)) ⌝ }
     ensures { λ r. ⌜ r ≡ stepBack (now (opened .entry)) (now (closed .entry)) q kind ⌝ }
 {
-    if kind == kinds::IF {
+    if kind == sheet::kinds::IF {
         let split = closed[q] as usize;
         return closed[split] as usize;
     }
-    if kind == kinds::ELSE {
+    if kind == sheet::kinds::ELSE {
         return opened[q] as usize;
     }
-    if kind == kinds::END_IF {
+    if kind == sheet::kinds::END_IF {
         return opened[q] as usize;
     }
     q
@@ -59,9 +59,9 @@ fn turns_back(words: &[u16], first: usize, opened: &[u16], q: usize, kind: u16) 
     requires { ⌜ q < length (now opened) ⌝ ∗ ⌜ (kind ≡ 11 → first + 4 * getD (now opened) q 0 + 2 < length (now words)) ⌝ }
     ensures { λ r. ⌜ r ≡ turnsBack (now (words .entry)) first (now (opened .entry)) q kind ⌝ }
 {
-    if kind == kinds::END_REPEAT {
+    if kind == sheet::kinds::END_REPEAT {
         let p = opened[q] as usize;
-        let start = first + kinds::ROW_WORDS * p;
+        let start = first + sheet::ROW_WORDS * p;
         return words[start + 2];
     }
     0
@@ -91,7 +91,7 @@ pub fn backward_part(
     let mut left: usize = rows;
     while 0 < left {
         let q = end - 1;
-        let start = first + kinds::ROW_WORDS * q;
+        let start = first + sheet::ROW_WORDS * q;
         let kind = words[start];
         let turns = turns_back(words, first, opened, q, kind);
         next = rows::backward_row(
