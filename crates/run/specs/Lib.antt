@@ -6,3 +6,4 @@ pub mod Calls
 pub mod Answers
 pub mod Buffers
 pub mod RowWords
+pub mod Runnable

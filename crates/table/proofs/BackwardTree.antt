@@ -76,18 +76,18 @@ module _ (v : ℕ) where
 -- ---- one turn of the walk
 
 -- from an assignment to the row before
-pub step-assignment : (opened closed : List ℕ) (q : ℕ) (b : Assignment) → stepBack opened closed q (sheetRowOf (basic b) .kind) ≡ q
+pub step-assignment : (came goes : List ℕ) (q : ℕ) (b : Assignment) → stepBack came goes q (sheetRowOf (basic b) .kind) ≡ q
 unfolding stepBack sheetRowOf rowOf rowOfAssignment
-step-assignment opened closed q (d ≔ copy a) = refl
-step-assignment opened closed q (d ≔ fixed a) = refl
-step-assignment opened closed q (d ≔ sum a b) = refl
-step-assignment opened closed q (d ≔ difference a b) = refl
-step-assignment opened closed q (d ≔ product a b) = refl
-step-assignment opened closed q (d ≔ negation a) = refl
+step-assignment came goes q (d ≔ copy a) = refl
+step-assignment came goes q (d ≔ fixed a) = refl
+step-assignment came goes q (d ≔ sum a b) = refl
+step-assignment came goes q (d ≔ difference a b) = refl
+step-assignment came goes q (d ≔ product a b) = refl
+step-assignment came goes q (d ≔ negation a) = refl
 
-pub step-if : (opened closed : List ℕ) (q : ℕ) (f : Test) → stepBack opened closed q (sheetRowOf (ifLine f) .kind) ≡ getD closed (getD closed q 0) 0
+pub step-if : (came goes : List ℕ) (q : ℕ) (f : Test) → stepBack came goes q (sheetRowOf (ifLine f) .kind) ≡ getD goes (getD goes q 0) 0
 unfolding stepBack sheetRowOf rowOf rowOfTest
-step-if opened closed q (less a b) = refl
+step-if came goes q (less a b) = refl
 
 none-before : (after : List Row) → rowsIn done ++ after ≡ after
 none-before after = rw rows-of-done
@@ -99,31 +99,31 @@ module _ (given : Handed) (mark : ℕ → Assignment → Marked) where
 
   -- the rows of a line at row q, then those from `next` on
   backward-step : (l : SheetLine) (q next n : ℕ) → rowOfNumber given q ≡ sheetRowOf l
-      → stepBack (given .opened) (given .closed) q (sheetRowOf l .kind) ≡ next
+      → stepBack (given .came) (given .goes) q (sheetRowOf l .kind) ≡ next
       → backwardRows given (suc n) (suc q)
-      ≡ backwardOfLine (given .variables) (getD (given .marks) q 0) (turnsBack (given .words) (given .first) (given .opened) q (sheetRowOf l .kind)) l
+      ≡ backwardOfLine (given .variables) (getD (given .marks) q 0) (turnsBack (given .words) (given .first) (given .goes) q (sheetRowOf l .kind)) l
       ++ backwardRows given n next
   backward-step l q next n stands goes =
       let here : suc q - 1 ≡ q = omega arith in
       backward-turn n (suc q)
       ∙ ap (λ p. backwardAt given p ++ backwardRows given n (wayBack given p)) here
-      ∙ ap (λ r. backwardOfLine (given .variables) (getD (given .marks) q 0) (turnsBack (given .words) (given .first) (given .opened) q (r .kind)) (lineOfRow r)
-      ++ backwardRows given n (stepBack (given .opened) (given .closed) q (r .kind))) stands
-      ∙ ap (λ line. backwardOfLine (given .variables) (getD (given .marks) q 0) (turnsBack (given .words) (given .first) (given .opened) q (sheetRowOf l .kind)) line
-      ++ backwardRows given n (stepBack (given .opened) (given .closed) q (sheetRowOf l .kind))) (line-back l)
-      ∙ ap (λ p. backwardOfLine (given .variables) (getD (given .marks) q 0) (turnsBack (given .words) (given .first) (given .opened) q (sheetRowOf l .kind)) l
+      ∙ ap (λ r. backwardOfLine (given .variables) (getD (given .marks) q 0) (turnsBack (given .words) (given .first) (given .goes) q (r .kind)) (lineOfRow r)
+      ++ backwardRows given n (stepBack (given .came) (given .goes) q (r .kind))) stands
+      ∙ ap (λ line. backwardOfLine (given .variables) (getD (given .marks) q 0) (turnsBack (given .words) (given .first) (given .goes) q (sheetRowOf l .kind)) line
+      ++ backwardRows given n (stepBack (given .came) (given .goes) q (sheetRowOf l .kind))) (line-back l)
+      ∙ ap (λ p. backwardOfLine (given .variables) (getD (given .marks) q 0) (turnsBack (given .words) (given .first) (given .goes) q (sheetRowOf l .kind)) l
       ++ backwardRows given n p) goes
 
   -- an "end repeat" at row q whose "repeat" is at row p becomes that "repeat"
-  repeat-back : (m p q : ℕ) → getD (given .opened) q 0 ≡ p → rowOfNumber given p ≡ sheetRowOf (repeat m)
-      → backwardOfLine (given .variables) (getD (given .marks) q 0) (turnsBack (given .words) (given .first) (given .opened) q 11) endRepeat ≡ row4 10 0 (suc m) 0 ∷ []
+  repeat-back : (m p q : ℕ) → getD (given .goes) q 0 ≡ p → rowOfNumber given p ≡ sheetRowOf (repeat m)
+      → backwardOfLine (given .variables) (getD (given .marks) q 0) (turnsBack (given .words) (given .first) (given .goes) q 11) endRepeat ≡ row4 10 0 (suc m) 0 ∷ []
   unfolding backwardOfLine turnsBack sheetRowOf rowOf
   repeat-back m p q opens stands = ap (λ n. row4 10 0 n 0 ∷ []) (ap (λ x. rowOfNumber given x .a) opens ∙ ap (λ r. r .a) stands)
 
   -- a tree's rows, walked from its end, then those of `rest` and `after`
   backward-tree : (t : Tree Assignment Test) (ls : List SheetLine) (rest : Table) (after : List Row) (p n c e : ℕ)
       → c ≡ rows t + n → e ≡ p + rows t → StandsAt (given .words) (given .first) (flat t ls) p
-      → Noted (given .marks) (given .opened) (given .closed) mark t p
+      → Noted (given .marks) (given .came) (given .goes) mark t p
       → backwardRows given n p ≡ rowsIn rest ++ after
       → backwardRows given c e ≡ rowsIn (backwardPart (given .variables) (numbered mark t p) rest) ++ after
   unfolding StandsAt Noted flat rows backwardPart numbered backwardOfLine tableRowOf rowOf rowOfTableTest stepBack sheetRowOf
@@ -135,10 +135,10 @@ module _ (given : Handed) (mark : ℕ → Assignment → Marked) where
       let v = given .variables in
       let m = mark p b in
       let this = backwardOf v (m .assignment) (m .row) (m .known) (m .saved) rest in
-      let turns = turnsBack (given .words) (given .first) (given .opened) p (sheetRowOf (basic b) .kind) in
+      let turns = turnsBack (given .words) (given .first) (given .goes) p (sheetRowOf (basic b) .kind) in
       let rs = backwardOfLine v (getD (given .marks) p 0) turns (basic b) in
       let row =
-      backward-step (basic b) p p n (s .0) (step-assignment (given .opened) (given .closed) p b) ∙ ap (λ l. rs ++ l) h
+      backward-step (basic b) p p n (s .0) (step-assignment (given .came) (given .goes) p b) ∙ ap (λ l. rs ++ l) h
       ∙ sym (append-assoc rs (rowsIn rest) after) ∙ ap (λ l. l ++ after) (sym (marked-backward v (w .0) turns rest)) in
       backward-tree k ls this after (suc p) (suc n) c e (omega arith) (omega arith) (s .1) (w .1) row
   backward-tree (fork f a b k) ls rest after p n c e hc he s w h =
@@ -152,18 +152,18 @@ module _ (given : Handed) (mark : ℕ → Assignment → Marked) where
       let atEnd = stands-after (given .words) (given .first) b (endIf ∷ flat k ls) (suc split) refl (atSplit .1) in
       let last = row4 9 0 0 0 ∷ (rowsIn rest ++ after) in
       let middle = row4 8 0 0 0 ∷ (rowsIn B ++ last) in
-      let elseRow = backward-step elseLine split p n (atSplit .0) (partners .elseOpened) ∙ ap (λ l. row4 9 0 0 0 ∷ l) h ∙ sym (none-before last) in
+      let elseRow = backward-step elseLine split p n (atSplit .0) (partners .elseCame) ∙ ap (λ l. row4 9 0 0 0 ∷ l) h ∙ sym (none-before last) in
       let secondBranch =
       backward-tree b (endIf ∷ flat k ls) done last (suc split) (suc n) (rows b + suc n) end refl refl (atSplit .1) (w .1 .1 .0) elseRow in
       let ifRow =
       backward-step (ifLine f) p end (rows b + suc n) (s .0)
-      (step-if (given .opened) (given .closed) p f ∙ ap (λ x. getD (given .closed) x 0) (partners .ifClosed) ∙ partners .elseClosed)
+      (step-if (given .came) (given .goes) p f ∙ ap (λ x. getD (given .goes) x 0) (partners .ifGoes) ∙ partners .elseGoes)
       ∙ ap (λ l. row4 8 0 0 0 ∷ l) secondBranch ∙ sym (none-before middle) in
       let firstBranch =
       backward-tree a (elseLine ∷ flat b (endIf ∷ flat k ls)) done middle (suc p) (suc (rows b + suc n)) (rows a + suc (rows b + suc n)) split
       refl refl (s .1) (w .1 .0) ifRow in
       let endRow =
-      backward-step endIf end split (rows a + suc (rows b + suc n)) (atEnd .0) (partners .endOpened) ∙ ap (λ l. row4 15 0 0 0 ∷ l) firstBranch
+      backward-step endIf end split (rows a + suc (rows b + suc n)) (atEnd .0) (partners .endCame) ∙ ap (λ l. row4 15 0 0 0 ∷ l) firstBranch
       ∙ sym (fork-before onTurn A B rest after) in
       backward-tree k ls (fork onTurn A B rest) after (suc end) (suc (rows a + suc (rows b + suc n))) c e (omega arith) (omega arith) (atEnd .1) (w .1 .1 .1) endRow
   backward-tree (again m a k) ls rest after p n c e hc he s w h =
@@ -176,7 +176,7 @@ module _ (given : Handed) (mark : ℕ → Assignment → Marked) where
       let body = backward-tree a (endRepeat ∷ flat k ls) done last (suc p) (suc n) (rows a + suc n) end refl refl (s .1) (w .1 .0) repeatRow in
       let endRow =
       backward-step endRepeat end end (rows a + suc n) (atEnd .0) refl
-      ∙ ap (λ l. l ++ backwardRows given (rows a + suc n) end) (repeat-back m p end (w .0 .endOpened) (s .0))
+      ∙ ap (λ l. l ++ backwardRows given (rows a + suc n) end) (repeat-back m p end (w .0 .endGoes) (s .0))
       ∙ ap (λ l. row4 10 0 (suc m) 0 ∷ l) body ∙ sym (again-before m A rest after) in
       backward-tree k ls (again m A rest) after (suc end) (suc (rows a + suc n)) c e (omega arith) (omega arith) (atEnd .1) (w .1 .1) endRow
 
@@ -186,7 +186,7 @@ module _ (given : Handed) (mark : ℕ → Assignment → Marked) where
 
   -- all rows
   pub backward-is-backward-part : (tree : Tree Assignment Test) → treeRows tree ≡ rowsAt (given .words) (given .first) (given .rows)
-      → given .rows ≡ rows tree → Noted (given .marks) (given .opened) (given .closed) mark tree 0
+      → given .rows ≡ rows tree → Noted (given .marks) (given .came) (given .goes) mark tree 0
       → backwardRows given (given .rows) (given .rows) ≡ rowsIn (backwardPart (given .variables) (numbered mark tree 0) done)
   backward-is-backward-part tree says counted noted =
       backward-tree tree [] done [] 0 0 (given .rows) (given .rows) (omega arith) (omega arith)

@@ -42,7 +42,7 @@ backward-count v {byte} {b} {m} says rest =
       length-append (backwardOfLine v byte 0 (basic b)) (rowsIn rest),
     )
 
-module _ (v : ℕ) (words : List ℕ) (first : ℕ) (marks opened closed : List ℕ) (mark : ℕ → Assignment → Marked) where
+module _ (v : ℕ) (words : List ℕ) (first : ℕ) (marks came goes : List ℕ) (mark : ℕ → Assignment → Marked) where
   count-turn : (p n : ℕ) → countRows v words first marks p (suc n)
       ≡ length (forwardOfLine (getD marks p 0) (lineOfRow (rowNumbered words first p)))
       + length (backwardOfLine v (getD marks p 0) 0 (lineOfRow (rowNumbered words first p)))
@@ -59,7 +59,7 @@ module _ (v : ℕ) (words : List ℕ) (first : ℕ) (marks opened closed : List 
       (ap lineOfRow stands ∙ line-back l)
 
   count-tree : (t : Tree Assignment Test) (ls : List SheetLine) (after before : Table) (p n c e : ℕ)
-      → c ≡ rows t + n → e ≡ p + rows t → StandsAt words first (flat t ls) p → Noted marks opened closed mark t p
+      → c ≡ rows t + n → e ≡ p + rows t → StandsAt words first (flat t ls) p → Noted marks came goes mark t p
       → rows (forwardPart (numbered mark t p) after) + rows (backwardPart v (numbered mark t p) before) + countRows v words first marks e n
       ≡ countRows v words first marks p c + rows after + rows before
   unfolding StandsAt Noted flat rows forwardPart backwardPart numbered forwardOfLine backwardOfLine
@@ -110,7 +110,7 @@ module _ (v : ℕ) (words : List ℕ) (first : ℕ) (marks opened closed : List 
   unfolding countRows
   count-end e = refl
 
-  pub counted-is-table-rows : (n : ℕ) (t : Tree Assignment Test) → treeRows t ≡ rowsAt words first n → Noted marks opened closed mark t 0
+  pub counted-is-table-rows : (n : ℕ) (t : Tree Assignment Test) → treeRows t ≡ rowsAt words first n → Noted marks came goes mark t 0
       → 1 + countRows v words first marks 0 n ≡ tableRows v (numbered mark t 0)
   unfolding tableRows adjointTable rows
   counted-is-table-rows n t says noted =

@@ -34,7 +34,7 @@ none-before after = rw rows-of-done
 turn-before : (row : RowNumber) (first : Bool) (after : List Row) → rowsIn (put row turning (saveTurn first) done) ++ after ≡ rowOfAction (saveTurn first) ∷ after
 turn-before row first after = rw (rows-of-put row turning (saveTurn first) done, rows-of-done)
 
-module _ (words : List ℕ) (first : ℕ) (marks opened closed : List ℕ) (mark : ℕ → Assignment → Marked) where
+module _ (words : List ℕ) (first : ℕ) (marks came goes : List ℕ) (mark : ℕ → Assignment → Marked) where
   forward-turn : (p n : ℕ) → forwardRows words first marks p (suc n)
       ≡ forwardOfLine (getD marks p 0) (lineOfRow (rowNumbered words first p)) ++ forwardRows words first marks (suc p) n
   unfolding forwardRows
@@ -48,7 +48,7 @@ module _ (words : List ℕ) (first : ℕ) (marks opened closed : List ℕ) (mark
 
   -- a tree's rows, then those of `rest` and `after`
   forward-tree : (t : Tree Assignment Test) (ls : List SheetLine) (rest : Table) (after : List Row) (p n c e : ℕ)
-      → c ≡ rows t + n → e ≡ p + rows t → StandsAt words first (flat t ls) p → Noted marks opened closed mark t p
+      → c ≡ rows t + n → e ≡ p + rows t → StandsAt words first (flat t ls) p → Noted marks came goes mark t p
       → forwardRows words first marks e n ≡ rowsIn rest ++ after
       → forwardRows words first marks p c ≡ rowsIn (forwardPart (numbered mark t p) rest) ++ after
   unfolding StandsAt Noted flat rows forwardPart numbered forwardOfLine rowOfTest tableRowOf rowOf rowOfAction rowOfTableTest
@@ -107,7 +107,7 @@ module _ (words : List ℕ) (first : ℕ) (marks opened closed : List ℕ) (mark
 
   -- all rows
   pub forward-is-forward-part : (n : ℕ) (t : Tree Assignment Test) → treeRows t ≡ rowsAt words first n → n ≡ rows t
-      → Noted marks opened closed mark t 0 → forwardRows words first marks 0 n ≡ rowsIn (forwardPart (numbered mark t 0) done)
+      → Noted marks came goes mark t 0 → forwardRows words first marks 0 n ≡ rowsIn (forwardPart (numbered mark t 0) done)
   forward-is-forward-part n t says counted noted =
       forward-tree t [] done [] 0 0 n n (omega arith) (omega arith) (tree-stands words first n t says) noted (forward-end n)
       ∙ append-nil (rowsIn (forwardPart (numbered mark t 0) done))

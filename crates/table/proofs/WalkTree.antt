@@ -60,8 +60,8 @@ module _ (given : Handed) (mark : ℕ → Assignment → Marked) where
   walk-turn n e v w = (v, w)
 
   walk-step : (l : SheetLine) (q next n : ℕ) → rowOfNumber given q ≡ sheetRowOf l
-      → stepBack (given .opened) (given .closed) q (sheetRowOf l .kind) ≡ next → q < given .rows
-      → (sheetRowOf l .kind ≡ 7 → getD (given .closed) q 0 < given .rows) → (sheetRowOf l .kind ≡ 11 → getD (given .opened) q 0 < given .rows)
+      → stepBack (given .came) (given .goes) q (sheetRowOf l .kind) ≡ next → q < given .rows
+      → (sheetRowOf l .kind ≡ 7 → getD (given .goes) q 0 < given .rows) → (sheetRowOf l .kind ≡ 11 → getD (given .goes) q 0 < given .rows)
       → Walks given n next → Walks given (suc n) (suc q)
   walk-step l q next n stands goes below branch loop w =
       let here : suc q - 1 ≡ q = omega arith in
@@ -73,11 +73,11 @@ module _ (given : Handed) (mark : ℕ → Assignment → Marked) where
         branch = rw here (λ e. branch (sym kind ∙ e));
         loop = rw here (λ e. loop (sym kind ∙ e));
       })
-      (rw here (subst (Walks given n) (sym (ap (stepBack (given .opened) (given .closed) q) kind ∙ goes)) w))
+      (rw here (subst (Walks given n) (sym (ap (stepBack (given .came) (given .goes) q) kind ∙ goes)) w))
 
   walks-tree : (t : Tree Assignment Test) (ls : List SheetLine) (p n c e : ℕ)
       → c ≡ rows t + n → e ≡ p + rows t → e ≤ given .rows → StandsAt (given .words) (given .first) (flat t ls) p
-      → Noted (given .marks) (given .opened) (given .closed) mark t p
+      → Noted (given .marks) (given .came) (given .goes) mark t p
       → Walks given n p → Walks given c e
   unfolding StandsAt Noted flat rows stepBack sheetRowOf rowOf
   walks-tree done ls p n c e hc he below s w h =
@@ -86,7 +86,7 @@ module _ (given : Handed) (mark : ℕ → Assignment → Marked) where
       rw (same, here) h
   walks-tree (one b k) ls p n c e hc he below s w h =
       let row =
-      walk-step (basic b) p p n (s .0) (step-assignment (given .opened) (given .closed) p b) (omega arith)
+      walk-step (basic b) p p n (s .0) (step-assignment (given .came) (given .goes) p b) (omega arith)
       (λ kind. absurd (omega (arith, assignment-kind b))) (λ kind. absurd (omega (arith, assignment-kind b))) h in
       walks-tree k ls (suc p) (suc n) c e (omega arith) (omega arith) below (s .1) (w .1) row
   walks-tree (fork f a b k) ls p n c e hc he below s w h =
@@ -96,18 +96,18 @@ module _ (given : Handed) (mark : ℕ → Assignment → Marked) where
       let atSplit = stands-after (given .words) (given .first) a (elseLine ∷ flat b (endIf ∷ flat k ls)) (suc p) refl (s .1) in
       let atEnd = stands-after (given .words) (given .first) b (endIf ∷ flat k ls) (suc split) refl (atSplit .1) in
       let elseRow =
-      walk-step elseLine split p n (atSplit .0) (partners .elseOpened) (omega arith) (λ kind. absurd (omega arith)) (λ kind. absurd (omega arith)) h in
+      walk-step elseLine split p n (atSplit .0) (partners .elseCame) (omega arith) (λ kind. absurd (omega arith)) (λ kind. absurd (omega arith)) h in
       let secondBranch =
       walks-tree b (endIf ∷ flat k ls) (suc split) (suc n) (rows b + suc n) end refl refl (omega arith) (atSplit .1) (w .1 .1 .0) elseRow in
       let ifRow =
       walk-step (ifLine f) p end (rows b + suc n) (s .0)
-      (step-if (given .opened) (given .closed) p f ∙ ap (λ x. getD (given .closed) x 0) (partners .ifClosed) ∙ partners .elseClosed)
-      (omega arith) (λ kind. omega (arith, partners .ifClosed)) (λ kind. absurd (omega (arith, if-kind f))) secondBranch in
+      (step-if (given .came) (given .goes) p f ∙ ap (λ x. getD (given .goes) x 0) (partners .ifGoes) ∙ partners .elseGoes)
+      (omega arith) (λ kind. omega (arith, partners .ifGoes)) (λ kind. absurd (omega (arith, if-kind f))) secondBranch in
       let firstBranch =
       walks-tree a (elseLine ∷ flat b (endIf ∷ flat k ls)) (suc p) (suc (rows b + suc n)) (rows a + suc (rows b + suc n)) split
       refl refl (omega arith) (s .1) (w .1 .0) ifRow in
       let endRow =
-      walk-step endIf end split (rows a + suc (rows b + suc n)) (atEnd .0) (partners .endOpened) (omega arith)
+      walk-step endIf end split (rows a + suc (rows b + suc n)) (atEnd .0) (partners .endCame) (omega arith)
       (λ kind. absurd (omega arith)) (λ kind. absurd (omega arith)) firstBranch in
       walks-tree k ls (suc end) (suc (rows a + suc (rows b + suc n))) c e (omega arith) (omega arith) below (atEnd .1) (w .1 .1 .1) endRow
   walks-tree (again m a k) ls p n c e hc he below s w h =
@@ -118,7 +118,7 @@ module _ (given : Handed) (mark : ℕ → Assignment → Marked) where
       let body = walks-tree a (endRepeat ∷ flat k ls) (suc p) (suc n) (rows a + suc n) end refl refl (omega arith) (s .1) (w .1 .0) repeatRow in
       let endRow =
       walk-step endRepeat end end (rows a + suc n) (atEnd .0) refl (omega arith)
-      (λ kind. absurd (omega arith)) (λ kind. omega (arith, w .0 .endOpened)) body in
+      (λ kind. absurd (omega arith)) (λ kind. omega (arith, w .0 .endGoes)) body in
       walks-tree k ls (suc end) (suc (rows a + suc n)) c e (omega arith) (omega arith) below (atEnd .1) (w .1 .1) endRow
 
   walks-none : (e : ℕ) → Walks given 0 e
@@ -126,7 +126,7 @@ module _ (given : Handed) (mark : ℕ → Assignment → Marked) where
   walks-none e = tt
 
   pub tree-walks : (t : Tree Assignment Test) → treeRows t ≡ rowsAt (given .words) (given .first) (given .rows)
-      → Noted (given .marks) (given .opened) (given .closed) mark t 0 → Walks given (given .rows) (given .rows)
+      → Noted (given .marks) (given .came) (given .goes) mark t 0 → Walks given (given .rows) (given .rows)
   tree-walks t says noted =
       let counted = rows-of-tree (given .words) (given .first) (given .rows) t says in
       walks-tree t [] 0 0 (given .rows) (given .rows) (omega arith) (omega arith) (omega arith)

@@ -46,13 +46,13 @@ adjoint-rows v t =
 
 -- the rows that the writer puts are the adjoint table's
 pub whole-is-table : (given : Handed) (mark : ℕ → Assignment → Marked) (t : Tree Assignment Test)
-    → treeRows t ≡ rowsAt (given .words) (given .first) (given .rows) → Noted (given .marks) (given .opened) (given .closed) mark t 0
+    → treeRows t ≡ rowsAt (given .words) (given .first) (given .rows) → Noted (given .marks) (given .came) (given .goes) mark t 0
     → wholeRows given ≡ rowsIn (adjointTable (given .variables) (numbered mark t 0))
 unfolding wholeRows
 whole-is-table given mark t says noted =
     let counted = rows-of-tree (given .words) (given .first) (given .rows) t says in
     rw (
-      forward-is-forward-part (given .words) (given .first) (given .marks) (given .opened) (given .closed) mark (given .rows) t says counted noted,
+      forward-is-forward-part (given .words) (given .first) (given .marks) (given .came) (given .goes) mark (given .rows) t says counted noted,
       backward-is-backward-part given mark t says counted noted,
     )
     (sym (adjoint-rows (given .variables) (numbered mark t 0)))

@@ -147,13 +147,13 @@ module _ (words : List ℕ) (first : ℕ) where
 
 -- The backward part walks over the rows from the last on. From a row of a kind it goes to the end of what comes next, which is
 -- the row before; but "end if" to the first branch, "if" to the second, "else" to what is before the block.
-unfoldable pub stepBack : (opened closed : List ℕ) (q kind : ℕ) → ℕ
-stepBack opened closed q kind = cond (eqb kind 7) (getD closed (getD closed q 0) 0) (cond (eqb kind 8 || eqb kind 9) (getD opened q 0) q)
+unfoldable pub stepBack : (came goes : List ℕ) (q kind : ℕ) → ℕ
+stepBack came goes q kind = cond (eqb kind 7) (getD goes (getD goes q 0) 0) (cond (eqb kind 8 || eqb kind 9) (getD came q 0) q)
 
 -- the turns of an "end repeat"'s "repeat"
-unfoldable pub turnsBack : (words : List ℕ) (first : ℕ) (opened : List ℕ) (q kind : ℕ) → ℕ
+unfoldable pub turnsBack : (words : List ℕ) (first : ℕ) (goes : List ℕ) (q kind : ℕ) → ℕ
 unfolding rowAt
-turnsBack words first opened q kind = cond (eqb kind 11) (rowNumbered words first (getD opened q 0) .a) 0
+turnsBack words first goes q kind = cond (eqb kind 11) (rowNumbered words first (getD goes q 0) .a) 0
 
 -- what the writer is handed for the backward part
 pub record Handed : Type 0 where
@@ -161,13 +161,13 @@ pub record Handed : Type 0 where
   pub first : ℕ
   pub rows : ℕ
   pub marks : List ℕ
-  pub opened : List ℕ
-  pub closed : List ℕ
+  pub came : List ℕ
+  pub goes : List ℕ
   pub variables : ℕ
 
-abbrev pub handed : (words : List ℕ) (first rows : ℕ) (marks opened closed : List ℕ) (variables : ℕ) → Handed
-handed words first rows marks opened closed variables =
-    record { words = words; first = first; rows = rows; marks = marks; opened = opened; closed = closed; variables = variables }
+abbrev pub handed : (words : List ℕ) (first rows : ℕ) (marks came goes : List ℕ) (variables : ℕ) → Handed
+handed words first rows marks came goes variables =
+    record { words = words; first = first; rows = rows; marks = marks; came = came; goes = goes; variables = variables }
 
 module _ (given : Handed) where
   abbrev pub rowOfNumber : ℕ → Row
@@ -176,11 +176,11 @@ module _ (given : Handed) where
   -- the backward part's rows: of row q, and of so many rows from the one before `end` on
   abbrev pub backwardAt : (q : ℕ) → List Row
   backwardAt q =
-      backwardOfLine (given .variables) (getD (given .marks) q 0) (turnsBack (given .words) (given .first) (given .opened) q (rowOfNumber q .kind))
+      backwardOfLine (given .variables) (getD (given .marks) q 0) (turnsBack (given .words) (given .first) (given .goes) q (rowOfNumber q .kind))
       (lineOfRow (rowOfNumber q))
 
   abbrev pub wayBack : (q : ℕ) → ℕ
-  wayBack q = stepBack (given .opened) (given .closed) q (rowOfNumber q .kind)
+  wayBack q = stepBack (given .came) (given .goes) q (rowOfNumber q .kind)
 
   unfoldable pub backwardRows : (count end : ℕ) → List Row
   unfolding backwardOfLine turnsBack lineOfRow rowAt stepBack
@@ -191,8 +191,8 @@ module _ (given : Handed) where
   pub record Visited (end : ℕ) : Type 0 where
     pub some : 1 ≤ end
     pub within : end ≤ given .rows
-    pub branch : rowOfNumber (end - 1) .kind ≡ 7 → getD (given .closed) (end - 1) 0 < given .rows
-    pub loop : rowOfNumber (end - 1) .kind ≡ 11 → getD (given .opened) (end - 1) 0 < given .rows
+    pub branch : rowOfNumber (end - 1) .kind ≡ 7 → getD (given .goes) (end - 1) 0 < given .rows
+    pub loop : rowOfNumber (end - 1) .kind ≡ 11 → getD (given .goes) (end - 1) 0 < given .rows
 
   -- the walk stays on the rows for so many of them
   unfoldable pub Walks : (count end : ℕ) → Type 0
@@ -203,8 +203,8 @@ module _ (given : Handed) where
   -- what the reader has made sure of besides
   pub record Walkable : Type 0 where
     pub small : (p : ℕ) → p < given .rows → Small (given .variables) (rowOfNumber p)
-    pub splits : given .rows ≤ length (given .opened)
-    pub ends : given .rows ≤ length (given .closed)
+    pub splits : given .rows ≤ length (given .came)
+    pub ends : given .rows ≤ length (given .goes)
     pub walks : Walks (given .rows) (given .rows)
 
 -- the forward part, row 17 and the backward part
@@ -230,18 +230,18 @@ pub record MarkSays (byte : ℕ) (b : Assignment) (m : Marked) : Type 0 where
   pub known : m .known ≡ knownBy byte
   pub saved : m .saved ≡ savedBy byte
 
-module _ (marks opened closed : List ℕ) (mark : ℕ → Assignment → Marked) where
+module _ (marks came goes : List ℕ) (mark : ℕ → Assignment → Marked) where
   -- the partners of an "if", its "else" and its "end if"
   pub record BranchNoted (start split end : ℕ) : Type 0 where
-    pub ifClosed : getD closed start 0 ≡ split
-    pub elseClosed : getD closed split 0 ≡ end
-    pub elseOpened : getD opened split 0 ≡ start
-    pub endOpened : getD opened end 0 ≡ split
+    pub ifGoes : getD goes start 0 ≡ split
+    pub elseGoes : getD goes split 0 ≡ end
+    pub elseCame : getD came split 0 ≡ start
+    pub endCame : getD came end 0 ≡ split
 
   -- the partners of a "repeat" and its "end repeat"
   pub record RepeatNoted (start end : ℕ) : Type 0 where
-    pub repeatClosed : getD closed start 0 ≡ end
-    pub endOpened : getD opened end 0 ≡ start
+    pub repeatCame : getD came start 0 ≡ end
+    pub endGoes : getD goes end 0 ≡ start
 
   -- of the rows of a tree from row p on: each assignment's marks and each block row's partners
   unfoldable pub Noted : Tree Assignment Test → (p : ℕ) → Type 0

@@ -37,30 +37,30 @@ pub fn forward_part(
 }
 
 // Where the backward walk goes from row q: to the end of what comes next there.
-fn step_back(opened: &[u16], closed: &[u16], q: usize, kind: u16) -> usize
-    requires { ⌜ (q < length (now opened)) × (q < length (now closed)) ⌝ ∗ ⌜ (kind ≡ 7 → getD (now closed) q 0 < length (now closed)) ⌝ }
-    ensures { λ r. ⌜ r ≡ stepBack (now (opened .entry)) (now (closed .entry)) q kind ⌝ }
+fn step_back(came: &[u16], goes: &[u16], q: usize, kind: u16) -> usize
+    requires { ⌜ (q < length (now came)) × (q < length (now goes)) ⌝ ∗ ⌜ (kind ≡ 7 → getD (now goes) q 0 < length (now goes)) ⌝ }
+    ensures { λ r. ⌜ r ≡ stepBack (now (came .entry)) (now (goes .entry)) q kind ⌝ }
 {
     if kind == sheet::kinds::IF {
-        let split = closed[q] as usize;
-        return closed[split] as usize;
+        let split = goes[q] as usize;
+        return goes[split] as usize;
     }
     if kind == sheet::kinds::ELSE {
-        return opened[q] as usize;
+        return came[q] as usize;
     }
     if kind == sheet::kinds::END_IF {
-        return opened[q] as usize;
+        return came[q] as usize;
     }
     q
 }
 
 // The turns of an "end repeat"'s "repeat"; 0 for any other row.
-fn turns_back(words: &[u16], first: usize, opened: &[u16], q: usize, kind: u16) -> u16
-    requires { ⌜ q < length (now opened) ⌝ ∗ ⌜ (kind ≡ 11 → first + 4 * getD (now opened) q 0 + 2 < length (now words)) ⌝ }
-    ensures { λ r. ⌜ r ≡ turnsBack (now (words .entry)) first (now (opened .entry)) q kind ⌝ }
+fn turns_back(words: &[u16], first: usize, goes: &[u16], q: usize, kind: u16) -> u16
+    requires { ⌜ q < length (now goes) ⌝ ∗ ⌜ (kind ≡ 11 → first + 4 * getD (now goes) q 0 + 2 < length (now words)) ⌝ }
+    ensures { λ r. ⌜ r ≡ turnsBack (now (words .entry)) first (now (goes .entry)) q kind ⌝ }
 {
     if kind == sheet::kinds::END_REPEAT {
-        let p = opened[q] as usize;
+        let p = goes[q] as usize;
         let start = first + sheet::ROW_WORDS * p;
         return words[start + 2];
     }
@@ -73,17 +73,17 @@ pub fn backward_part(
     first: usize,
     rows: usize,
     marks: &[u8],
-    opened: &[u16],
-    closed: &[u16],
+    came: &[u16],
+    goes: &[u16],
     variables: u16,
     table: &mut [u16],
     place: usize,
 ) -> usize
-    requires { ⌜ Room (now table) place (backwardRows (handed (now words) first rows (now marks) (now opened) (now closed) variables) rows rows) ⌝
+    requires { ⌜ Room (now table) place (backwardRows (handed (now words) first rows (now marks) (now came) (now goes) variables) rows rows) ⌝
         ∗ ⌜ Readable (now words) first rows (now marks) ⌝
-        ∗ ⌜ Walkable (handed (now words) first rows (now marks) (now opened) (now closed) variables) ⌝ }
+        ∗ ⌜ Walkable (handed (now words) first rows (now marks) (now came) (now goes) variables) ⌝ }
     ensures { λ r. ⌜ Wrote (now (table .entry)) place
-        (backwardRows (handed (now (words .entry)) first rows (now (marks .entry)) (now (opened .entry)) (now (closed .entry)) variables) rows rows)
+        (backwardRows (handed (now (words .entry)) first rows (now (marks .entry)) (now (came .entry)) (now (goes .entry)) variables) rows rows)
         (now (table .exit)) r ⌝ }
 {
     let mut next: usize = place;
@@ -93,7 +93,7 @@ pub fn backward_part(
         let q = end - 1;
         let start = first + sheet::ROW_WORDS * q;
         let kind = words[start];
-        let turns = turns_back(words, first, opened, q, kind);
+        let turns = turns_back(words, first, goes, q, kind);
         next = rows::backward_row(
             table,
             next,
@@ -105,7 +105,7 @@ pub fn backward_part(
             marks[q],
             turns,
         );
-        end = step_back(opened, closed, q, kind);
+        end = step_back(came, goes, q, kind);
         left -= 1;
     }
     next
@@ -117,17 +117,17 @@ pub fn write_table(
     first: usize,
     rows: usize,
     marks: &[u8],
-    opened: &[u16],
-    closed: &[u16],
+    came: &[u16],
+    goes: &[u16],
     variables: u16,
     count: u16,
     table: &mut [u16],
 ) -> usize
-    requires { ⌜ Room (now table) 1 (wholeRows (handed (now words) first rows (now marks) (now opened) (now closed) variables)) ⌝
+    requires { ⌜ Room (now table) 1 (wholeRows (handed (now words) first rows (now marks) (now came) (now goes) variables)) ⌝
         ∗ ⌜ Readable (now words) first rows (now marks) ⌝
-        ∗ ⌜ Walkable (handed (now words) first rows (now marks) (now opened) (now closed) variables) ⌝ }
+        ∗ ⌜ Walkable (handed (now words) first rows (now marks) (now came) (now goes) variables) ⌝ }
     ensures { λ r. ⌜ Wrote (set (now (table .entry)) 0 count) 1
-        (wholeRows (handed (now (words .entry)) first rows (now (marks .entry)) (now (opened .entry)) (now (closed .entry)) variables))
+        (wholeRows (handed (now (words .entry)) first rows (now (marks .entry)) (now (came .entry)) (now (goes .entry)) variables))
         (now (table .exit)) r ⌝ }
 {
     table[0] = count;
@@ -138,8 +138,8 @@ pub fn write_table(
         first,
         rows,
         marks,
-        opened,
-        closed,
+        came,
+        goes,
         variables,
         table,
         back,

@@ -12,12 +12,12 @@ use Rattle.table.proofs.sweep.backward_part.Statement.{statement}
 use Rattle.table.proofs.sweep.backward_part.Tie as tie
 
 abbrev Inv-loop : tie.InvT-loop
-Inv-loop words first rows marks opened closed variables table₀ place next₀ end₀ left₀ table next end left =
-    let given = handed words first rows marks opened closed variables in
+Inv-loop words first rows marks came goes variables table₀ place next₀ end₀ left₀ table next end left =
+    let given = handed words first rows marks came goes variables in
     Walks given left end × Underway table₀ place (backwardRows given rows rows) (backwardRows given left end) table next
 
 abbrev μ-loop : tie.MeasureT-loop
-μ-loop words first rows marks opened closed variables table₀ place next₀ end₀ left₀ table next end left = left
+μ-loop words first rows marks came goes variables table₀ place next₀ end₀ left₀ table next end left = left
 
 loop-holds : tie.Need-loop-holds Inv-loop μ-loop
 loop-holds c =
@@ -26,7 +26,7 @@ loop-holds c =
 sub-q : tie.Need-sub-q Inv-loop μ-loop
 sub-q c =
     let x = c .before .before .before .before .before .before .before .args in
-    let given = handed (x .words .now) (x .first) (x .rows) (x .marks .now) (x .opened .now) (x .closed .now) (x .variables) in
+    let given = handed (x .words .now) (x .first) (x .rows) (x .marks .now) (x .came .now) (x .goes .now) (x .variables) in
     let l = c .before .loop in
     let visit = visit-now given (l .left) (l .end) (c .loop-test .taken) (l .inv .0) in
     omega (arith, visit .some, visit .within, c .before .before .before .before .before .before .before .pre .1 .0)
@@ -34,7 +34,7 @@ sub-q c =
 mul-start : tie.Need-mul-start Inv-loop μ-loop
 mul-start c =
     let x = c .before .before .before .before .before .before .before .args in
-    let given = handed (x .words .now) (x .first) (x .rows) (x .marks .now) (x .opened .now) (x .closed .now) (x .variables) in
+    let given = handed (x .words .now) (x .first) (x .rows) (x .marks .now) (x .came .now) (x .goes .now) (x .variables) in
     let l = c .before .loop in
     let visit = visit-now given (l .left) (l .end) (c .loop-test .taken) (l .inv .0) in
     omega (arith, visit .some, visit .within, c .before .before .before .before .before .before .before .pre .1 .0)
@@ -42,7 +42,7 @@ mul-start c =
 add-start : tie.Need-add-start Inv-loop μ-loop
 add-start c =
     let x = c .before .before .before .before .before .before .before .args in
-    let given = handed (x .words .now) (x .first) (x .rows) (x .marks .now) (x .opened .now) (x .closed .now) (x .variables) in
+    let given = handed (x .words .now) (x .first) (x .rows) (x .marks .now) (x .came .now) (x .goes .now) (x .variables) in
     let l = c .before .loop in
     let visit = visit-now given (l .left) (l .end) (c .loop-test .taken) (l .inv .0) in
     omega (arith, visit .some, visit .within, c .before .before .before .before .before .before .before .pre .1 .0)
@@ -50,7 +50,7 @@ add-start c =
 mul-kind : tie.Need-mul-kind Inv-loop μ-loop
 mul-kind c =
     let x = c .before .before .before .before .before .before .before .args in
-    let given = handed (x .words .now) (x .first) (x .rows) (x .marks .now) (x .opened .now) (x .closed .now) (x .variables) in
+    let given = handed (x .words .now) (x .first) (x .rows) (x .marks .now) (x .came .now) (x .goes .now) (x .variables) in
     let l = c .before .loop in
     let visit = visit-now given (l .left) (l .end) (c .loop-test .taken) (l .inv .0) in
     omega (arith, visit .some, visit .within, c .before .before .before .before .before .before .before .pre .1 .0)
@@ -58,7 +58,7 @@ mul-kind c =
 shared-slice-read-kind : tie.Need-shared-slice-read-kind Inv-loop μ-loop
 shared-slice-read-kind c =
     let x = c .before .before .before .before .before .before .before .before .args in
-    let given = handed (x .words .now) (x .first) (x .rows) (x .marks .now) (x .opened .now) (x .closed .now) (x .variables) in
+    let given = handed (x .words .now) (x .first) (x .rows) (x .marks .now) (x .came .now) (x .goes .now) (x .variables) in
     let l = c .before .before .loop in
     let visit = visit-now given (l .left) (l .end) (c .before .loop-test .taken) (l .inv .0) in
     omega (arith, visit .some, visit .within, c .before .before .before .before .before .before .before .before .pre .1 .0)
@@ -67,15 +67,15 @@ turns-back-requires : tie.Need-turns-back-requires Inv-loop μ-loop
 unfolding rowAt
 turns-back-requires c κs =
     let x = c .before .before .before .before .before .before .before .before .args in
-    let given = handed (x .words .now) (x .first) (x .rows) (x .marks .now) (x .opened .now) (x .closed .now) (x .variables) in
+    let given = handed (x .words .now) (x .first) (x .rows) (x .marks .now) (x .came .now) (x .goes .now) (x .variables) in
     let l = c .before .before .loop in
     let visit = visit-now given (l .left) (l .end) (c .before .loop-test .taken) (l .inv .0) in
-    (omega (arith, visit .some, visit .within, c .before .before .before .before .before .before .before .before .pre .1 .1 .splits), λ end-repeat. omega (arith, visit .loop end-repeat, c .before .before .before .before .before .before .before .before .pre .1 .0 .within))
+    (omega (arith, visit .some, visit .within, c .before .before .before .before .before .before .before .before .pre .1 .1 .ends), λ end-repeat. omega (arith, visit .loop end-repeat, c .before .before .before .before .before .before .before .before .pre .1 .0 .within))
 
 add-backward-row : tie.Need-add-backward-row Inv-loop μ-loop
 add-backward-row c =
     let x = c .before .before .before .before .before .before .before .before .before .before .args in
-    let given = handed (x .words .now) (x .first) (x .rows) (x .marks .now) (x .opened .now) (x .closed .now) (x .variables) in
+    let given = handed (x .words .now) (x .first) (x .rows) (x .marks .now) (x .came .now) (x .goes .now) (x .variables) in
     let l = c .before .before .before .before .loop in
     let visit = visit-now given (l .left) (l .end) (c .before .before .before .loop-test .taken) (l .inv .0) in
     omega (arith, visit .some, visit .within, c .before .before .before .before .before .before .before .before .before .before .pre .1 .0)
@@ -83,7 +83,7 @@ add-backward-row c =
 mul-backward-row : tie.Need-mul-backward-row Inv-loop μ-loop
 mul-backward-row c =
     let x = c .before .before .before .before .before .before .before .before .before .before .args in
-    let given = handed (x .words .now) (x .first) (x .rows) (x .marks .now) (x .opened .now) (x .closed .now) (x .variables) in
+    let given = handed (x .words .now) (x .first) (x .rows) (x .marks .now) (x .came .now) (x .goes .now) (x .variables) in
     let l = c .before .before .before .before .loop in
     let visit = visit-now given (l .left) (l .end) (c .before .before .before .loop-test .taken) (l .inv .0) in
     omega (arith, visit .some, visit .within, c .before .before .before .before .before .before .before .before .before .before .pre .1 .0)
@@ -91,7 +91,7 @@ mul-backward-row c =
 shared-slice-read-backward-row : tie.Need-shared-slice-read-backward-row Inv-loop μ-loop
 shared-slice-read-backward-row c =
     let x = c .before .before .before .before .before .before .before .before .before .before .before .args in
-    let given = handed (x .words .now) (x .first) (x .rows) (x .marks .now) (x .opened .now) (x .closed .now) (x .variables) in
+    let given = handed (x .words .now) (x .first) (x .rows) (x .marks .now) (x .came .now) (x .goes .now) (x .variables) in
     let l = c .before .before .before .before .before .loop in
     let visit = visit-now given (l .left) (l .end) (c .before .before .before .before .loop-test .taken) (l .inv .0) in
     omega (arith, visit .some, visit .within, c .before .before .before .before .before .before .before .before .before .before .before .pre .1 .0)
@@ -99,7 +99,7 @@ shared-slice-read-backward-row c =
 add-backward-row-2 : tie.Need-add-backward-row-2 Inv-loop μ-loop
 add-backward-row-2 c =
     let x = c .before .before .before .before .before .before .before .before .before .before .before .args in
-    let given = handed (x .words .now) (x .first) (x .rows) (x .marks .now) (x .opened .now) (x .closed .now) (x .variables) in
+    let given = handed (x .words .now) (x .first) (x .rows) (x .marks .now) (x .came .now) (x .goes .now) (x .variables) in
     let l = c .before .before .before .before .before .loop in
     let visit = visit-now given (l .left) (l .end) (c .before .before .before .before .loop-test .taken) (l .inv .0) in
     omega (arith, visit .some, visit .within, c .before .before .before .before .before .before .before .before .before .before .before .pre .1 .0)
@@ -107,7 +107,7 @@ add-backward-row-2 c =
 mul-backward-row-2 : tie.Need-mul-backward-row-2 Inv-loop μ-loop
 mul-backward-row-2 c =
     let x = c .before .before .before .before .before .before .before .before .before .before .before .args in
-    let given = handed (x .words .now) (x .first) (x .rows) (x .marks .now) (x .opened .now) (x .closed .now) (x .variables) in
+    let given = handed (x .words .now) (x .first) (x .rows) (x .marks .now) (x .came .now) (x .goes .now) (x .variables) in
     let l = c .before .before .before .before .before .loop in
     let visit = visit-now given (l .left) (l .end) (c .before .before .before .before .loop-test .taken) (l .inv .0) in
     omega (arith, visit .some, visit .within, c .before .before .before .before .before .before .before .before .before .before .before .pre .1 .0)
@@ -115,7 +115,7 @@ mul-backward-row-2 c =
 shared-slice-read-backward-row-2 : tie.Need-shared-slice-read-backward-row-2 Inv-loop μ-loop
 shared-slice-read-backward-row-2 c =
     let x = c .before .before .before .before .before .before .before .before .before .before .before .before .args in
-    let given = handed (x .words .now) (x .first) (x .rows) (x .marks .now) (x .opened .now) (x .closed .now) (x .variables) in
+    let given = handed (x .words .now) (x .first) (x .rows) (x .marks .now) (x .came .now) (x .goes .now) (x .variables) in
     let l = c .before .before .before .before .before .before .loop in
     let visit = visit-now given (l .left) (l .end) (c .before .before .before .before .before .loop-test .taken) (l .inv .0) in
     omega (arith, visit .some, visit .within, c .before .before .before .before .before .before .before .before .before .before .before .before .pre .1 .0)
@@ -123,7 +123,7 @@ shared-slice-read-backward-row-2 c =
 add-backward-row-3 : tie.Need-add-backward-row-3 Inv-loop μ-loop
 add-backward-row-3 c =
     let x = c .before .before .before .before .before .before .before .before .before .before .before .before .args in
-    let given = handed (x .words .now) (x .first) (x .rows) (x .marks .now) (x .opened .now) (x .closed .now) (x .variables) in
+    let given = handed (x .words .now) (x .first) (x .rows) (x .marks .now) (x .came .now) (x .goes .now) (x .variables) in
     let l = c .before .before .before .before .before .before .loop in
     let visit = visit-now given (l .left) (l .end) (c .before .before .before .before .before .loop-test .taken) (l .inv .0) in
     omega (arith, visit .some, visit .within, c .before .before .before .before .before .before .before .before .before .before .before .before .pre .1 .0)
@@ -131,7 +131,7 @@ add-backward-row-3 c =
 mul-backward-row-3 : tie.Need-mul-backward-row-3 Inv-loop μ-loop
 mul-backward-row-3 c =
     let x = c .before .before .before .before .before .before .before .before .before .before .before .before .args in
-    let given = handed (x .words .now) (x .first) (x .rows) (x .marks .now) (x .opened .now) (x .closed .now) (x .variables) in
+    let given = handed (x .words .now) (x .first) (x .rows) (x .marks .now) (x .came .now) (x .goes .now) (x .variables) in
     let l = c .before .before .before .before .before .before .loop in
     let visit = visit-now given (l .left) (l .end) (c .before .before .before .before .before .loop-test .taken) (l .inv .0) in
     omega (arith, visit .some, visit .within, c .before .before .before .before .before .before .before .before .before .before .before .before .pre .1 .0)
@@ -139,7 +139,7 @@ mul-backward-row-3 c =
 shared-slice-read-backward-row-3 : tie.Need-shared-slice-read-backward-row-3 Inv-loop μ-loop
 shared-slice-read-backward-row-3 c =
     let x = c .before .before .before .before .before .before .before .before .before .before .before .before .before .args in
-    let given = handed (x .words .now) (x .first) (x .rows) (x .marks .now) (x .opened .now) (x .closed .now) (x .variables) in
+    let given = handed (x .words .now) (x .first) (x .rows) (x .marks .now) (x .came .now) (x .goes .now) (x .variables) in
     let l = c .before .before .before .before .before .before .before .loop in
     let visit = visit-now given (l .left) (l .end) (c .before .before .before .before .before .before .loop-test .taken) (l .inv .0) in
     omega (arith, visit .some, visit .within, c .before .before .before .before .before .before .before .before .before .before .before .before .before .pre .1 .0)
@@ -147,7 +147,7 @@ shared-slice-read-backward-row-3 c =
 shared-slice-read-backward-row-4 : tie.Need-shared-slice-read-backward-row-4 Inv-loop μ-loop
 shared-slice-read-backward-row-4 c =
     let x = c .before .before .before .before .before .before .before .before .before .before .before .before .before .before .args in
-    let given = handed (x .words .now) (x .first) (x .rows) (x .marks .now) (x .opened .now) (x .closed .now) (x .variables) in
+    let given = handed (x .words .now) (x .first) (x .rows) (x .marks .now) (x .came .now) (x .goes .now) (x .variables) in
     let l = c .before .before .before .before .before .before .before .before .loop in
     let visit = visit-now given (l .left) (l .end) (c .before .before .before .before .before .before .before .loop-test .taken) (l .inv .0) in
     omega (arith, visit .some, visit .within, c .before .before .before .before .before .before .before .before .before .before .before .before .before .before .pre .1 .0)
@@ -156,7 +156,7 @@ backward-row-requires : tie.Need-backward-row-requires Inv-loop μ-loop
 unfolding rowAt
 backward-row-requires c κs =
     let x = c .before .before .before .before .before .before .before .before .before .before .before .before .before .before .args in
-    let given = handed (x .words .now) (x .first) (x .rows) (x .marks .now) (x .opened .now) (x .closed .now) (x .variables) in
+    let given = handed (x .words .now) (x .first) (x .rows) (x .marks .now) (x .came .now) (x .goes .now) (x .variables) in
     let l = c .before .before .before .before .before .before .before .before .loop in
     let visit = visit-now given (l .left) (l .end) (c .before .before .before .before .before .before .before .loop-test .taken) (l .inv .0) in
     let left = backward-next given (l .left) (l .end) (c .before .before .before .before .before .before .before .loop-test .taken) in
@@ -168,11 +168,11 @@ step-back-requires : tie.Need-step-back-requires Inv-loop μ-loop
 unfolding rowAt
 step-back-requires c κs =
     let x = c .before .before .before .before .before .before .before .before .before .before .before .before .before .before .before .before .before .args in
-    let given = handed (x .words .now) (x .first) (x .rows) (x .marks .now) (x .opened .now) (x .closed .now) (x .variables) in
+    let given = handed (x .words .now) (x .first) (x .rows) (x .marks .now) (x .came .now) (x .goes .now) (x .variables) in
     let l = c .before .before .before .before .before .before .before .before .before .before .before .loop in
     let visit = visit-now given (l .left) (l .end) (c .before .before .before .before .before .before .before .before .before .before .loop-test .taken) (l .inv .0) in
-    let splits : l .end - 1 < length (x .opened .now) = omega (arith, visit .some, visit .within, c .before .before .before .before .before .before .before .before .before .before .before .before .before .before .before .before .before .pre .1 .1 .splits) in
-    let ends : l .end - 1 < length (x .closed .now) = omega (arith, visit .some, visit .within, c .before .before .before .before .before .before .before .before .before .before .before .before .before .before .before .before .before .pre .1 .1 .ends) in
+    let splits : l .end - 1 < length (x .came .now) = omega (arith, visit .some, visit .within, c .before .before .before .before .before .before .before .before .before .before .before .before .before .before .before .before .before .pre .1 .1 .splits) in
+    let ends : l .end - 1 < length (x .goes .now) = omega (arith, visit .some, visit .within, c .before .before .before .before .before .before .before .before .before .before .before .before .before .before .before .before .before .pre .1 .1 .ends) in
     ((splits, ends), λ if-row. omega (arith, visit .branch if-row, c .before .before .before .before .before .before .before .before .before .before .before .before .before .before .before .before .before .pre .1 .1 .ends))
 
 sub-left : tie.Need-sub-left Inv-loop μ-loop
@@ -185,7 +185,7 @@ loop-again : tie.Need-loop-again Inv-loop μ-loop
 unfolding rowAt
 loop-again c =
     let x = c .before .before .before .before .before .before .before .before .before .before .before .before .before .before .before .before .before .before .args in
-    let given = handed (x .words .now) (x .first) (x .rows) (x .marks .now) (x .opened .now) (x .closed .now) (x .variables) in
+    let given = handed (x .words .now) (x .first) (x .rows) (x .marks .now) (x .came .now) (x .goes .now) (x .variables) in
     let l = c .before .before .before .before .before .before .before .before .before .before .before .before .loop in
     let left = backward-next given (l .left) (l .end) (c .before .before .before .before .before .before .before .before .before .before .before .loop-test .taken) in
     rw (c .step-back .ensures) (
@@ -199,7 +199,7 @@ same-length c = underway-length (c .before .loop .inv .1)
 returns : tie.Need-returns Inv-loop μ-loop
 returns c =
     let x = c .before .before .before .before .before .before .before .args in
-    let given = handed (x .words .now) (x .first) (x .rows) (x .marks .now) (x .opened .now) (x .closed .now) (x .variables) in
+    let given = handed (x .words .now) (x .first) (x .rows) (x .marks .now) (x .came .now) (x .goes .now) (x .variables) in
     let l = c .before .loop in
     underway-end (l .inv .1) (backward-none given (l .left) (l .end) (c .loop-test .left))
 

@@ -23,7 +23,7 @@ shared-slice-read-result : tie.Need-shared-slice-read-result
 shared-slice-read-result c = c .before .before .before .pre .1 (c .before .before .if1 .taken)
 
 cast-result : tie.Need-cast-result
-cast-result c = omega (arith, c .shared-slice-known2 .given (getD (c .before .before .before .args .closed .now) (c .before .before .before .args .q) 0))
+cast-result c = omega (arith, c .shared-slice-known2 .given (getD (c .before .before .before .args .goes .now) (c .before .before .before .args .q) 0))
 
 returns : tie.Need-returns
 unfolding stepBack

@@ -15,7 +15,7 @@ forward-part-requires : tie.Need-forward-part-requires
 unfolding wholeRows
 forward-part-requires c κs =
     let x = c .before .before .before .before .before .before .args in
-    let given = handed (x .words .now) (x .first) (x .rows) (x .marks .now) (x .opened .now) (x .closed .now) (x .variables) in
+    let given = handed (x .words .now) (x .first) (x .rows) (x .marks .now) (x .came .now) (x .goes .now) (x .variables) in
     let room : Room (set (x .table .now) 0 (x .count)) 1 (wholeRows given) =
     record { fits = omega (arith, c .before .before .before .before .before .before .pre .0 .fits, length-set (x .table .now) 0 (x .count)) } in
     (room-first _ _ room, c .before .before .before .before .before .before .pre .1 .0)
@@ -24,7 +24,7 @@ put-requires : tie.Need-put-requires
 unfolding wholeRows
 put-requires c κs =
     let x = c .before .before .before .before .before .before .before .before .before .before .args in
-    let given = handed (x .words .now) (x .first) (x .rows) (x .marks .now) (x .opened .now) (x .closed .now) (x .variables) in
+    let given = handed (x .words .now) (x .first) (x .rows) (x .marks .now) (x .came .now) (x .goes .now) (x .variables) in
     let room : Room (set (x .table .now) 0 (x .count)) 1 (wholeRows given) =
     record { fits = omega (arith, c .before .before .before .before .before .before .before .before .before .before .pre .0 .fits, length-set (x .table .now) 0 (x .count)) } in
     room-first _ _ (room-after _ (c .before .before .before .forward-part .ensures) room)
@@ -33,7 +33,7 @@ backward-part-requires : tie.Need-backward-part-requires
 unfolding wholeRows
 backward-part-requires c κs =
     let x = c .before .before .before .before .before .before .before .before .before .before .before .before .before .before .args in
-    let given = handed (x .words .now) (x .first) (x .rows) (x .marks .now) (x .opened .now) (x .closed .now) (x .variables) in
+    let given = handed (x .words .now) (x .first) (x .rows) (x .marks .now) (x .came .now) (x .goes .now) (x .variables) in
     let room : Room (set (x .table .now) 0 (x .count)) 1 (wholeRows given) =
     record { fits = omega (arith, c .before .before .before .before .before .before .before .before .before .before .before .before .before .before .pre .0 .fits, length-set (x .table .now) 0 (x .count)) } in
     (room-after _ (c .before .before .before .put .ensures) (room-after _ (c .before .before .before .before .before .before .before .forward-part .ensures) room), (c .before .before .before .before .before .before .before .before .before .before .before .before .before .before .pre .1 .0, c .before .before .before .before .before .before .before .before .before .before .before .before .before .before .pre .1 .1))
