@@ -23,7 +23,7 @@ byte-of true = (refl, omega arith)
 byte-of false = (refl, omega arith)
 
 pub bytes-of : (x y z w : Bool) (known : Activity) (saved : Bool) → x ≡ known .variedA → y ≡ known .variedB → z ≡ known .active → w ≡ saved
-    → boolByte x + 2 * boolByte y + 4 * boolByte z + 8 * boolByte w ≡ byteBy known saved
+    → 1 * boolByte x + 2 * boolByte y + 4 * boolByte z + 8 * boolByte w ≡ byteBy known saved
 bytes-of x y z w known saved a b c d =
     omega (arith, byte-of x .0, byte-of y .0, byte-of z .0, byte-of w .0, ap bit a, ap bit b, ap bit c, ap bit d)
 

@@ -3,9 +3,9 @@ use Prim.Native.Nat.{ℕ, suc, _+_, _*_, _-_, _≤_, _<_}
 use native.Mathlib.Omega.{arith}
 use mathlib.Core.Path.{_≡_, refl, sym, ap, _∙_}
 use mathlib.Core.List.{List}
-use lib.ListN.{length, getD}
+use lib.ListN.{length}
 use Rattle.sheet.specs.Bounds.{limit}
-use Rattle.sheet.specs.Rows.{SheetLine, sheetRowOf}
+use Rattle.sheet.specs.Rows.{SheetLine, Row, sheetRowOf}
 use Rattle.sheet.specs.Reading.{rowAt}
 use Rattle.sets.specs.Partners.{Found, FoundBy, foundAt, foundOver, PartnersFound}
 use Rattle.sets.specs.RowEquations.{lineIn, Readable}
@@ -57,7 +57,6 @@ module _ (line : ℕ → SheetLine) (n : ℕ) (came₀ goes₀ : List ℕ) where
       (ap (λ s. s .came) (found-none row here ∙ same), ap (λ s. s .goes) (found-none row here ∙ same))
 
 -- a row's kind, as the code reads it, is that of its line
-pub kind-read : (words : List ℕ) (first row kind : ℕ) → Readable words first row → kind ≡ getD words (first + row * limit .rowWords) 0
-    → sheetRowOf (lineIn words first row) .kind ≡ kind
-unfolding rowAt
-kind-read words first row kind r e = ap (λ x. x .kind) (r .says) ∙ sym e
+pub kind-read : (words : List ℕ) (first row : ℕ) (read : Row) → Readable words first row → read ≡ rowAt words (first + row * limit .rowWords)
+    → sheetRowOf (lineIn words first row) .kind ≡ read .kind
+kind-read words first row read r e = ap (λ x. x .kind) (r .says ∙ sym e)

@@ -132,7 +132,6 @@ module _ (words : List ℕ) (variables first count : ℕ) (laid : Laid words var
     settles which es e proper =
         record {
           readable = facts .readable;
-          firstSmall = facts .firstSmall;
           rowsSmall = facts .countSmall;
           variablesSmall = facts .variablesSmall;
           rolesThere = facts .rolesThere;

@@ -5,27 +5,18 @@ use mathlib.Core.Path.{_≡_, refl, sym, ap, subst, _∙_}
 use mathlib.Core.List.{List, [], _∷_, map}
 use lib.ListN.{length}
 use Rattle.sheet.specs.Bounds.{limit}
-use Rattle.sheet.specs.Tree.{Tree, done, one, fork, again, rows, flat, basic, ifLine, elseLine, endIf, repeat, endRepeat}
-use Rattle.sheet.specs.Rows.{Assignment, _≔_, copy, fixed, sum, difference, product, negation, less, Test, SheetLine, kindOf, sheetRowOf, treeRows}
+use Rattle.sheet.specs.Tree.{Tree, done, one, fork, again, rows, flat, basic, elseLine, endIf, endRepeat}
+use Rattle.sheet.specs.Rows.{Assignment, _≔_, copy, fixed, sum, difference, product, negation, less, Test, SheetLine, sheetRowOf, treeRows}
 use Rattle.sheet.specs.Names.{SourcePresent, AssignmentPresent, Present}
 use Rattle.sheet.specs.Reading.{rowAt, rowsAt}
+use Rattle.sheet.proofs.RowsBack as rows-back
 use Rattle.sheet.proofs.RowsCounted.{lines-counted}
-use Rattle.sets.specs.RowEquations.{lineOfRow, lineIn, Readable, Small}
+use Rattle.sets.specs.RowEquations.{lineBy, lineOfRow, lineIn, Readable, Small}
 use Rattle.sets.proofs.RowByRow.{LinesAt}
 
 line-back : (l : SheetLine) → lineOfRow (sheetRowOf l) ≡ l
-unfolding lineOfRow kindOf sheetRowOf
-line-back (basic (d ≔ copy a)) = refl
-line-back (basic (d ≔ fixed a)) = refl
-line-back (basic (d ≔ sum a b)) = refl
-line-back (basic (d ≔ difference a b)) = refl
-line-back (basic (d ≔ product a b)) = refl
-line-back (basic (d ≔ negation a)) = refl
-line-back (ifLine (less a b)) = refl
-line-back elseLine = refl
-line-back endIf = refl
-line-back (repeat m) = refl
-line-back endRepeat = refl
+unfolding lineOfRow
+line-back = rows-back.line-back lineBy (λ kind r. refl)
 
 -- ---- rows by number
 

@@ -153,7 +153,6 @@ seedIn which words v = places (hasRole which) (take v (drop 1 words))
 -- what the code needs to settle the sets
 pub record Settles (which : Which) (given : Given) (rows variables length : ℕ) : Type 0 where
   pub readable : AllReadable (given .words) (given .first) rows
-  pub firstSmall : given .first < 65536
   pub rowsSmall : rows < 65536
   pub variablesSmall : variables < 64
   pub rolesThere : variables < List·length (given .words)

@@ -14,7 +14,7 @@ use Rattle.sheet.specs.Tree.{Tree, done, one, fork, again, basic, ifLine
 use Rattle.sheet.specs.Rows.{Assignment, Test, SheetLine, Row, Kind, kindOf, wordsFit}
 use Rattle.sheet.specs.LongestRun.{longestRun}
 use Rattle.sheet.specs.Reading.{Item, row, branches, repeated, Block, inFirst, inSecond, inRepeat, closed, Progress, unless, lineBy, lineOf, entered, splitAt, ifEndedAt, repeatEndedAt, taken}
-use Rattle.sheet.specs.Steps.{partOf, saturated, enterOf, splitOf, ifEndOf, repeatEndOf, stepOf}
+use Rattle.sheet.specs.Steps.{partOf, saturated, enterOf, splitOf, ifEndOf, repeatEndOf, stepOf, stepOr}
 use Rattle.sheet.specs.declared.Open.{Open}
 use Rattle.sheet.specs.declared.Open.the-variants as block
 use Rattle.sheet.specs.declared.Level.{Level}
@@ -173,7 +173,7 @@ module _ (place : ℕ) (levels : List Level) where
     FollowedBy = Follows place (length blocks) levels (levelOf blocks items)
 
     line-follows : (line : SheetLine)
-        → FollowedBy (stepOf (partOf (given line)) (length blocks) (levelOf blocks items) (outerLevel blocks)) (taken line place blocks items)
+        → FollowedBy (stepOr (partOf (given line)) (length blocks) (levelOf blocks items) (outerLevel blocks)) (taken line place blocks items)
     unfolding stepOf taken
     line-follows (basic b) =
         record {
@@ -190,7 +190,7 @@ module _ (place : ℕ) (levels : List Level) where
     line-follows endRepeat = repeat-ended-follows blocks items stands
 
     by-line : (answer : Answer SheetLine) → ((r : Refusal) → answer ≡ refused r → r ≡ badRow place)
-        → FollowedBy (stepOf (partOf answer) (length blocks) (levelOf blocks items) (outerLevel blocks))
+        → FollowedBy (stepOr (partOf answer) (length blocks) (levelOf blocks items) (outerLevel blocks))
         (answer >>= λ line. taken line place blocks items)
     unfolding stepOf
     by-line (refused r) only = ap refused (only r refl)
@@ -208,7 +208,7 @@ row-refused v k (some kind) r place why e = only-refusal (wordsFit v k kind r) (
 
 pub row-follows : (v k place : ℕ) (levels : List Level) (blocks : List Block) (items : List Item) → Stand levels blocks → (r : Row)
     → Follows place (length blocks) levels (levelOf blocks items)
-    (stepOf (partOf (lineOf v k r place)) (length blocks) (levelOf blocks items) (getD levels (length blocks) bottom))
+    (stepOr (partOf (lineOf v k r place)) (length blocks) (levelOf blocks items) (getD levels (length blocks) bottom))
     (lineOf v k r place >>= λ line. taken line place blocks items)
 unfolding lineOf
 row-follows v k place levels blocks items stands r =

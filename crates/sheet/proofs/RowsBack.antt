@@ -11,30 +11,31 @@ use Rattle.sheet.specs.Rows.{_≔_, copy, fixed, sum, difference, produc
 
 -- ---- from a line to its row and back
 
--- the line of a row, whatever its words
-abbrev lineIn : Option Kind → Row → Option SheetLine
-lineIn none r = none
-lineIn (some kind) r = some (kind .means (r .d) (r .a) (r .b))
-
-abbrev lineBack : Row → Option SheetLine
-lineBack r = lineIn (kindOf (r .kind)) r
-
-line-back : (l : SheetLine) → lineBack (sheetRowOf l) ≡ some l
+-- reading a row as its kind means it gets back the line that the row was made of
+pub line-back : (by : Option Kind → Row → SheetLine) → ((kind : Kind) (r : Row) → by (some kind) r ≡ kind .means (r .d) (r .a) (r .b))
+    → (l : SheetLine) → by (kindOf (sheetRowOf l .kind)) (sheetRowOf l) ≡ l
 unfolding kindOf sheetRowOf
-line-back (basic (d ≔ copy a)) = refl
-line-back (basic (d ≔ fixed a)) = refl
-line-back (basic (d ≔ sum a b)) = refl
-line-back (basic (d ≔ difference a b)) = refl
-line-back (basic (d ≔ product a b)) = refl
-line-back (basic (d ≔ negation a)) = refl
-line-back (ifLine (less a b)) = refl
-line-back elseLine = refl
-line-back endIf = refl
-line-back (repeat m) = refl
-line-back endRepeat = refl
+line-back by means (basic (d ≔ copy a)) = means _ _
+line-back by means (basic (d ≔ fixed a)) = means _ _
+line-back by means (basic (d ≔ sum a b)) = means _ _
+line-back by means (basic (d ≔ difference a b)) = means _ _
+line-back by means (basic (d ≔ product a b)) = means _ _
+line-back by means (basic (d ≔ negation a)) = means _ _
+line-back by means (ifLine (less a b)) = means _ _
+line-back by means elseLine = means _ _
+line-back by means endIf = means _ _
+line-back by means (repeat m) = means _ _
+line-back by means endRepeat = means _ _
+
+-- the line of a row, whatever its words; of a row of no kind, another
+abbrev lineOr : SheetLine → Option Kind → Row → SheetLine
+lineOr other none r = other
+lineOr other (some kind) r = kind .means (r .d) (r .a) (r .b)
 
 pub only-line : (l l′ : SheetLine) → sheetRowOf l ≡ sheetRowOf l′ → l ≡ l′
-only-line l l′ e = cc (line-back l, line-back l′, ap lineBack e)
+only-line l l′ e =
+    let back = line-back (lineOr l) (λ kind r. refl) in
+    cc (back l, back l′, ap (λ r. lineOr l (kindOf (r .kind)) r) e)
 
 pub only-lines : (ls ls′ : List SheetLine) → map sheetRowOf ls ≡ map sheetRowOf ls′ → ls ≡ ls′
 only-lines [] [] e = refl

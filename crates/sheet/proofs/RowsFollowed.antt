@@ -1,6 +1,7 @@
 -- The rows from a place on, after what has been read: one row more keeps what they come to, and how they end.
 use Prim.Native.Nat.{ℕ, zero, suc, _+_, _*_, _-_, _≤_, _<_}
 use mathlib.Core.Path.{_≡_, refl, sym, _∙_}
+use mathlib.Core.Bool.{Bool, true, false}
 use mathlib.Core.List.{List, [], _∷_}
 use lib.ListN.{length, getD}
 use native.Mathlib.Omega.{arith}
@@ -10,7 +11,7 @@ use Rattle.sheet.specs.Refusals.{Refusal, Answer, refused, given, _>>=_,
 use Rattle.sheet.specs.Rows.{SheetLine, Row}
 use Rattle.sheet.specs.LongestRun.{longestRun}
 use Rattle.sheet.specs.Reading.{Item, Block, Progress, closed, rowAt, rowsAt, lineOf, taken, bodyOf}
-use Rattle.sheet.specs.Steps.{partOf, saturated, stepOf, bodyRun}
+use Rattle.sheet.specs.Steps.{partOf, partIf, saturated, stepOf, stepOr, judgedBy, bodyRun}
 use Rattle.sheet.specs.declared.Part.{Part}
 use Rattle.sheet.specs.declared.Level.{Level}
 use Rattle.sheet.specs.declared.Step.{Step}
@@ -19,6 +20,11 @@ use Rattle.sheet.proofs.Levels.{levelOf, bottom, Stand, Next, Follows, 
 bind-assoc : {A B C : Type 0} (m : Answer A) (f : A → Answer B) (g : B → Answer C) → ((m >>= f) >>= g) ≡ (m >>= λ a. (f a >>= g))
 bind-assoc (refused r) f g = refl
 bind-assoc (given a) f g = refl
+
+judged-step : (fit : Bool) (part : Part) (depth : ℕ) (inner outer : Level)
+    → judgedBy fit (stepOf part depth inner outer) ≡ stepOr (partIf fit part) depth inner outer
+judged-step true part depth inner outer = refl
+judged-step false part depth inner outer = refl
 
 module _ (v k : ℕ) where
   -- the answer of one row
@@ -101,10 +107,10 @@ module _ (words : List ℕ) (first count v k : ℕ) where
     abbrev rowHere : Answer Progress
     rowHere = rowTaken v k (rowAt words place) place (going .blocks) (going .items)
 
-    pub step-follows : (part : Part) (outer : Level) (s : Step) → part ≡ partOf (lineOf v k (rowAt words place) place)
-        → outer ≡ getD levels depth bottom → s ≡ stepOf part depth inner outer → Follows place depth levels inner s rowHere
-    step-follows part outer s isPart isOuter is =
-        rw (is, isPart, isOuter, going .here, ← going .deep)
+    pub step-follows : (fit : Bool) (part : Part) (outer : Level) (s : Step) → partOf (lineOf v k (rowAt words place) place) ≡ partIf fit part
+        → outer ≡ getD levels depth bottom → s ≡ judgedBy fit (stepOf part depth inner outer) → Follows place depth levels inner s rowHere
+    step-follows fit part outer s isPart isOuter is =
+        rw (is, judged-step fit part depth inner outer, ← isPart, isOuter, going .here, ← going .deep)
         (row-follows v k place levels (going .blocks) (going .items) (going .stands) (rowAt words place))
 
     from-here : whole ≡ (rowHere >>= restRun v k (rowsAt words (place + limit .rowWords) (left - 1)) place)

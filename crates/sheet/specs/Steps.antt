@@ -3,6 +3,7 @@
 use Prim.Native.Nat.{ℕ, suc, _+_, _*_, min, max}
 use mathlib.Core.Bool.{Bool, true, false, _&&_}
 use mathlib.Core.List.{List, map}
+use mathlib.Core.Option.{Option, none, some}
 use lib.ListN.{length}
 use lib.Dec.{leb, ltb, eqb}
 use Rattle.sheet.specs.Bounds.{limit}
@@ -84,17 +85,17 @@ formFits v k form d a b = fitsSlot v k (form .d) d && fitsSlot v k (form .a) a &
 
 -- ---- a row as the blocks see it
 
--- by its line, or refused
-abbrev pub partOf : Answer SheetLine → Part
-partOf (refused r) = part.Wrong
-partOf (given (basic b)) = part.Assignment
-partOf (given (ifLine f)) = part.If
-partOf (given elseLine) = part.Else
-partOf (given endIf) = part.EndIf
-partOf (given (repeat m)) = part.Repeat (suc m)
-partOf (given endRepeat) = part.EndRepeat
+-- by its line, unless that is refused
+abbrev pub partOf : Answer SheetLine → Option Part
+partOf (refused r) = none
+partOf (given (basic b)) = some part.Assignment
+partOf (given (ifLine f)) = some part.If
+partOf (given elseLine) = some part.Else
+partOf (given endIf) = some part.EndIf
+partOf (given (repeat m)) = some (part.Repeat (suc m))
+partOf (given endRepeat) = some part.EndRepeat
 
--- the same of a row that fits, by its kind and its repeat count
+-- by its kind and its repeat count alone
 unfoldable pub partFor : (kind a : ℕ) → Part
 partFor kind a =
     pick (eqb kind 7) part.If
@@ -102,6 +103,11 @@ partFor kind a =
     (pick (eqb kind 9) part.EndIf
     (pick (eqb kind 10) (part.Repeat a)
     (pick (eqb kind 11) part.EndRepeat part.Assignment))))
+
+-- only of a row that fits
+abbrev pub partIf : Bool → Part → Option Part
+partIf true p = some p
+partIf false p = none
 
 -- ---- what a row does to the blocks that are open
 
@@ -136,13 +142,29 @@ repeatEndOf (block.Turns m) longest outer =
 
 unfoldable pub stepOf : Part → (depth : ℕ) → (inner outer : Level) → Step
 unfolding saturated enterOf splitOf ifEndOf repeatEndOf
-stepOf part.Wrong depth inner outer = step.BadRow
 stepOf part.Assignment depth inner outer = step.Stay (record { block = inner .block; longest = saturated (inner .longest + 1) })
 stepOf part.If depth inner outer = enterOf depth block.First
 stepOf part.Else depth inner outer = splitOf (inner .block) (inner .longest)
 stepOf part.EndIf depth inner outer = ifEndOf (inner .block) (inner .longest) outer
 stepOf (part.Repeat m) depth inner outer = enterOf depth (block.Turns m)
 stepOf part.EndRepeat depth inner outer = repeatEndOf (inner .block) (inner .longest) outer
+
+-- the same of a row that may be refused
+abbrev pub stepOr : Option Part → (depth : ℕ) → (inner outer : Level) → Step
+stepOr none depth inner outer = step.BadRow
+stepOr (some p) depth inner outer = stepOf p depth inner outer
+
+abbrev pub breaksBlock : Step → Bool
+breaksBlock step.BadRow = false
+breaksBlock step.BadBlock = true
+breaksBlock (step.Stay l) = false
+breaksBlock (step.Enter l) = false
+breaksBlock (step.Leave l) = false
+
+-- "At a row 5 comes before 6": what a row does to the blocks counts only once the row fits
+abbrev pub judgedBy : Bool → Step → Step
+judgedBy true s = s
+judgedBy false s = step.BadRow
 
 -- ---- all rows
 

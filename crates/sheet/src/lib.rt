@@ -8,7 +8,7 @@ ghost use Rattle.sheet.specs.Bounds.{limit};
 ghost use Rattle.sheet.specs.Rows.{kinds, isIndependent, isDependent};
 ghost use Rattle.sheet.specs.Reading.{countAt, rolesFit, rowAt, lineOf, rowsAt};
 ghost use Rattle.sheet.specs.Answers.{said, shapeRead, rowSaid};
-ghost use Rattle.sheet.specs.Steps.{countSaid, rolesSaid, fitsSlot, forms, noForm, formFits, partFor, partOf, saturated, enterOf, splitOf, ifEndOf, repeatEndOf, stepOf, bodySaid, bodyRun, finishOf};
+ghost use Rattle.sheet.specs.Steps.{countSaid, rolesSaid, fitsSlot, forms, noForm, formFits, partFor, partOf, partIf, saturated, enterOf, splitOf, ifEndOf, repeatEndOf, stepOf, breaksBlock, judgedBy, bodySaid, bodyRun, finishOf};
 
 // Every bound on a sheet, once. They are the fields of `limit` in specs/Bounds.antt.
 pub const MAX_VARIABLES: usize = 32;
@@ -122,7 +122,6 @@ struct Form {
 
 // A row as the blocks see it.
 enum Part {
-    Wrong,
     Assignment,
     If,
     Else,
@@ -302,7 +301,7 @@ fn words_fit(form: Form, d: usize, a: usize, b: usize, variables: usize, constan
         & fits(third, b, variables, constants)
 }
 
-// What a row of a known kind is to the blocks.
+// What a row is to the blocks, by its kind alone: a row of no kind opens and closes none.
 fn part_for(kind: usize, a: u16) -> Part
     ensures { λ r. ⌜ r ≡ partFor kind a ⌝ }
 {
@@ -316,26 +315,30 @@ fn part_for(kind: usize, a: u16) -> Part
     }
 }
 
-// The row at a place.
-fn part_at(words: &[u16], place: usize, variables: usize, constants: usize) -> Part
+fn part_at(words: &[u16], place: usize) -> Part
     requires { ⌜ place + limit .rowWords ≤ length (now words) ⌝ }
-    ensures { λ r. ⌜ r ≡ partOf (lineOf variables constants (rowAt (now (words .entry)) place) place) ⌝ }
+    ensures { λ r. ⌜ r ≡ partFor (rowAt (now (words .entry)) place .kind) (rowAt (now (words .entry)) place .a) ⌝ }
+{
+    part_for(wide(words[place]), words[place + 2])
+}
+
+// Whether the row at a place is of a kind and each of its words fits.
+fn row_fits(words: &[u16], place: usize, variables: usize, constants: usize) -> bool
+    requires { ⌜ place + limit .rowWords ≤ length (now words) ⌝ }
+    ensures { λ r. ⌜ partOf (lineOf variables constants (rowAt (now (words .entry)) place) place)
+        ≡ partIf r (partFor (rowAt (now (words .entry)) place .kind) (rowAt (now (words .entry)) place .a)) ⌝ }
 {
     let kind = wide(words[place]);
     if kind < 1 {
-        return Part::Wrong;
+        return false;
     }
     if KINDS < kind {
-        return Part::Wrong;
+        return false;
     }
     let d = wide(words[place + 1]);
-    let turns = words[place + 2];
-    let a = wide(turns);
+    let a = wide(words[place + 2]);
     let b = wide(words[place + 3]);
-    if words_fit(form_of(kind), d, a, b, variables, constants) {
-        return part_for(kind, turns);
-    }
-    Part::Wrong
+    words_fit(form_of(kind), d, a, b, variables, constants)
 }
 
 // W, or one above its bound: eight nested repeats of 1000 go beyond any integer.
@@ -424,7 +427,6 @@ fn follow(part: Part, depth: usize, inner: Level, outer: Level) -> Step
     let block = inner.block;
     let longest = inner.longest;
     match part {
-        Part::Wrong => Step::BadRow,
         Part::Assignment => Step::Stay(Level {
             block,
             longest: capped(wide(longest) + 1),
@@ -437,7 +439,33 @@ fn follow(part: Part, depth: usize, inner: Level, outer: Level) -> Step
     }
 }
 
-// The rows, each judged before it is followed: the W of what they are.
+fn breaks_block(step: Step) -> bool
+    ensures { λ r. ⌜ r ≡ breaksBlock step ⌝ }
+{
+    match step {
+        Step::BadRow => false,
+        Step::BadBlock => true,
+        Step::Stay(_) => false,
+        Step::Enter(_) => false,
+        Step::Leave(_) => false,
+    }
+}
+
+// A row's two refusals in their order: 5 comes before 6.
+fn judged(fit: bool, step: Step) -> Step
+    ensures { λ r. ⌜ r ≡ judgedBy fit step ⌝ }
+{
+    let broken = breaks_block(step);
+    if !fit {
+        return Step::BadRow;
+    }
+    if broken {
+        return Step::BadBlock;
+    }
+    step
+}
+
+// The rows, each judged as it is followed: the W of what they are.
 fn rows_read(words: &[u16], first: usize, count: usize, variables: usize, constants: usize) -> Body
     requires { ⌜ first + count * limit .rowWords ≤ length (now words) ⌝ }
     ensures { λ r. ⌜ bodySaid r ≡ bodyRun variables constants (rowsAt (now (words .entry)) first count) first [] [] ⌝ }
@@ -449,9 +477,10 @@ fn rows_read(words: &[u16], first: usize, count: usize, variables: usize, consta
     let mut place = first;
     let mut left = count;
     while 0 < left {
-        let part = part_at(words, place, variables, constants);
+        let fit = row_fits(words, place, variables, constants);
+        let part = part_at(words, place);
         let outer = levels[depth];
-        let step = follow(part, depth, inner, outer);
+        let step = judged(fit, follow(part, depth, inner, outer));
         let next = place + ROW_WORDS;
         let fewer = left - 1;
         match step {

@@ -10,51 +10,80 @@ use Rattle.sets.proofs.SheetMarked.{facts, partners-right, settles-vari
 use Rattle.sets.proofs.mark.Statement.{statement}
 use Rattle.sets.proofs.mark.Tie as tie
 
--- what was handed over, and the partners that were found
+-- ---- from each call back to the one before it
+
+abbrev atStart : tie.After-find-partners → tie.Start
+atStart c = c .before .before .before .before .before .before .before .before .before .before
+
+abbrev atPartners : tie.After-settle → tie.After-find-partners
+atPartners c = c .before .before .before .before .before .before .before .before
+
+abbrev atVaried : tie.After-settle2 → tie.After-settle
+atVaried c = c .before .before .before .before .before .before
+
+abbrev atUseful : tie.After-mark-rows → tie.After-settle2
+atUseful c = c .before .before .before .before .before .before .before
+
+abbrev atMarks : tie.After-settle3 → tie.After-mark-rows
+atMarks c = c .before .before .before .before .before .before
+
+abbrev atRequired : tie.After-mark-rows2 → tie.After-settle3
+atRequired c = c .before .before .before .before .before .before .before
+
+-- ---- what was handed over, and the partners that were found
+
 handed-over : (c : tie.Start) → let args = c .args in Laid (now (args .words)) (args .variables) (args .first) (args .rows)
 handed-over c = c .pre .0
 
-partners-are : (c : tie.After-find-partners) → let start = c .before .before .before .before .before .before .before .before .before .before in
-    CameFrom (c .find-partners .last .1 .1 .1 .0) (handed-over start .sheet .body) 0 × GoesTo (c .find-partners .last .1 .1 .1 .1 .0) (handed-over start .sheet .body) 0
+partners-are : (c : tie.After-find-partners) → let body = handed-over (atStart c) .sheet .body in
+    CameFrom (c .find-partners .last .1 .1 .0) body 0 × GoesTo (c .find-partners .last .1 .1 .1 .0) body 0
 partners-are c =
-    let start = c .before .before .before .before .before .before .before .before .before .before in
+    let start = atStart c in
     partners-right _ _ _ _ (handed-over start) _ _ _ _ (c .find-partners .ensures) (start .pre .1 .cameRoom) (start .pre .1 .goesRoom)
 
+-- ---- the needs
+
 find-partners-requires : tie.Need-find-partners-requires
-find-partners-requires c κs = let known = facts _ _ _ _ (handed-over (c .before .before .before .before .before .before .before .before .before)) in (known .readable, known .firstSmall, known .countSmall)
+find-partners-requires c κs = let known = facts _ _ _ _ (handed-over (c .before .before .before .before .before .before .before .before .before)) in (known .readable, known .countSmall)
 
 settle-requires : tie.Need-settle-requires
 settle-requires c κs =
-    let start = c .before .before .before .before .before .before .before .before .before .before .before .before .before .before .before .before .before in
-    settles-varied _ _ _ _ (handed-over start) _ _ _ (start .pre .1 .variedRoom) (partners-are (c .before .before .before .before .before .before .before) .0)
+    let found = c .before .before .before .before .before .before .before in
+    let start = atStart found in
+    settles-varied _ _ _ _ (handed-over start) _ _ _ (start .pre .1 .variedRoom) (partners-are found .0)
 
 settle-requires-2 : tie.Need-settle-requires-2
 settle-requires-2 c κs =
-    let start = c .before .before .before .before .before .before .before .before .before .before .before .before .before .before .before .before .before .before .before .before .before .before .before in
-    settles-useful _ _ _ _ (handed-over start) _ _ _ (start .pre .1 .usefulRoom) (partners-are (c .before .before .before .before .before .before .before .before .before .before .before .before .before) .1)
+    let found = atPartners (c .before .before .before .before .before) in
+    let start = atStart found in
+    settles-useful _ _ _ _ (handed-over start) _ _ _ (start .pre .1 .usefulRoom) (partners-are found .1)
 
 mark-rows-requires : tie.Need-mark-rows-requires
 mark-rows-requires c κs =
-    let start = c .before .before .before .before .before .before .before .before .before .before .before .before .before .before .before .before .before .before .before .before .before .before .before .before .before .before .before .before .before .before in
+    let start = atStart (atPartners (atVaried (c .before .before .before .before .before .before))) in
     let known = facts _ _ _ _ (handed-over start) in
-    (known .readable, known .firstSmall, known .countSmall, start .pre .1 .marksRoom)
+    (known .readable, known .countSmall, start .pre .1 .marksRoom)
 
 settle-requires-3 : tie.Need-settle-requires-3
 settle-requires-3 c κs =
-    let start = c .before .before .before .before .before .before .before .before .before .before .before .before .before .before .before .before .before .before .before .before .before .before .before .before .before .before .before .before .before .before .before .before .before .before .before .before in
-    settles-required _ _ _ _ (handed-over start) _ _ _ (start .pre .1 .requiredRoom) _ _ _ _ (start .pre .1 .marksRoom) (c .before .before .before .before .before .mark-rows .ensures) (partners-are (c .before .before .before .before .before .before .before .before .before .before .before .before .before .before .before .before .before .before .before .before .before .before .before .before .before .before) .0)
+    let marked = c .before .before .before .before .before in
+    let found = atPartners (atVaried (atUseful marked)) in
+    let start = atStart found in
+    settles-required _ _ _ _ (handed-over start) _ _ _ (start .pre .1 .requiredRoom) _ _ _ _ (start .pre .1 .marksRoom) (marked .mark-rows .ensures)
+    (partners-are found .0)
 
 mark-rows-requires-2 : tie.Need-mark-rows-requires-2
 mark-rows-requires-2 c κs =
-    let start = c .before .before .before .before .before .before .before .before .before .before .before .before .before .before .before .before .before .before .before .before .before .before .before .before .before .before .before .before .before .before .before .before .before .before .before .before .before .before .before .before .before .before .before in
+    let marked = atMarks (c .before .before .before .before .before .before) in
+    let start = atStart (atPartners (atVaried (atUseful marked))) in
     let known = facts _ _ _ _ (handed-over start) in
-    (known .readable, known .firstSmall, known .countSmall, rw (c .before .before .before .before .before .before .before .before .before .before .before .before .mark-rows .kept .1 .1 .1 .1 .1 .1 .0) (start .pre .1 .marksRoom))
+    (known .readable, known .countSmall, rw (marked .mark-rows .kept .1 .1 .1 .1 .1 .0) (start .pre .1 .marksRoom))
 
 same-length : tie.Need-same-length
-same-length c = c .before .before .before .before .before .before .before .before .before .before .before .before .before .before .before .before .before .before .before .before .before .before .before .before .before .before .before .before .before .before .before .before .before .before .before .before .find-partners .kept .1 .1 .1 .0
+same-length c = atPartners (atVaried (atUseful (atMarks (atRequired (c .before .before))))) .find-partners .kept .1 .1 .0
 
 same-length-2 : tie.Need-same-length-2
-same-length-2 c = c .before .before .before .before .before .before .before .before .before .before .before .before .before .before .before .before .before .before .before .before .before .before .before .before .before .before .before .before .before .before .before .before .before .before .before .before .find-partners .kept .1 .1 .1 .1 .0
+same-length-2 c = atPartners (atVaried (atUseful (atMarks (atRequired (c .before .before))))) .find-partners .kept .1 .1 .1 .0
 
 same-length-3 : tie.Need-same-length-3
 same-length-3 c = search needs
@@ -70,15 +99,19 @@ same-length-6 c = search needs
 
 returns : tie.Need-returns
 returns c =
-    let found = c .before .before .before .before .before .before .before .before .before .before .before .before .before .before .before .before .before .before .before .before .before .before .before .before .before .before .before .before .before .before .before .before .before .before .before .before in
-    let start = found .before .before .before .before .before .before .before .before .before .before in
+    let third = atRequired (c .before .before) in
+    let marked = atMarks third in
+    let second = atUseful marked in
+    let first = atVaried second in
+    let found = atPartners first in
+    let start = atStart found in
     let laid = handed-over start in
     let room = start .pre .1 in
     let right = partners-are found in
-    let vs = varied-settled _ _ _ _ laid _ _ _ (room .variedRoom) _ (right .0) (c .before .before .before .before .before .before .before .before .before .before .before .before .before .before .before .before .before .before .before .before .before .before .before .before .before .before .before .before .settle .ensures) in
-    let us = useful-settled _ _ _ _ laid _ _ _ (room .usefulRoom) _ (right .1) (c .before .before .before .before .before .before .before .before .before .before .before .before .before .before .before .before .before .before .before .before .before .before .settle2 .ensures) in
-    let first-marks = c .before .before .before .before .before .before .before .before .before .before .before .before .before .before .before .mark-rows .ensures in
-    let rs = required-settled _ _ _ _ laid _ _ _ (room .requiredRoom) _ _ _ _ (room .marksRoom) first-marks _ (right .0) vs us (c .before .before .before .before .before .before .before .before .before .settle3 .ensures) in (
+    let vs = varied-settled _ _ _ _ laid _ _ _ (room .variedRoom) _ (right .0) (first .settle .ensures) in
+    let us = useful-settled _ _ _ _ laid _ _ _ (room .usefulRoom) _ (right .1) (second .settle2 .ensures) in
+    let first-marks = marked .mark-rows .ensures in
+    let rs = required-settled _ _ _ _ laid _ _ _ (room .requiredRoom) _ _ _ _ (room .marksRoom) first-marks _ (right .0) vs us (third .settle3 .ensures) in (
       all-marked _ _ _ _ laid _ _ _ _ _ vs us rs
           (c .before .before .mark-rows2 .ensures ∙ ap (written _ _) first-marks ∙ written-over _ _ (start .args .rows) _),
       found .find-partners .ensures,

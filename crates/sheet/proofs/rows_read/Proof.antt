@@ -2,7 +2,7 @@
 -- what all rows do.
 use Prim.Native.Nat.{ℕ, suc, _+_, _-_, _≤_, _<_}
 use mathlib.Core.List.{List, []}
-use mathlib.Core.Path.{_≡_, refl, sym, _∙_}
+use mathlib.Core.Path.{_≡_, refl, sym, ap, _∙_}
 use lib.ListN.{length, length-set}
 use borrow.Author.Needs.{needs}
 use native.Mathlib.Numerals.{add-one}
@@ -10,7 +10,7 @@ use native.Mathlib.Omega.{arith}
 use Rattle.sheet.specs.Bounds.{limit}
 use Rattle.sheet.specs.Refusals.{Refusal, Answer, refused}
 use Rattle.sheet.specs.Reading.{Progress, rowAt, rowsAt}
-use Rattle.sheet.specs.Steps.{bodyRun}
+use Rattle.sheet.specs.Steps.{partIf, judgedBy, bodyRun}
 use Rattle.sheet.specs.declared.Step.the-variants as step
 use Rattle.sheet.specs.declared.Step.{Step}
 use Rattle.sheet.specs.declared.Level.{Level}
@@ -28,9 +28,9 @@ abbrev μ-loop : tie.MeasureT-loop
 
 -- ---- at a row that was followed
 
-module _ (c : tie.After-follow Inv-loop μ-loop) where
+module _ (c : tie.After-judged Inv-loop μ-loop) where
   abbrev head : tie.At-loop Inv-loop μ-loop
-  head = c .before .before .before .before
+  head = c .before .before .before .before .before .before
 
   abbrev words : List ℕ
   words = head .before .before .args .words .now
@@ -66,13 +66,16 @@ module _ (c : tie.After-follow Inv-loop μ-loop) where
   rowAnswer = rowTaken v k (rowAt words place) place (head .loop .inv .blocks) (head .loop .inv .items)
 
   abbrev some : 0 < left
-  some = c .before .before .before .loop-test .taken
+  some = c .before .before .before .before .before .loop-test .taken
 
   -- the step says what the row comes to
-  says : (s : Step) → c .follow .result ≡ s → Follows place depth levels inner s rowAnswer
+  says : (s : Step) → c .judged .result ≡ s → Follows place depth levels inner s rowAnswer
   says s e =
-      step-follows words first count v k levels depth inner place left (head .loop .inv) some (c .before .before .part-at .result) _ s
-      (c .before .before .part-at .ensures) refl (sym e ∙ c .follow .ensures)
+      let part = c .before .before .before .part-at in
+      let fit = c .before .before .before .before .row-fits in
+      step-follows words first count v k levels depth inner place left (head .loop .inv) some (fit .result) (part .result) _ s
+      (fit .ensures ∙ ap (partIf (fit .result)) (sym (part .ensures))) refl
+      (sym e ∙ c .judged .ensures ∙ ap (judgedBy (fit .result)) (c .before .follow .ensures))
 
   ends : (why : Refusal) → rowAnswer ≡ refused why → refused why ≡ bodyRun v k (rowsAt words first count) first [] []
   ends = row-ends words first count v k levels depth inner place left (head .loop .inv) some
@@ -86,17 +89,23 @@ module _ (c : tie.After-follow Inv-loop μ-loop) where
 loop-holds : tie.Need-loop-holds Inv-loop μ-loop
 loop-holds c = going-starts _ _ _ _ _ _ refl (omega arith)
 
+row-fits-requires : tie.Need-row-fits-requires Inv-loop μ-loop
+row-fits-requires c κs = omega (arith, c .before .loop .inv .there)
+
 part-at-requires : tie.Need-part-at-requires Inv-loop μ-loop
-part-at-requires c κs = omega (arith, c .before .loop .inv .there)
+part-at-requires c κs = omega (arith, c .before .before .loop .inv .there)
 
 mul-outer : tie.Need-mul-outer Inv-loop μ-loop
-mul-outer c = omega (arith, c .before .before .loop .inv .within)
+mul-outer c = omega (arith, c .before .before .before .loop .inv .within)
 
 array-copy-out-outer : tie.Need-array-copy-out-outer Inv-loop μ-loop
-array-copy-out-outer c = omega (arith, c .before .before .loop .inv .within)
+array-copy-out-outer c = omega (arith, c .before .before .before .loop .inv .within)
 
 follow-requires : tie.Need-follow-requires Inv-loop μ-loop
 follow-requires c κs = search needs
+
+judged-requires : tie.Need-judged-requires Inv-loop μ-loop
+judged-requires c κs = search needs
 
 add-next : tie.Need-add-next Inv-loop μ-loop
 add-next c = omega arith
@@ -181,10 +190,12 @@ rows-read-spec =
     Inv-loop
     μ-loop
     loop-holds
+    row-fits-requires
     part-at-requires
     mul-outer
     array-copy-out-outer
     follow-requires
+    judged-requires
     add-next
     sub-fewer
     enum-told

@@ -1,0 +1,67 @@
+-- `sets::marks::mark_rows` meets its contract: the loop's invariant: the bytes passed are written. The measure is what is left of the rows.
+use Prim.Native.Nat.{_-_, _≤_}
+use native.Mathlib.Omega.{arith}
+use mathlib.Core.Path.{_≡_, refl, sym, ap, _∙_}
+use denote.Ref.{now}
+use lib.ListN.{length}
+use Rattle.sets.specs.RowEquations.{lineIn}
+use Rattle.sets.specs.MarkBytes.{byteAt, written}
+use Rattle.sets.proofs.MarkByteLaws.{written-length, written-next}
+use Rattle.sets.proofs.marks.mark_rows.Statement.{statement}
+use Rattle.sets.proofs.marks.mark_rows.Tie as tie
+
+abbrev Inv-loop : tie.InvT-loop
+Inv-loop words extent varied useful required marks₀ rows number₀ marks number =
+    (number ≤ extent .rows) × (marks ≡ written (λ p. byteAt varied useful required p (lineIn words (extent .first) p)) number marks₀)
+
+abbrev μ-loop : tie.MeasureT-loop
+μ-loop words extent varied useful required marks₀ rows number₀ marks number = extent .rows - number
+
+marks-long : (c : tie.At-loop Inv-loop μ-loop) → length (c .loop .marks) ≡ length (now (c .before .before .before .before .before .before .args .marks))
+marks-long c = ap length (c .loop .inv .1) ∙ written-length _ (c .loop .number) _
+
+loop-holds : tie.Need-loop-holds Inv-loop μ-loop
+unfolding written
+loop-holds c = (omega arith, refl)
+
+byte-at-requires : tie.Need-byte-at-requires Inv-loop μ-loop
+byte-at-requires c κs =
+    let start = c .before .before .before .before .before .before .before in
+    (start .pre .0 _ (c .loop-test .taken), omega (arith, c .loop-test .taken, start .pre .1))
+
+slice-write-marks : tie.Need-slice-write-marks Inv-loop μ-loop
+slice-write-marks c = omega (arith, c .before .loop-test .taken, marks-long (c .before .before), c .before .before .before .before .before .before .before .before .pre .2)
+
+add-number : tie.Need-add-number Inv-loop μ-loop
+add-number c = omega (arith, c .before .loop-test .taken, c .before .before .before .before .before .before .before .before .pre .1)
+
+loop-less : tie.Need-loop-less Inv-loop μ-loop
+loop-less c = omega (arith, c .before .loop-test .taken)
+
+loop-again : tie.Need-loop-again Inv-loop μ-loop
+loop-again c =
+    let loop = c .before .before in
+    (omega (arith, c .before .loop-test .taken), rw (loop .loop .inv .1, c .byte-at .ensures) (written-next _ (loop .loop .number) _))
+
+same-length : tie.Need-same-length Inv-loop μ-loop
+same-length c = marks-long (c .before)
+
+returns : tie.Need-returns Inv-loop μ-loop
+returns c =
+    let all : c .before .loop .number ≡ c .before .before .before .before .before .before .before .args .extent .rows = omega (arith, c .loop-test .left, c .before .loop .inv .0) in
+    rw (sym all) (c .before .loop .inv .1)
+
+pub mark-rows-spec : {M : Type 1} → statement M
+mark-rows-spec =
+    tie.close
+    (tie.spec
+    Inv-loop
+    μ-loop
+    loop-holds
+    byte-at-requires
+    slice-write-marks
+    add-number
+    loop-less
+    loop-again
+    same-length
+    returns)

@@ -1,0 +1,23 @@
+-- `sets::transfers::recorded` meets its contract: required before, or in the row's own use.
+use borrow.Author.Needs.{needs}
+use Rattle.sets.specs.Transfers.{recordedBy}
+use Rattle.sets.proofs.RowWordLaws.{use-said}
+use Rattle.sets.proofs.transfers.recorded.Statement.{statement}
+use Rattle.sets.proofs.transfers.recorded.Tie as tie
+
+has-requires : tie.Need-has-requires
+has-requires c κs = search needs
+
+adjoint-use-requires : tie.Need-adjoint-use-requires
+adjoint-use-requires c κs = search needs
+
+has-requires-2 : tie.Need-has-requires-2
+has-requires-2 c κs = search needs
+
+returns : tie.Need-returns
+unfolding recordedBy
+returns c known knows source e =
+    rw (c .before .before .has .ensures, c .has2 .ensures, c .before .adjoint-use .ensures, use-said _ _ _ _ source known e, knows)
+
+pub recorded-spec : {M : Type 1} → statement M
+recorded-spec = tie.close (tie.spec has-requires adjoint-use-requires has-requires-2 returns)

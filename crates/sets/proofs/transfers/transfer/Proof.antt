@@ -1,0 +1,50 @@
+-- `sets::transfers::transfer` meets its contract: each set's own transfer.
+use borrow.Author.Needs.{needs}
+use mathlib.Core.Path.{refl}
+use Rattle.sets.specs.RowEquations.{turnOf}
+use Rattle.sets.proofs.transfers.transfer.Statement.{statement}
+use Rattle.sets.proofs.transfers.transfer.Tie as tie
+
+enum-told : tie.Need-enum-told
+enum-told c = search needs
+
+varied-after-requires : tie.Need-varied-after-requires
+varied-after-requires c κs = search needs
+
+enum-told-2 : tie.Need-enum-told-2
+enum-told-2 c = search needs
+
+useful-before-requires : tie.Need-useful-before-requires
+useful-before-requires c κs = search needs
+
+enum-told-3 : tie.Need-enum-told-3
+enum-told-3 c = search needs
+
+required-after-requires : tie.Need-required-after-requires
+required-after-requires c κs = search needs
+
+returns : tie.Need-returns
+unfolding turnOf
+returns c source e = rw (c .before .enum-told .given .1) (c .varied-after .ensures source e)
+
+returns-2 : tie.Need-returns-2
+unfolding turnOf
+returns-2 c source e = rw (c .before .enum-told2 .given .1) (c .useful-before .ensures source e)
+
+returns-3 : tie.Need-returns-3
+unfolding turnOf
+returns-3 c source e = rw (c .before .enum-told3 .given .1) (c .required-after .ensures _ refl source e)
+
+pub transfer-spec : {M : Type 1} → statement M
+transfer-spec =
+    tie.close
+    (tie.spec
+    enum-told
+    varied-after-requires
+    enum-told-2
+    useful-before-requires
+    enum-told-3
+    required-after-requires
+    returns
+    returns-2
+    returns-3)
