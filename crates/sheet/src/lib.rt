@@ -5,9 +5,10 @@ ghost use mathlib.Core.List.{[]};
 ghost use lib.ListN.{length, take, drop, getD};
 ghost use lib.Dec.{ltb};
 ghost use Rattle.sheet.specs.Bounds.{limit};
+ghost use Rattle.sheet.specs.Refusals.{numberOf, placeOf};
 ghost use Rattle.sheet.specs.Rows.{kinds, isIndependent, isDependent};
 ghost use Rattle.sheet.specs.Reading.{countAt, rolesFit, rowAt, lineOf, rowsAt};
-ghost use Rattle.sheet.specs.Answers.{said, shapeRead, rowSaid};
+ghost use Rattle.sheet.specs.Answers.{refusalOf, said, shapeRead, rowSaid};
 ghost use Rattle.sheet.specs.Steps.{countSaid, rolesSaid, fitsSlot, forms, noForm, formFits, partFor, partOf, partIf, saturated, enterOf, splitOf, ifEndOf, repeatEndOf, stepOf, breaksBlock, judgedBy, bodySaid, bodyRun, finishOf};
 
 // Every bound on a sheet, once. They are the fields of `limit` in specs/Bounds.antt.
@@ -556,6 +557,36 @@ pub fn read_sheet(words: &[u16]) -> Reading
         longest,
     };
     finish(shape, after, words.len())
+}
+
+// A refusal's number.
+pub fn number_of(why: No) -> u16
+    ensures { λ r. ⌜ r ≡ numberOf (refusalOf why) ⌝ }
+{
+    match why {
+        No::WordsEnd(_) => 1,
+        No::WordsLeft(_) => 2,
+        No::CountBeyond(_) => 3,
+        No::RoleAbove(_) => 4,
+        No::BadRow(_) => 5,
+        No::BadBlock(_) => 6,
+        No::TooLong => 7,
+    }
+}
+
+// A refusal's place.
+pub fn place_of(why: No) -> usize
+    ensures { λ r. ⌜ r ≡ placeOf (refusalOf why) ⌝ }
+{
+    match why {
+        No::WordsEnd(place) => place,
+        No::WordsLeft(place) => place,
+        No::CountBeyond(place) => place,
+        No::RoleAbove(place) => place,
+        No::BadRow(place) => place,
+        No::BadBlock(place) => place,
+        No::TooLong => 0,
+    }
 }
 
 // The word at a place, and 0 beyond the last.

@@ -13,3 +13,11 @@ pub mod WalkTree
 pub mod WholeTable
 pub mod RowCounts
 pub mod CountTree
+pub mod NeedRows
+pub mod NeedsTree
+pub mod RowsSmall
+pub mod SheetLaid
+pub mod NotedTree
+pub mod PlanLaws
+pub mod CallLaws
+pub mod CallsPinned

@@ -8,6 +8,7 @@ use Rattle.sheet.specs.Refusals.{Answer, refused, given, _>>=_, numberIn, place
 use Rattle.sheet.specs.Reading.{Sheet, variablesOf, read, unless}
 use Rattle.sheet.specs.LongestRun.{longestRun}
 use Rattle.sets.specs.Marks.{marked}
+use Rattle.table.specs.declared.Checked as declared
 use Rattle.table.specs.TableRows.{tableWords}
 use Rattle.table.specs.Adjoint.{tableOf}
 use Rattle.table.specs.Sizes.{tableRows, valuesNeeded, turnsNeeded}
@@ -43,6 +44,15 @@ pub record Checked : Type 0 where
 unfoldable pub check : List ℕ → Checked
 unfolding numberIn placeIn read sizesIn
 check words = let answer = read words in record { number = numberIn answer; place = placeIn answer; sizes = sizesIn answer }
+
+-- what the call's answer says
+abbrev pub checkedSaid : declared.Checked → Checked
+checkedSaid r =
+    record {
+      number = r .number;
+      place = r .place;
+      sizes = record { longest = r .longest; rows = r .rows; values = r .values; turns = r .turns };
+    }
 
 -- ---- write
 

@@ -3,4 +3,6 @@ pub mod TableRows
 pub mod Adjoint
 pub mod Sizes
 pub mod MarkedRows
+pub mod Needs
+pub mod Plans
 pub mod Calls

@@ -8,7 +8,7 @@ ghost use Rattle.table.specs.MarkedRows.{row4, Says, Readable, lineOfRow
 use super::kinds;
 use super::rows;
 
-fn one(given: bool) -> usize
+pub fn one(given: bool) -> usize
     ensures { λ r. ⌜ (r ≡ cond given 1 0) × (r ≤ 1) ⌝ }
 {
     if given {

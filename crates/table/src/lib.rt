@@ -1,5 +1,234 @@
-// The table writer: a sheet's rows and their marks in, the adjoint table's rows out.
+// The table writer: any words in; out come a sheet's sizes, or its adjoint table in a lent buffer, or the first refusal.
+ghost use mathlib.Core.Path.{_≡_};
+ghost use Prim.Native.Nat.{_≤_};
+ghost use lib.ListN.{length};
+ghost use Rattle.sheet.specs.Bounds.{limit};
+ghost use Rattle.sheet.specs.Refusals.{given};
+ghost use Rattle.sheet.specs.Reading.{Sheet, read};
+ghost use Rattle.sheet.specs.Answers.{shapeRead};
+ghost use Rattle.sets.specs.Laid.{Laid};
+ghost use Rattle.table.specs.TableRows.{tableWords};
+ghost use Rattle.table.specs.Adjoint.{tableOf};
+ghost use Rattle.table.specs.Calls.{tableRoom, overwritten, checkedSaid, check, Written, write};
+ghost use Rattle.table.specs.MarkedRows.{Readable};
+ghost use Rattle.table.specs.Needs.{needOver};
+ghost use Rattle.table.specs.Plans.{SheetNoted, PlanMade, PlanSays};
+
 mod count;
 mod kinds;
+mod needs;
 mod rows;
 mod sweep;
+
+// The numbers of an answer besides those of the reader's refusals.
+pub const DONE: u16 = 0;
+
+pub const SMALL_TABLE: u16 = 8;
+
+// A refusal's number and place, or 0 and 0.
+pub struct Answer {
+    pub number: u16,
+    pub place: usize,
+}
+
+// The same with W, R, S and T, all 0 when refused.
+pub struct Checked {
+    pub number: u16,
+    pub place: usize,
+    pub longest: usize,
+    pub rows: usize,
+    pub values: usize,
+    pub turns: usize,
+}
+
+// R, S and T besides the sheet's shape.
+pub struct Plan {
+    pub shape: sheet::Shape,
+    pub rows: usize,
+    pub values: usize,
+    pub turns: usize,
+}
+
+pub enum Planned {
+    Refused(sheet::No),
+    Made(Plan),
+}
+
+// Every row's marks and every block row's partners. The sets themselves are not kept.
+fn note(
+    words: &[u16],
+    variables: usize,
+    first: usize,
+    rows: usize,
+    marks: &mut [u8; sheet::MAX_ROWS],
+    came: &mut [u16; sheet::MAX_ROWS],
+    goes: &mut [u16; sheet::MAX_ROWS],
+)
+    requires { ⌜ Laid (now words) variables first rows ⌝ }
+    ensures { λ r. ⌜ ((sheet : Sheet) → read (now (words .entry)) ≡ given sheet → SheetNoted sheet (now (marks .exit)) (now (came .exit)) (now (goes .exit))) ⌝ }
+{
+    let mut varied = [0u64; sheet::MAX_ROWS + 1];
+    let mut useful = [0u64; sheet::MAX_ROWS + 1];
+    let mut required = [0u64; sheet::MAX_ROWS + 1];
+    let points = rows + 1;
+    sets::mark(
+        words,
+        variables,
+        first,
+        rows,
+        came,
+        goes,
+        &mut varied[..points],
+        &mut useful[..points],
+        &mut required[..points],
+        marks,
+    );
+}
+
+// S or T of rows that are noted.
+fn need_of(
+    stack: needs::Stack,
+    words: &[u16],
+    first: usize,
+    rows: usize,
+    marks: &[u8],
+    came: &[u16],
+    goes: &[u16],
+) -> usize
+    requires { ⌜ Readable (now words) first rows (now marks) ⌝ ∗ ⌜ rows ≤ limit .rows ⌝ ∗ ⌜ (rows ≤ length (now came)) × (rows ≤ length (now goes)) ⌝ }
+    ensures { λ r. ⌜ r ≡ needOver stack (now (words .entry)) first rows (now (marks .entry)) (now (came .entry)) (now (goes .entry)) ⌝ }
+{
+    let mut sums = [0u16; sheet::MAX_ROWS + 1];
+    needs::needed(stack, words, first, rows, marks, came, goes, &mut sums)
+}
+
+// The plan of an accepted sheet.
+fn plan_of(
+    words: &[u16],
+    shape: sheet::Shape,
+    marks: &mut [u8; sheet::MAX_ROWS],
+    came: &mut [u16; sheet::MAX_ROWS],
+    goes: &mut [u16; sheet::MAX_ROWS],
+) -> Plan
+    requires { ⌜ shapeRead (now words) ≡ given shape ⌝ }
+    ensures { λ r. ⌜ PlanMade (now (words .entry)) r (now (marks .exit)) (now (came .exit)) (now (goes .exit)) ⌝ }
+{
+    let variables = shape.variables;
+    let first = shape.first_row;
+    let rows = shape.rows;
+    note(words, variables, first, rows, marks, came, goes);
+    let count = count::table_rows(words, first, rows, marks);
+    let values = need_of(needs::Stack::Values, words, first, rows, marks, came, goes);
+    let turns = need_of(needs::Stack::Turns, words, first, rows, marks, came, goes);
+    Plan {
+        shape,
+        rows: count,
+        values,
+        turns,
+    }
+}
+
+// Any words: the first refusal of 1 to 7, or the plan of the sheet that they are, with every row's marks and partners.
+pub fn plan_sheet(
+    words: &[u16],
+    marks: &mut [u8; sheet::MAX_ROWS],
+    came: &mut [u16; sheet::MAX_ROWS],
+    goes: &mut [u16; sheet::MAX_ROWS],
+) -> Planned
+    ensures { λ r. ⌜ PlanSays (now (words .entry)) (now (marks .exit)) (now (came .exit)) (now (goes .exit)) r ⌝ }
+{
+    match sheet::read_sheet(words) {
+        sheet::Reading::Refused(why) => Planned::Refused(why),
+        sheet::Reading::Accepted(shape) => Planned::Made(plan_of(words, shape, marks, came, goes)),
+    }
+}
+
+// The table of a planned sheet into a buffer that has room for it.
+pub fn write_planned(
+    words: &[u16],
+    plan: Plan,
+    marks: &[u8; sheet::MAX_ROWS],
+    came: &[u16; sheet::MAX_ROWS],
+    goes: &[u16; sheet::MAX_ROWS],
+    table: &mut [u16],
+)
+    requires { ⌜ PlanSays (now words) (now marks) (now came) (now goes) (Planned.Made plan) ⌝ ∗ ⌜ tableRoom (plan .rows) ≤ length (now table) ⌝ }
+    ensures { λ r. ⌜ ((sheet : Sheet) → read (now (words .entry)) ≡ given sheet
+        → now (table .exit) ≡ overwritten (tableWords (tableOf sheet)) (now (table .entry))) ⌝ }
+{
+    let shape = plan.shape;
+    let variables = shape.variables as u16;
+    let count = plan.rows as u16;
+    let first = shape.first_row;
+    let rows = shape.rows;
+    sweep::write_table(
+        words,
+        first,
+        rows,
+        marks,
+        came,
+        goes,
+        variables,
+        count,
+        table,
+    );
+}
+
+// Any words: the first refusal of 1 to 7, or the sizes of the sheet that they are.
+pub fn check(words: &[u16]) -> Checked
+    ensures { λ r. ⌜ checkedSaid r ≡ check (now (words .entry)) ⌝ }
+{
+    let mut marks = [0u8; sheet::MAX_ROWS];
+    let mut came = [0u16; sheet::MAX_ROWS];
+    let mut goes = [0u16; sheet::MAX_ROWS];
+    match plan_sheet(words, &mut marks, &mut came, &mut goes) {
+        Planned::Refused(why) => Checked {
+            number: sheet::number_of(why),
+            place: sheet::place_of(why),
+            longest: 0,
+            rows: 0,
+            values: 0,
+            turns: 0,
+        },
+        Planned::Made(plan) => {
+            let shape = plan.shape;
+            Checked {
+                number: DONE,
+                place: 0,
+                longest: shape.longest,
+                rows: plan.rows,
+                values: plan.values,
+                turns: plan.turns,
+            }
+        }
+    }
+}
+
+// Any words and a buffer: the first refusal of 1 to 8, or the table of the sheet that they are, at the buffer's start.
+pub fn write(words: &[u16], table: &mut [u16]) -> Answer
+    ensures { λ r. ⌜ _≡_ {A = Written} (record { number = r .number; place = r .place; table = now (table .exit) }) (write (now (words .entry)) (now (table .entry))) ⌝ }
+{
+    let mut marks = [0u8; sheet::MAX_ROWS];
+    let mut came = [0u16; sheet::MAX_ROWS];
+    let mut goes = [0u16; sheet::MAX_ROWS];
+    match plan_sheet(words, &mut marks, &mut came, &mut goes) {
+        Planned::Refused(why) => Answer {
+            number: sheet::number_of(why),
+            place: sheet::place_of(why),
+        },
+        Planned::Made(plan) => {
+            let room = 1 + sheet::ROW_WORDS * plan.rows;
+            if table.len() < room {
+                return Answer {
+                    number: SMALL_TABLE,
+                    place: 0,
+                };
+            }
+            write_planned(words, plan, &marks, &came, &goes, table);
+            Answer {
+                number: DONE,
+                place: 0,
+            }
+        }
+    }
+}

@@ -1,0 +1,89 @@
+-- Where an accepted sheet's rows lie in its words, and what the passes over them ask.
+use Prim.Native.Nat.{ℕ, suc, _+_, _*_, _≤_, _<_}
+use native.Mathlib.Omega.{arith}
+use mathlib.Core.Path.{_≡_, refl, sym, ap, subst, _∙_}
+use mathlib.Core.List.{List, []}
+use lib.ListN.{length, length-map}
+use Rattle.sheet.specs.Bounds.{limit}
+use Rattle.sheet.specs.Refusals.{Refusal, Answer, refused, given, _>>=_}
+use Rattle.sheet.specs.Tree.{flat}
+use Rattle.sheet.specs.Rows.{sheetRowOf, treeRows}
+use Rattle.sheet.specs.LongestRun.{longestRun}
+use Rattle.sheet.specs.Reading.{Sheet, variablesOf, bodyOf, rowsAt, read}
+use Rattle.sheet.specs.Answers.{shapeOf, shapeRead}
+use Rattle.sheet.specs.declared.Shape.{Shape}
+use Rattle.sheet.specs.declared.Reading.the-variants as reading
+use Rattle.sheet.proofs.ReadingParts.{bound, same-given, accepted}
+use Rattle.sheet.proofs.ReadingExact.{reading-exact}
+use Rattle.sheet.proofs.NamesPresent.{counts}
+use Rattle.sheet.proofs.TreeInWords.{body-stands}
+use Rattle.sheet.proofs.ReaderLaws.{Shaped, accepted-shape}
+use Rattle.sets.specs.Laid.{Laid}
+use Rattle.table.specs.MarkedRows.{rowNumbered, Small}
+use Rattle.table.proofs.WalkTree.{rows-of-tree}
+use Rattle.table.proofs.RowsSmall.{rows-small}
+
+pub record Lies (words : List ℕ) (sheet : Sheet) (shape : Shape) : Type 0 where
+  pub is : read words ≡ given sheet
+  pub shapeIs : shape ≡ shapeOf sheet
+  pub laid : Laid words (shape .variables) (shape .«first_row») (shape .rows)
+  pub says : treeRows (sheet .body) ≡ rowsAt words (shape .«first_row») (shape .rows)
+  pub variables : shape .variables ≡ variablesOf sheet
+  pub within : shape .«first_row» + 4 * shape .rows ≤ length words
+  pub fewVariables : shape .variables ≤ limit .variables
+  pub fewRows : shape .rows ≤ limit .rows
+  pub small : (p : ℕ) → p < shape .rows → Small (shape .variables) (rowNumbered words (shape .«first_row») p)
+  pub short : longestRun (sheet .body) ≤ limit .longestRun
+
+shape-read : (words : List ℕ) (sheet : Sheet) → read words ≡ given sheet → shapeRead words ≡ given (shapeOf sheet)
+unfolding shapeRead
+shape-read words sheet e = rw e
+
+pub sheet-lies : (words : List ℕ) (sheet : Sheet) → read words ≡ given sheet → Lies words sheet (shapeOf sheet)
+unfolding treeRows shapeOf
+sheet-lies words sheet e =
+    let parts = accepted words sheet e in
+    let counted = counts words sheet parts in
+    let lines = flat (sheet .body) [] in
+    let first = 3 + length (sheet .roles) + length (sheet .constants) in
+    let shaped : Shaped words (shapeOf sheet) = accepted-shape words (reading.Accepted (shapeOf sheet)) (shapeOf sheet) (sym (shape-read words sheet e)) refl in
+    let stands = body-stands words sheet e in
+    let begins : first + 0 * limit .rowWords ≡ first = omega arith in
+    let many : length lines ≡ length (sheet .rows) = sym (length-map lines sheetRowOf) ∙ ap length (reading-exact words sheet e .says) in
+    let says : treeRows (sheet .body) ≡ rowsAt words first (length (sheet .rows)) =
+    sym (stands .rowsHere) ∙ ap (λ p. rowsAt words p (length lines)) begins ∙ ap (rowsAt words first) many in
+    let body : bodyOf (length (sheet .roles)) (length (sheet .constants)) (rowsAt words first (length (sheet .rows)))
+    (suc (1 + parts .v + 1 + parts .k)) [] [] ≡ given (sheet .body) =
+    rw (sym says ∙ reading-exact words sheet e .says, counted .variables, counted .constants) (parts .body) in
+    record {
+      is = e;
+      shapeIs = refl;
+      laid = record { sheet = sheet; accepted = e; variablesAre = refl; firstIs = omega arith; rowsAre = rows-of-tree words first _ (sheet .body) says };
+      says = says;
+      variables = refl;
+      within = omega (arith, shaped .allWords);
+      fewVariables = shaped .variablesWithin;
+      fewRows = shaped .rowsWithin;
+      small = λ p below. rows-small _ _ (shaped .variablesWithin) (shaped .constantsWithin) words first _ _ [] [] (sheet .body) body p _ below refl;
+      short = parts .short;
+    }
+
+-- by what the reader promises of an accepted sheet
+pub record SomeSheet (words : List ℕ) (shape : Shape) : Type 0 where
+  pub sheet : Sheet
+  pub lies : Lies words sheet shape
+
+pub accepted-lies : (words : List ℕ) (shape : Shape) → shapeRead words ≡ given shape → SomeSheet words shape
+unfolding shapeRead
+accepted-lies words shape e =
+    let found = bound (read words) _ shape e in
+    record { sheet = found .0; lies = subst (Lies words (found .0)) (same-given (found .2)) (sheet-lies words (found .0) (found .1)) }
+
+-- and of one that it refuses
+pub refused-read : (words : List ℕ) (why : Refusal) → shapeRead words ≡ refused why → read words ≡ refused why
+unfolding shapeRead
+refused-read words why e = stopped (read words) e
+  where
+    stopped : (answer : Answer Sheet) → (answer >>= λ sheet. given (shapeOf sheet)) ≡ refused why → answer ≡ refused why
+    stopped (refused r) e = cc
+    stopped (given sheet) e = let z : _≡_ {A = ℕ} 0 1 = cc in absurd (omega arith)

@@ -1,0 +1,107 @@
+-- `table::needs::of_row` meets its contract, kind by kind.
+use Prim.Native.Nat.{_*_, _≤_}
+use native.Mathlib.Nat.{mul-le-mul}
+use native.Mathlib.Omega.{arith}
+use Rattle.table.specs.Needs.{greatestWord}
+use Rattle.table.proofs.NeedRows.{assignment-need, if-need, repeat-need, closing-need}
+use borrow.Author.Needs.{needs}
+use Rattle.table.proofs.needs.of_row.Statement.{statement}
+use Rattle.table.proofs.needs.of_row.Tie as tie
+
+of-saved-requires : tie.Need-of-saved-requires
+of-saved-requires c κs = search needs
+
+add-capped : tie.Need-add-capped
+add-capped c = search needs
+
+capped-requires : tie.Need-capped-requires
+capped-requires c κs = search needs
+
+returns : tie.Need-returns
+returns c =
+    let x = c .before .before .before .args in
+    λ d b says.
+    omega (
+      arith,
+      c .capped .ensures,
+      c .before .of-saved .ensures .0,
+      assignment-need (x .stack) (x .mark) (x .next) (x .second) (x .beyond) says (omega (arith, c .before .before .if1 .taken)),
+    )
+
+of-branch-requires : tie.Need-of-branch-requires
+of-branch-requires c κs = search needs
+
+of-branches-requires : tie.Need-of-branches-requires
+of-branches-requires c κs = search needs
+
+add-capped-2 : tie.Need-add-capped-2
+add-capped-2 c = search needs
+
+add-capped-3 : tie.Need-add-capped-3
+add-capped-3 c = search needs
+
+capped-requires-2 : tie.Need-capped-requires-2
+capped-requires-2 c κs = search needs
+
+returns-2 : tie.Need-returns-2
+returns-2 c =
+    let x = c .before .before .before .before .before .args in
+    λ d b says.
+    omega (
+      arith,
+      c .capped2 .ensures,
+      c .before .of-branches .ensures,
+      c .before .before .of-branch .ensures .0,
+      if-need (x .stack) (x .mark) (x .next) (x .second) (x .beyond) says (c .before .before .before .if2 .taken),
+    )
+
+body-fits : (c : tie.Then3) → c .before .before .before .args .turns * c .before .before .before .args .next ≤ greatestWord * greatestWord
+body-fits c =
+    let fits = c .before .before .before .fits in
+    let turns : c .before .before .before .args .turns ≤ greatestWord = omega (arith, fits .turns) in
+    let next : c .before .before .before .args .next ≤ greatestWord = omega (arith, fits .next) in
+    mul-le-mul turns next
+
+mul-body : tie.Need-mul-body
+mul-body c = record { fits = omega (arith, body-fits c) }
+
+add-capped-4 : tie.Need-add-capped-4
+add-capped-4 c = record { fits = omega (arith, body-fits c) }
+
+capped-requires-3 : tie.Need-capped-requires-3
+capped-requires-3 c κs = search needs
+
+returns-3 : tie.Need-returns-3
+returns-3 c =
+    let x = c .before .before .before .before .args in
+    λ d b says.
+    omega (arith, c .capped3 .ensures, repeat-need (x .stack) (x .mark) (x .next) (x .second) (x .beyond) says (c .before .if3 .taken))
+
+returns-4 : tie.Need-returns-4
+returns-4 c =
+    let x = c .before .before .before .args in
+    λ d b says.
+    omega (
+      arith,
+      closing-need (x .stack) (x .mark) (x .next) (x .second) (x .beyond) says (c .before .before .if1 .left) (c .before .if2 .left) (c .if3 .left),
+    )
+
+pub of-row-spec : {M : Type 1} → statement M
+of-row-spec =
+    tie.close
+    (tie.spec
+    of-saved-requires
+    add-capped
+    capped-requires
+    returns
+    of-branch-requires
+    of-branches-requires
+    add-capped-2
+    add-capped-3
+    capped-requires-2
+    returns-2
+    mul-body
+    add-capped-4
+    capped-requires-3
+    returns-3
+    returns-4)
