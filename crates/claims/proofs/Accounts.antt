@@ -9,9 +9,11 @@ use Rattle.sets.specs.Transfers.{Activity}
 use Rattle.table.specs.TableRows.{Table}
 use Rattle.run.specs.Attempts.{Attempt, through, halted, _>>=_}
 use Rattle.run.specs.Actions.{Memory, Setting}
-use Rattle.claims.specs.Execution.{Executed, Stop}
-use Rattle.claims.specs.IdealSweep.{tableRun, derivedBy, swept}
-use Rattle.claims.specs.ReadLog.{Entry, onThrough, tableLog, derivedLog, sweptLog}
+use Rattle.run.specs.InTheLarge.{Stop, tableRun}
+use Rattle.run.specs.RowReads.{Entry, onThrough, tableLog}
+use Rattle.claims.specs.Execution.{Executed}
+use Rattle.claims.specs.IdealSweep.{derivedBy, swept}
+use Rattle.claims.specs.ReadLog.{derivedLog, sweptLog}
 
 module _ (A : Arithmetic) where
   pub record Account (X : Type 0) : Type 0 where

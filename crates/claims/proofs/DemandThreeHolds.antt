@@ -19,9 +19,11 @@ use Rattle.run.specs.Attempts.{Attempt, through, _>>=_}
 use Rattle.run.specs.Actions.{Memory, Setting, acted}
 use Rattle.run.specs.Machine.{State, goesOn, gotStuck}
 use Rattle.run.specs.Calls.{settingOf, startOf, runOf}
+use Rattle.run.specs.InTheLarge.{tableRun}
+use Rattle.run.specs.RowReads.{tableLog, onThrough}
+use Rattle.run.proofs.MachineFollows.{atRow, past-tree, goes-through}
 use Rattle.claims.specs.Execution.{Progress, execution}
-use Rattle.claims.specs.IdealSweep.{tableRun, ideal}
-use Rattle.claims.specs.ReadLog.{tableLog, onThrough}
+use Rattle.claims.specs.IdealSweep.{ideal}
 use Rattle.claims.specs.SavedRows.{savedValues, recordedIn}
 use Rattle.claims.specs.WholeRun.{Room, Matches}
 use Rattle.claims.specs.Demands.{lines, afterSteps, NeverStuck, SavedAtTurning, ReplaysInReverse, DemandThree}
@@ -30,7 +32,6 @@ use Rattle.claims.proofs.RunsKeepSizes.{runs-keep}
 use Rattle.claims.proofs.Forward.{body}
 use Rattle.claims.proofs.ForwardLog.{forward-notes-nothing}
 use Rattle.claims.proofs.Replay.{backward-notes}
-use Rattle.claims.proofs.MachineFollows.{atRow, past-tree, goes-through}
 use Rattle.claims.proofs.MachineLogs.{table-log}
 use Rattle.claims.proofs.Heights.{Within, table-never-sticks, table-heights}
 use Rattle.claims.proofs.RowSeventeen.{firstAdjoints, first-size, turns-round}

@@ -15,7 +15,7 @@ use Rattle.sets.specs.VariableSets.{VariableSet, has}
 use Rattle.table.specs.TableRows.{Action, assign, save, takeBack, saveTurn, clear, turnRound, tableVariables}
 use Rattle.run.specs.Attempts.{through, halted, _>>=_, whole, look}
 use Rattle.run.specs.Actions.{Memory, Setting, evaluated, acted, stored, withStore}
-use Rattle.claims.specs.ReadLog.{originalAt, readsOf}
+use Rattle.run.specs.RowReads.{originalAt, readsOf}
 use Rattle.claims.proofs.AttemptLaws.{Ready, gives, stops, whole-ready}
 use Rattle.claims.proofs.Stores.{is-below, same-default, at-known, at-first-part, at-second-part, set-second-part}
 

@@ -20,9 +20,10 @@ use Rattle.table.specs.TableRows.{Table, TableRow, Action, assign, clear, adjoi
 use Rattle.table.specs.Adjoint.{put, putIf, partsOf, derivativeRows}
 use Rattle.run.specs.Attempts.{Attempt, through, _>>=_}
 use Rattle.run.specs.Actions.{Memory, Setting, acted, withStore}
-use Rattle.claims.specs.Execution.{Stop, from}
-use Rattle.claims.specs.IdealSweep.{tableRun, derivedBy}
-use Rattle.claims.specs.ReadLog.{Entry, isDerivative, readsOf, entryIf, notedBy, noted, tableLog, derivedLog}
+use Rattle.run.specs.InTheLarge.{Stop, from, tableRun}
+use Rattle.run.specs.RowReads.{Entry, isDerivative, readsOf, entryIf, notedBy, noted, tableLog}
+use Rattle.claims.specs.IdealSweep.{derivedBy}
+use Rattle.claims.specs.ReadLog.{derivedLog}
 use Rattle.claims.proofs.Accounts.{Account, account, Same, derived, inTurn, noting, stopping, nothing-more, noting-more, in-turn-same}
 use Rattle.claims.proofs.DerivativeRows.{Readable, OnAdjoints, Agree, AdjointSize, Does, Halts, Alike, bothDo, bothHalt, same-reads, row-alike}
 

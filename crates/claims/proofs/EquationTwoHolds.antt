@@ -23,7 +23,8 @@ use Rattle.sets.proofs.EquationsAlong.{ForwardAlong, BackwardAlong, forward-alo
 use Rattle.run.specs.Attempts.{Attempt, through}
 use Rattle.run.specs.Actions.{Setting, seeded}
 use Rattle.run.specs.Calls.{settingOf}
-use Rattle.claims.specs.Execution.{Executed, Progress, Stop, performed, execution, executed}
+use Rattle.run.specs.InTheLarge.{Stop}
+use Rattle.claims.specs.Execution.{Executed, Progress, performed, execution, executed}
 use Rattle.claims.specs.IdealSweep.{swept, Ideal, ideal}
 use Rattle.claims.specs.EquationTwo.{Instance, valueNo, Trace, EquationTwo}
 use Rattle.claims.proofs.AttemptLaws.{same-through, went}

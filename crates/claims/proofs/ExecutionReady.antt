@@ -12,7 +12,8 @@ use Rattle.sheet.specs.Rows.{Assignment, _≔_, Source, copy, fixed, sum, diffe
 use Rattle.sheet.specs.Names.{SourcePresent, AssignmentPresent, TestPresent, Present}
 use Rattle.run.specs.Attempts.{Attempt, through, _>>=_, whole, look}
 use Rattle.run.specs.Actions.{evaluated, compared}
-use Rattle.claims.specs.Execution.{Progress, Stop, performed, turned, chosen, executed}
+use Rattle.run.specs.InTheLarge.{Stop, chosen}
+use Rattle.claims.specs.Execution.{Progress, performed, turned, executed}
 use Rattle.claims.proofs.AttemptLaws.{Ready, gives, ready-then, stops, whole-ready}
 use Rattle.claims.proofs.Runs.{runs}
 use Rattle.claims.proofs.RunsKeepSizes.{performed-keeps, runs-keep}

@@ -18,8 +18,8 @@ use Rattle.table.specs.Adjoint.{put, putIf, forwardRow, forwardPart}
 use Rattle.table.specs.Sizes.{valuesNeeded, turnsNeeded}
 use Rattle.run.specs.Attempts.{Attempt, through, halted, stuck, _>>=_, present, replaced}
 use Rattle.run.specs.Actions.{Memory, Setting, evaluated, acted, compared, verdictOn, stored}
-use Rattle.claims.specs.Execution.{Progress, Stop, from, onward, performed, turned, chosen, executed}
-use Rattle.claims.specs.IdealSweep.{tableRun}
+use Rattle.run.specs.InTheLarge.{Stop, from, chosen, tableRun}
+use Rattle.claims.specs.Execution.{Progress, onward, performed, turned, executed}
 use Rattle.claims.specs.SavedRows.{onto, savedValues}
 use Rattle.claims.proofs.AttemptLaws.{bind-assoc, bind-same}
 use Rattle.claims.proofs.Runs.{was-performed, Runs, stay, row, left, right, last, more, runs}

@@ -14,9 +14,9 @@ use Rattle.table.specs.Adjoint.{Body, put, putIf, targetOf, forwardRow, forward
 use Rattle.table.specs.Sizes.{valuesNeeded, turnsNeeded}
 use Rattle.run.specs.Attempts.{Attempt, through, halted, stuck, _>>=_, present}
 use Rattle.run.specs.Actions.{Memory, Setting, acted, tested}
-use Rattle.claims.specs.Execution.{Progress, Stop, from, chosen, executed}
-use Rattle.claims.specs.IdealSweep.{tableRun}
-use Rattle.claims.specs.ReadLog.{Entry, isDerivative, notedBy, onThrough, chosenLog, tableLog}
+use Rattle.run.specs.InTheLarge.{Stop, from, chosen, tableRun}
+use Rattle.run.specs.RowReads.{Entry, isDerivative, notedBy, onThrough, chosenLog, tableLog}
+use Rattle.claims.specs.Execution.{Progress, executed}
 use Rattle.claims.specs.SavedRows.{savedValues}
 use Rattle.claims.proofs.Forward.{body, memoryOf, forward-executes}
 

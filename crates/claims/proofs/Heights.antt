@@ -15,9 +15,8 @@ use Rattle.run.specs.Attempts.{Attempt, through, halted, stuck, _>>=_, present,
 use Rattle.run.specs.Actions.{Memory, Setting, evaluated, saved, restored, turnedRound, acted, compared, verdictOn, turnTaken, tested}
 use Rattle.run.specs.Machine.{itsElse, itsEnd, oneMore, seek, Repeat, State, Step, goesOn, ended, stops, sticks, jump, afterAction, branchTo, afterTest, afterTurn, stepAt, step, gotStuck, outOfFuel, runFor, ifItGoesOn, stateAfter, stepsOf}
 use Rattle.run.specs.Calls.{runOf}
-use Rattle.claims.specs.Execution.{Stop, from, chosen}
-use Rattle.claims.specs.IdealSweep.{tableRun}
-use Rattle.claims.proofs.MachineFollows.{atRow, endingFrom, run-on, run-through, fuel-suffices}
+use Rattle.run.specs.InTheLarge.{Stop, from, chosen, tableRun}
+use Rattle.run.proofs.MachineFollows.{atRow, endingFrom, run-on, run-through, more-fuel-same, fuel-suffices}
 
 -- ---- what holds of whatever goes through
 
@@ -287,24 +286,12 @@ module _ (A : Arithmetic) where
   -- ---- a run that does not get stuck
 
   module _ (setting : Setting A) (lines : List TableLine) where
-    more-fuel-same : (fuel more : ℕ) (s : State A) → (runFor A fuel setting lines s ≡ outOfFuel → ⊥)
-        → runFor A (fuel + more) setting lines s ≡ runFor A fuel setting lines s
-    more-fuel-same fuel more s enough =
-        run-on A setting lines fuel more s ∙ by-step (stateAfter A fuel setting lines s) (λ e. enough (run-through A setting lines fuel s ∙ e))
-        ∙ sym (run-through A setting lines fuel s)
-      where
-        by-step : (x : Step A) → (endingFrom A setting lines 0 x ≡ outOfFuel → ⊥) → endingFrom A setting lines more x ≡ endingFrom A setting lines 0 x
-        by-step (goesOn next) h = absurd (h (unfold runFor in refl))
-        by-step (ended memory) h = refl
-        by-step (stops row origin why) h = refl
-        by-step sticks h = refl
-
     -- if a run ends and not by being stuck, no number of steps is stuck
     pub never-sticks : (fuel : ℕ) (s : State A) → (runFor A fuel setting lines s ≡ gotStuck → ⊥) → (runFor A fuel setting lines s ≡ outOfFuel → ⊥)
         → (n : ℕ) → stateAfter A n setting lines s ≡ sticks → ⊥
     never-sticks fuel s unstuck enough n e =
         let swap : fuel + n ≡ n + fuel = omega arith in
-        unstuck (sym (more-fuel-same fuel n s enough) ∙ ap (λ m. runFor A m setting lines s) swap ∙ run-on A setting lines n fuel s
+        unstuck (sym (more-fuel-same A setting lines fuel n s enough) ∙ ap (λ m. runFor A m setting lines s) swap ∙ run-on A setting lines n fuel s
         ∙ ap (endingFrom A setting lines fuel) e)
 
     pub heights-within : (values turns : ℕ) → setting .valueRoom ≤ values → setting .turnRoom ≤ turns → (start : State A)

@@ -12,8 +12,9 @@ use Rattle.table.specs.Adjoint.{derivativeRows}
 use Rattle.run.specs.Attempts.{Attempt, stuck}
 use Rattle.run.specs.Actions.{Setting}
 use Rattle.run.specs.Calls.{settingOf}
-use Rattle.claims.specs.Execution.{Executed, Stop, execution}
-use Rattle.claims.specs.IdealSweep.{tableRun, derivedBy, swept, Ideal, ideal}
+use Rattle.run.specs.InTheLarge.{Stop, tableRun}
+use Rattle.claims.specs.Execution.{Executed, execution}
+use Rattle.claims.specs.IdealSweep.{derivedBy, swept, Ideal, ideal}
 use Rattle.claims.proofs.AttemptLaws.{bind-unless}
 use Rattle.claims.proofs.Heights.{withRooms, more-room-same-in-the-large}
 

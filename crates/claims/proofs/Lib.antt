@@ -24,7 +24,6 @@ pub mod ExecutionReady
 pub mod Forward
 pub mod ForwardLog
 pub mod Replay
-pub mod MachineFollows
 pub mod MachineLogs
 pub mod Heights
 pub mod IdealRooms

@@ -11,9 +11,9 @@ use Rattle.table.specs.TableRows.{TableLine, Table, linesOf}
 use Rattle.run.specs.Attempts.{through, halted, stuck}
 use Rattle.run.specs.Actions.{Memory, Setting}
 use Rattle.run.specs.Machine.{Repeat, Step, step, stepAt, stepsOf}
-use Rattle.claims.specs.IdealSweep.{tableRun}
-use Rattle.claims.specs.ReadLog.{onNext, machineLog, tableLog}
-use Rattle.claims.proofs.MachineFollows.{atRow, Result, LandsAt, past-tree, log-add, reaches}
+use Rattle.run.specs.InTheLarge.{tableRun}
+use Rattle.run.specs.RowReads.{onNext, machineLog, tableLog}
+use Rattle.run.proofs.MachineFollows.{atRow, Result, LandsAt, past-tree, log-add, reaches}
 
 module _ (A : Arithmetic) (setting : Setting A) where
   module _ (lines : List TableLine) (p : ℕ) (behind : drop p lines ≡ []) (repeats : List Repeat) where

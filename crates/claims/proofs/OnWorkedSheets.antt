@@ -15,7 +15,8 @@ use Rattle.table.specs.Sizes.{valuesNeeded, turnsNeeded}
 use Rattle.run.specs.Attempts.{Attempt, through, halted, stuck}
 use Rattle.run.specs.Actions.{seeded}
 use Rattle.run.specs.Calls.{Lent, settingOf, readToRun, run}
-use Rattle.claims.specs.Execution.{Progress, Stop, execution}
+use Rattle.run.specs.InTheLarge.{Stop}
+use Rattle.claims.specs.Execution.{Progress, execution}
 use Rattle.claims.specs.ReadLog.{sweptLog}
 use Rattle.claims.specs.EquationTwo.{Instance, valueNo, EquationTwo}
 use Rattle.claims.specs.SavedRows.{savedValues, recordedIn}

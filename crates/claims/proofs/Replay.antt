@@ -23,9 +23,11 @@ use Rattle.table.specs.TableRows.{Table, ofRow, turnWord, takeBack, takingBack,
 use Rattle.table.specs.Adjoint.{putIf, derivativeRows, backwardOf, backwardPart}
 use Rattle.run.specs.Attempts.{through, halted, present}
 use Rattle.run.specs.Actions.{Memory, Setting, acted, tested}
-use Rattle.claims.specs.Execution.{Executed, Progress, Stop, from, onward, turned, chosen}
-use Rattle.claims.specs.IdealSweep.{tableRun, swept}
-use Rattle.claims.specs.ReadLog.{Entry, chosenLog, tableLog, sweptLog}
+use Rattle.run.specs.InTheLarge.{Stop, from, chosen, tableRun}
+use Rattle.run.specs.RowReads.{Entry, chosenLog, tableLog}
+use Rattle.claims.specs.Execution.{Executed, Progress, onward, turned}
+use Rattle.claims.specs.IdealSweep.{swept}
+use Rattle.claims.specs.ReadLog.{sweptLog}
 use Rattle.claims.specs.SavedRows.{savedValues}
 use Rattle.claims.proofs.Runs.{was-performed, Runs, stay, row, left, right, last, more}
 use Rattle.claims.proofs.Stores.{at-set-same, at-set-other, known-at}

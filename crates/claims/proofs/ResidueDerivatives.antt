@@ -19,7 +19,8 @@ use Rattle.table.specs.TableRows.{t, u, Action, assign, clear, Operation, holdi
 use Rattle.table.specs.Adjoint.{put, putIf, addInto, subtractFrom, scaled, partsOf, derivativeRows}
 use Rattle.run.specs.Attempts.{through, look, replaced}
 use Rattle.run.specs.Actions.{Memory, Setting, acted}
-use Rattle.claims.specs.IdealSweep.{tableRun, derivedBy}
+use Rattle.run.specs.InTheLarge.{tableRun}
+use Rattle.claims.specs.IdealSweep.{derivedBy}
 use Rattle.claims.proofs.Stores.{is-below, known-at, at-first-part, at-second-part, set-second-part}
 use Rattle.claims.proofs.EquationTwoSolved.{eqb-same, eqb-other, firstFactor, secondFactor, share}
 

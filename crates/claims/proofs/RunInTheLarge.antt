@@ -23,8 +23,10 @@ use Rattle.table.specs.Sizes.{valuesNeeded, turnsNeeded}
 use Rattle.run.specs.Attempts.{Attempt, through, halted, _>>=_}
 use Rattle.run.specs.Actions.{Memory, Setting, acted}
 use Rattle.run.specs.Calls.{settingOf, startOf, runOf}
-use Rattle.claims.specs.Execution.{Progress, Stop, execution}
-use Rattle.claims.specs.IdealSweep.{tableRun, swept, Ideal, ideal}
+use Rattle.run.specs.InTheLarge.{Stop, tableRun}
+use Rattle.run.proofs.MachineFollows.{EndsAs, run-follows}
+use Rattle.claims.specs.Execution.{Progress, execution}
+use Rattle.claims.specs.IdealSweep.{swept, Ideal, ideal}
 use Rattle.claims.specs.SavedRows.{savedValues, recordedIn}
 use Rattle.claims.specs.WholeRun.{Matches}
 use Rattle.claims.proofs.AttemptLaws.{Ready, gives, stops}
@@ -33,7 +35,6 @@ use Rattle.claims.proofs.RunsKeepSizes.{runs-keep}
 use Rattle.claims.proofs.ExecutionReady.{executed-ready}
 use Rattle.claims.proofs.Forward.{body, memoryOf, forward-executes}
 use Rattle.claims.proofs.Replay.{Replays, replayed, stoppedShort, replays}
-use Rattle.claims.proofs.MachineFollows.{EndsAs, run-follows}
 use Rattle.claims.proofs.RowSeventeen.{firstAdjoints, first-size, turns-round}
 
 abbrev pub knownIn : Sheet → ℕ → Assignment → Activity

@@ -12,7 +12,8 @@ use Rattle.sheet.specs.Rows.{Assignment, _≔_, Source, Test}
 use Rattle.table.specs.TableRows.{Origin, ofRow, itself}
 use Rattle.run.specs.Attempts.{Attempt, through, halted, stuck, present, replaced}
 use Rattle.run.specs.Actions.{evaluated, compared}
-use Rattle.claims.specs.Execution.{Progress, from, onward, performed, turned, chosen, executed}
+use Rattle.run.specs.InTheLarge.{from, chosen}
+use Rattle.claims.specs.Execution.{Progress, onward, performed, turned, executed}
 use Rattle.claims.proofs.AttemptLaws.{gives, is-present, same-through, was-replaced, went}
 
 module _ (A : Arithmetic) where

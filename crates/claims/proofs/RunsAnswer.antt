@@ -17,7 +17,7 @@ use Rattle.run.specs.Attempts.{Attempt, through, halted, stuck}
 use Rattle.run.specs.Actions.{Setting}
 use Rattle.run.specs.Machine.{Ending, gotStuck, gotStuck}
 use Rattle.run.specs.Calls.{Lent, settingOf, startOf, runOf, resultOf, ranTo, ranOn, readToRun, run}
-use Rattle.claims.specs.Execution.{Stop}
+use Rattle.run.specs.InTheLarge.{Stop}
 use Rattle.claims.specs.IdealSweep.{Ideal, ideal}
 use Rattle.claims.specs.SavedRows.{alsoSaving}
 use Rattle.claims.specs.WholeRun.{runSaving, Room, Matches, AnswersAs, SameOutcome, bothEnd, bothStop}

@@ -12,8 +12,8 @@ use Rattle.table.specs.TableRows.{TableRow, TableLine, Origin}
 use Rattle.run.specs.Attempts.{Attempt, through, halted, stuck}
 use Rattle.run.specs.Actions.{Memory, Setting, Verdict, acted, tested}
 use Rattle.run.specs.Machine.{State, Step, goesOn, ended, stops, sticks, Repeat, oneMore, itsElse, itsEnd, seek, jump, afterAction, branchTo, afterTest, afterTurn, stepAt, step, stoppedAt, runFor}
+use Rattle.run.proofs.MachineFollows.{endingFrom, run-step}
 use Rattle.claims.specs.Demands.{StoppedThere}
-use Rattle.claims.proofs.MachineFollows.{endingFrom, run-step}
 
 module _ (A : Arithmetic) (setting : Setting A) (lines : List TableLine) (row : RowNumber) (origin : Origin) (why : A .Why) where
   abbrev There : Type 0

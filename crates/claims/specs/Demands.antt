@@ -19,10 +19,11 @@ use Rattle.run.specs.Attempts.{through, halted}
 use Rattle.run.specs.Actions.{Memory, Setting, acted, seeded}
 use Rattle.run.specs.Machine.{State, Step, goesOn, sticks, stateAfter, stepsOf}
 use Rattle.run.specs.Calls.{Lent, Ran, settingOf, startOf, runOf, run}
+use Rattle.run.specs.RowReads.{machineLog}
 use Rattle.claims.specs.ExactlyWhen.{CheckExactly, WriteExactly, RunExactly}
 use Rattle.claims.specs.Execution.{Progress, execution}
 use Rattle.claims.specs.IdealSweep.{ideal}
-use Rattle.claims.specs.ReadLog.{machineLog, sweptLog}
+use Rattle.claims.specs.ReadLog.{sweptLog}
 use Rattle.claims.specs.EquationTwo.{Instance, valueNo, EquationTwo}
 use Rattle.claims.specs.SavedRows.{alsoSaving, every, allSavedTable, savedValues, recordedIn}
 use Rattle.claims.specs.WholeRun.{Matches, SameOutcome}

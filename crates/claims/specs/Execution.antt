@@ -1,14 +1,15 @@
 -- Executing a sheet by itself, without sets and without a table: its values, and what was executed.
 use Prim.Native.Nat.{ℕ, zero, suc, _+_}
-use mathlib.Core.Bool.{Bool, true, false}
+use mathlib.Core.Bool.{Bool}
 use mathlib.Core.List.{List, [], _∷_}
 use Rattle.number.specs.Arithmetic.{Arithmetic}
 use Rattle.sheet.specs.Tree.{Tree, done, one, fork, again, rows, RowNumber}
 use Rattle.sheet.specs.Rows.{Assignment, _≔_, Test}
 use Rattle.sheet.specs.Reading.{Sheet}
-use Rattle.table.specs.TableRows.{Origin, ofRow, itself}
-use Rattle.run.specs.Attempts.{Attempt, through, halted, stuck, _>>=_, present, replaced}
+use Rattle.table.specs.TableRows.{ofRow, itself}
+use Rattle.run.specs.Attempts.{Attempt, through, _>>=_, present, replaced}
 use Rattle.run.specs.Actions.{evaluated, compared}
+use Rattle.run.specs.InTheLarge.{Stop, from, chosen}
 
 module _ (A : Arithmetic) where
   -- one executed assignment, with the values just before it
@@ -23,16 +24,6 @@ module _ (A : Arithmetic) where
     pub trace : List Executed
     pub turns : List Bool
 
-  -- where it stopped, and why
-  pub record Stop : Type 0 where
-    pub origin : Origin
-    pub why : A .Why
-
-  abbrev pub from : {X : Type 0} → Origin → Attempt (A .Why) X → Attempt Stop X
-  from origin (through x) = through x
-  from origin (halted why) = halted (record { origin = origin; why = why })
-  from origin stuck = stuck
-
   -- row p, an assignment, takes the values from `before` to `store`
   abbrev pub onward : ℕ → Assignment → Progress → List (A .Carrier) → Progress
   onward p b now store =
@@ -42,21 +33,17 @@ module _ (A : Arithmetic) where
         turns = now .turns;
       }
 
-  unfoldable pub performed : (constants : List ℕ) → (row : ℕ) → Assignment → Progress → Attempt Stop Progress
+  unfoldable pub performed : (constants : List ℕ) → (row : ℕ) → Assignment → Progress → Attempt (Stop A) Progress
   unfolding evaluated
   performed constants p (d ≔ source) now = do
-    x ← from (ofRow (record { index = p }) itself) (evaluated A constants source (now .store))
+    x ← from A (ofRow (record { index = p }) itself) (evaluated A constants source (now .store))
     store ← replaced (now .store) d x
     through (onward p (d ≔ source) now store)
 
   abbrev pub turned : Bool → Progress → Progress
   turned first now = record { store = now .store; trace = now .trace; turns = first ∷ now .turns }
 
-  abbrev pub chosen : {X : Type 0} → Bool → Attempt Stop X → Attempt Stop X → Attempt Stop X
-  chosen true first second = first
-  chosen false first second = second
-
-  unfoldable pub executed : (constants : List ℕ) → Tree Assignment Test → (row : ℕ) → Progress → Attempt Stop Progress
+  unfoldable pub executed : (constants : List ℕ) → Tree Assignment Test → (row : ℕ) → Progress → Attempt (Stop A) Progress
   unfolding performed rows compared
   executed constants done p now = through now
   executed constants (one b k) p now = do
@@ -66,7 +53,7 @@ module _ (A : Arithmetic) where
     let split = suc p + rows a
     let end = suc split + rows b
     first ← present (compared A f (now .store))
-    next ← chosen first (executed constants a (suc p) now) (executed constants b (suc split) now)
+    next ← chosen A first (executed constants a (suc p) now) (executed constants b (suc split) now)
     executed constants k (suc end) (turned first next)
   executed constants (again zero a k) p now = do
     next ← executed constants a (suc p) now
@@ -75,6 +62,6 @@ module _ (A : Arithmetic) where
     next ← executed constants a (suc p) now
     executed constants (again m a k) p next
 
-  unfoldable pub execution : Sheet → (starts : List (A .Carrier)) → Attempt Stop Progress
+  unfoldable pub execution : Sheet → (starts : List (A .Carrier)) → Attempt (Stop A) Progress
   unfolding executed
   execution sheet starts = executed (sheet .constants) (sheet .body) 0 (record { store = starts; trace = []; turns = [] })

@@ -1,44 +1,26 @@
 -- What a run is held against: execute the sheet, then take the executed assignments in reverse, each by its own derivative rows on the
 -- values as they were just before it.
-use Prim.Native.Nat.{ℕ, zero, suc}
+use Prim.Native.Nat.{ℕ, zero}
 use mathlib.Core.List.{List, [], _∷_, _++_}
 use lib.ListN.{drop}
 use Rattle.number.specs.Arithmetic.{Arithmetic}
-use Rattle.sheet.specs.Tree.{done, one, fork, again, RowNumber}
+use Rattle.sheet.specs.Tree.{done, RowNumber}
 use Rattle.sheet.specs.Rows.{Assignment, _≔_}
 use Rattle.sheet.specs.Reading.{Sheet}
 use Rattle.sets.specs.Transfers.{Activity}
 use Rattle.sets.specs.Marks.{varied, useful, activityAt}
-use Rattle.table.specs.TableRows.{Table}
 use Rattle.table.specs.Adjoint.{derivativeRows}
-use Rattle.run.specs.Attempts.{Attempt, through, _>>=_, present}
-use Rattle.run.specs.Actions.{Memory, Setting, acted, tested, seeded}
-use Rattle.claims.specs.Execution.{Executed, Progress, Stop, from, chosen, execution}
+use Rattle.run.specs.Attempts.{Attempt, through, _>>=_}
+use Rattle.run.specs.Actions.{Setting, seeded}
+use Rattle.run.specs.InTheLarge.{Stop, tableRun}
+use Rattle.claims.specs.Execution.{Executed, Progress, execution}
 
 module _ (A : Arithmetic) where
-  -- a table's rows in the large, block by block: what the machine's steps come to
-  unfoldable pub tableRun : Setting A → Table → Memory A → Attempt (Stop A) (Memory A)
-  unfolding acted tested
-  tableRun setting done memory = through memory
-  tableRun setting (one row k) memory = do
-    next ← from A (row .origin) (acted A setting (row .action) memory)
-    tableRun setting k next
-  tableRun setting (fork f a b k) memory = do
-    verdict ← present (tested A f memory)
-    next ← chosen A (verdict .first) (tableRun setting a (verdict .memory)) (tableRun setting b (verdict .memory))
-    tableRun setting k next
-  tableRun setting (again zero a k) memory = do
-    next ← tableRun setting a memory
-    tableRun setting k next
-  tableRun setting (again (suc m) a k) memory = do
-    next ← tableRun setting a memory
-    tableRun setting (again m a k) next
-
   -- an assignment's derivative rows on these originals and these adjoints, t and u: what the latter then are
   unfoldable pub derivedBy : Setting A → Assignment → RowNumber → Activity → (originals adjoints : List (A .Carrier)) → Attempt (Stop A) (List (A .Carrier))
   unfolding tableRun derivativeRows
   derivedBy setting (d ≔ source) row known originals adjoints = do
-    after ← tableRun setting (derivativeRows (setting .variables) (known .active) d source row known done)
+    after ← tableRun A setting (derivativeRows (setting .variables) (known .active) d source row known done)
         (record { store = originals ++ adjoints; values = []; turns = []; copied = [] })
     through (drop (setting .variables) (after .store))
 

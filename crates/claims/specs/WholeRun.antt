@@ -15,7 +15,7 @@ use Rattle.run.specs.Attempts.{Attempt, through, halted, stuck}
 use Rattle.run.specs.Actions.{Memory}
 use Rattle.run.specs.Machine.{Ending, finished, stoppedAt}
 use Rattle.run.specs.Calls.{Lent, Ran, settingOf, startOf, runOf, independentAdjoints, lentAfter}
-use Rattle.claims.specs.Execution.{Stop}
+use Rattle.run.specs.InTheLarge.{Stop}
 use Rattle.claims.specs.IdealSweep.{Ideal}
 use Rattle.claims.specs.SavedRows.{alsoSaving}
 

@@ -5,3 +5,11 @@ pub mod RowLaws
 pub mod RoundLaws
 pub mod RowsPinned
 pub mod RowWordLaws
+-- the machine on a table
+pub mod MachineFollows
+pub mod Fuel
+pub mod LinesStand
+pub mod OpenRepeats
+pub mod JumpsRight
+pub mod JumpPass
+pub mod TableHeld

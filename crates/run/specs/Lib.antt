@@ -2,8 +2,11 @@
 pub mod Attempts
 pub mod Actions
 pub mod Machine
+pub mod InTheLarge
+pub mod RowReads
 pub mod Calls
 pub mod Answers
 pub mod Buffers
 pub mod RowWords
 pub mod Runnable
+pub mod JumpsFound

@@ -2,6 +2,7 @@
 // Every contract says what the row's written meaning (specs/Actions.antt) makes of the buffers (specs/Buffers.antt), and no place is asked
 // for: one that is not there answers Stuck.
 pub mod doubles;
+pub mod jumps;
 pub mod residues;
 pub mod turns;
 

@@ -8,6 +8,7 @@ pub mod Settled
 pub mod ReadingParts
 pub mod ReadingExact
 pub mod NamesPresent
+pub mod Depth
 -- the laws that the reader's functions are proved by
 pub mod CountsJudged
 pub mod RolesJudged

@@ -89,7 +89,7 @@ pub record Shaped (words : List ℕ) (shape : Shape) : Type 0 where
   pub longestWithin : shape .longest ≤ limit .longestRun
   pub present : Present (shape .variables) (shape .constants) (sheet .body)
 
-shaped : (words : List ℕ) (sheet : Sheet) → read words ≡ given sheet → Shaped words (shapeOf sheet)
+pub shaped : (words : List ℕ) (sheet : Sheet) → read words ≡ given sheet → Shaped words (shapeOf sheet)
 unfolding shapeOf treeRows
 shaped words sheet e =
     let parts = accepted words sheet e in

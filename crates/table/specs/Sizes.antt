@@ -1,8 +1,13 @@
 -- R, S and T.
 use Prim.Native.Nat.{ℕ, suc, _+_, _*_, max}
 use mathlib.Core.Bool.{cond}
+use Rattle.sheet.specs.Bounds.{limit}
 use Rattle.sheet.specs.Tree.{done, one, fork, again, rows}
 use Rattle.table.specs.Adjoint.{Body, adjointTable}
+
+-- "Hence R is at most 9 × 512 + 1": two rows forward and seven backward for each of a sheet's, and row 17
+abbrev pub mostTableRows : ℕ
+mostTableRows = 9 * limit .rows + 1
 
 -- R
 unfoldable pub tableRows : (variables : ℕ) → Body → ℕ

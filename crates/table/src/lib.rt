@@ -15,10 +15,13 @@ ghost use Rattle.table.specs.Needs.{needOver};
 ghost use Rattle.table.specs.Plans.{SheetNoted, PlanMade, PlanSays};
 
 mod count;
-mod kinds;
+pub mod kinds;
 mod needs;
 mod rows;
 mod sweep;
+
+// "Hence R is at most": two rows forward and seven backward for each of a sheet's, and row 17.
+pub const MAX_TABLE_ROWS: usize = 9 * sheet::MAX_ROWS + 1;
 
 // The numbers of an answer besides those of the reader's refusals.
 pub const DONE: u16 = 0;

@@ -12,13 +12,12 @@ use native.Mathlib.Omega.{arith}
 use Rattle.number.specs.Arithmetic.{Arithmetic}
 use Rattle.sheet.specs.Tree.{Tree, done, one, fork, again, Line, basic, ifLine, elseLine, endIf, endRepeat, flat, rows, RowNumber}
 use Rattle.table.specs.TableRows.{Origin, TableRow, TableTest, TableLine, Table, linesOf}
 use Rattle.run.specs.Attempts.{Attempt, through, halted, stuck, _>>=_, present}
 use Rattle.run.specs.Actions.{Memory, Setting, Verdict, acted, tested}
 use Rattle.run.specs.Machine.{Mark, itsElse, itsEnd, oneMore, seek, Repeat, State, Step, goesOn, ended, stops, sticks, Ending, finished, stoppedAt, gotStuck, outOfFuel, jump, afterAction, branchTo, afterTest, stepAt, step, runFor, ifItGoesOn, stateAfter, stepsOf}
 use Rattle.run.specs.Calls.{runOf}
-use Rattle.claims.specs.Execution.{Stop, from, chosen}
-use Rattle.claims.specs.IdealSweep.{tableRun}
-use Rattle.claims.specs.ReadLog.{Entry, noted, notedAt, onNext, machineLog, onThrough, chosenLog, tableLog}
+use Rattle.run.specs.InTheLarge.{Stop, from, chosen, tableRun}
+use Rattle.run.specs.RowReads.{Entry, noted, notedAt, onNext, machineLog, onThrough, chosenLog, tableLog}
 
 -- ---- passing over a tree's lines
 
@@ -53,7 +52,7 @@ further-fork i j k none = refl
 further-fork i j k (some m) = ap {B = Option ℕ} some (omega arith)
 
 module _ {B F : Type 0} where
-  past-flat : (t : Tree B F) (rest : List (Line B F)) (n : ℕ) → drop (rows t + n) (flat t rest) ≡ drop n rest
+  pub past-flat : (t : Tree B F) (rest : List (Line B F)) (n : ℕ) → drop (rows t + n) (flat t rest) ≡ drop n rest
   unfolding rows flat
   past-flat done rest n = rw zero-add
   past-flat (one b k) rest n =
@@ -93,11 +92,11 @@ module _ {B F : Type 0} where
       ap oneMore (seek-flat mark n a _ ∙ ap (λ o. further (rows a) (oneMore o)) (seek-flat mark n k rest))
       ∙ further-repeat (rows a) (rows k) (seek mark n rest)
 
-  seek-else : (t : Tree B F) (rest : List (Line B F)) → seek itsElse 0 (flat t (elseLine ∷ rest)) ≡ some (rows t + 1)
+  pub seek-else : (t : Tree B F) (rest : List (Line B F)) → seek itsElse 0 (flat t (elseLine ∷ rest)) ≡ some (rows t + 1)
   unfolding seek further
   seek-else t rest = seek-flat itsElse 0 t (elseLine ∷ rest)
 
-  seek-end : (t : Tree B F) (rest : List (Line B F)) → seek itsEnd 0 (flat t (endIf ∷ rest)) ≡ some (rows t + 1)
+  pub seek-end : (t : Tree B F) (rest : List (Line B F)) → seek itsEnd 0 (flat t (endIf ∷ rest)) ≡ some (rows t + 1)
   unfolding seek further
   seek-end t rest = seek-flat itsEnd 0 t (endIf ∷ rest)
 
@@ -395,6 +394,19 @@ module _ (A : Arithmetic) where
     -- in particular, with all of the fuel
     pub run-through : (n : ℕ) (s : State A) → runFor A n setting lines s ≡ endingFrom 0 (stateAfter A n setting lines s)
     run-through n s = ap (λ fuel. runFor A fuel setting lines s) (sym (add-zero n)) ∙ run-on n 0 s
+
+    -- fuel that suffices: more of it changes nothing
+    pub more-fuel-same : (fuel more : ℕ) (s : State A) → (runFor A fuel setting lines s ≡ outOfFuel → ⊥)
+        → runFor A (fuel + more) setting lines s ≡ runFor A fuel setting lines s
+    more-fuel-same fuel more s enough =
+        run-on fuel more s ∙ by-step (stateAfter A fuel setting lines s) (λ e. enough (run-through fuel s ∙ e))
+        ∙ sym (run-through fuel s)
+      where
+        by-step : (x : Step A) → (endingFrom 0 x ≡ outOfFuel → ⊥) → endingFrom more x ≡ endingFrom 0 x
+        by-step (goesOn next) h = absurd (h (unfold runFor in refl))
+        by-step (ended memory) h = refl
+        by-step (stops row origin why) h = refl
+        by-step sticks h = refl
 
     -- a run comes to what an execution in the large gives: its rest from row p on with at least so much fuel, a stop of the same origin, or stuck
     abbrev pub RunsTo : (fuel p : ℕ) → List Repeat → Result → Ending A → Type 0

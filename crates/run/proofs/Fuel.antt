@@ -1,0 +1,91 @@
+-- How many steps a run of a table takes at most, in terms of W, and that more of them change nothing.
+use Prim.Native.Nat.{ℕ, suc, _+_, _*_, _-_, _≤_}
+use mathlib.Core.Path.{_≡_, refl, ap, _∙_}
+use mathlib.Core.Bool.{true, false}
+use mathlib.Core.List.{List, []}
+use native.Mathlib.Nat.{mul-le-mul-left, mul-left-comm}
+use native.Mathlib.Omega.{arith}
+use Rattle.number.specs.Arithmetic.{Arithmetic}
+use Rattle.sheet.specs.Bounds.{limit}
+use Rattle.sheet.specs.Refusals.{given}
+use Rattle.sheet.specs.Tree.{done, one, fork, again}
+use Rattle.sheet.specs.LongestRun.{longestRun}
+use Rattle.sheet.specs.Reading.{Sheet, variablesOf, read}
+use Rattle.sheet.proofs.ReadingParts.{accepted}
+use Rattle.sets.specs.Marks.{marked, markBy, varied, useful, required}
+use Rattle.table.specs.TableRows.{Table, saveTurn, turnRound, onTurn, turning, ofTurningRound, linesOf}
+use Rattle.table.specs.Adjoint.{Body, put, forwardPart, backwardOf, backwardPart, adjointTable, tableOf}
+use Rattle.table.proofs.TableBounds.{EachRow, backward-row, forward-row, marked-run}
+use Rattle.run.specs.Actions.{Memory, Setting}
+use Rattle.run.specs.Machine.{stepsOf, runFor}
+use Rattle.run.specs.Calls.{startOf, runOf}
+use Rattle.run.proofs.MachineFollows.{atRow, more-fuel-same, fuel-suffices}
+
+-- ---- steps
+
+row-stepped : EachRow 1 stepsOf
+unfolding stepsOf
+row-stepped row rest = refl
+
+backward-steps : (v : ℕ) (t : Body) (rest : Table) → stepsOf (backwardPart v t rest) ≤ 7 * longestRun t + stepsOf rest
+unfolding backwardPart stepsOf longestRun
+backward-steps v done rest = omega arith
+backward-steps v (one m k) rest =
+    let this = backwardOf v (m .assignment) (m .row) (m .known) (m .saved) rest in
+    omega (arith, backward-steps v k this, backward-row 1 stepsOf row-stepped v (m .assignment) (m .row) (m .known) (m .saved) .few rest)
+backward-steps v (fork f a b k) rest =
+    omega (arith, backward-steps v k (fork onTurn (backwardPart v a done) (backwardPart v b done) rest), backward-steps v a done, backward-steps v b done)
+backward-steps v (again n a k) rest =
+    let body : stepsOf (backwardPart v a done) + 1 ≤ 7 * (1 + longestRun a) = omega (arith, backward-steps v a done) in
+    omega (arith, backward-steps v k (again n (backwardPart v a done) rest), mul-le-mul-left (suc n) body, mul-left-comm (suc n) 7 (1 + longestRun a))
+
+forward-steps : (t : Body) (rest : Table) → stepsOf (forwardPart t rest) ≤ 3 * longestRun t + stepsOf rest
+unfolding forwardPart stepsOf longestRun
+forward-steps done rest = omega arith
+forward-steps (one m k) rest = omega (arith, forward-row 1 stepsOf row-stepped m .few (forwardPart k rest), forward-steps k rest)
+forward-steps (fork f a b k) rest =
+    omega
+    (arith, forward-steps k rest, forward-steps a (put (f .row) turning (saveTurn true) done), forward-steps b (put (f .row) turning (saveTurn false) done))
+forward-steps (again n a k) rest =
+    let body : stepsOf (forwardPart a done) + 1 ≤ 3 * (1 + longestRun a) = omega (arith, forward-steps a done) in
+    omega (arith, forward-steps k rest, mul-le-mul-left (suc n) body, mul-left-comm (suc n) 3 (1 + longestRun a))
+
+-- three for each that W counts forward, seven backward, and row 17
+pub steps-within-run : (v : ℕ) (t : Body) → stepsOf (adjointTable v t) ≤ 10 * longestRun t + 1
+unfolding adjointTable stepsOf
+steps-within-run v t =
+    let turn : Table = one (record { origin = ofTurningRound; action = turnRound }) (backwardPart v t done) in
+    omega (arith, forward-steps t turn, backward-steps v t done)
+
+pub sheet-steps-within : (words : List ℕ) (sheet : Sheet) → read words ≡ given sheet → stepsOf (tableOf sheet) ≤ 10 * limit .longestRun + 1
+unfolding tableOf marked
+sheet-steps-within words sheet e =
+    omega (
+      arith,
+      steps-within-run (variablesOf sheet) (marked sheet),
+      marked-run (markBy (varied sheet) (useful sheet) (required sheet)) (sheet .body) 0,
+      accepted words sheet e .short,
+    )
+
+-- ---- fuel
+
+module _ (A : Arithmetic) (setting : Setting A) where
+  pub enough-fuel-same : (table : Table) (memory : Memory A) (steps : ℕ) → suc (stepsOf table) ≤ steps
+      → runFor A steps setting (linesOf table) (atRow A 0 [] memory) ≡ runOf A table setting (atRow A 0 [] memory)
+  unfolding runOf
+  enough-fuel-same table memory steps h =
+      let all : steps ≡ suc (stepsOf table) + (steps - suc (stepsOf table)) = omega arith in
+      ap (λ n. runFor A n setting (linesOf table) (atRow A 0 [] memory)) all
+      ∙ more-fuel-same A setting (linesOf table) (suc (stepsOf table)) (steps - suc (stepsOf table)) (atRow A 0 [] memory)
+      (fuel-suffices A table setting memory)
+
+  pub sheet-fuel-same : (sheet : Sheet) (starts : List (A .Carrier)) (steps : ℕ) → suc (stepsOf (tableOf sheet)) ≤ steps
+      → runFor A steps setting (linesOf (tableOf sheet)) (startOf A sheet starts) ≡ runOf A (tableOf sheet) setting (startOf A sheet starts)
+  unfolding startOf
+  sheet-fuel-same sheet starts steps h = enough-fuel-same (tableOf sheet) (startOf A sheet starts .memory) steps h
+
+  -- so a number of steps that suffices for every accepted sheet
+  pub accepted-fuel-same : (words : List ℕ) (sheet : Sheet) → read words ≡ given sheet → (starts : List (A .Carrier)) (steps : ℕ)
+      → 10 * limit .longestRun + 2 ≤ steps
+      → runFor A steps setting (linesOf (tableOf sheet)) (startOf A sheet starts) ≡ runOf A (tableOf sheet) setting (startOf A sheet starts)
+  accepted-fuel-same words sheet e starts steps h = sheet-fuel-same sheet starts steps (omega (arith, sheet-steps-within words sheet e))

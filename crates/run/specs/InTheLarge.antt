@@ -1,0 +1,40 @@
+-- A table's rows in the large, block by block: what the machine's steps come to.
+use Prim.Native.Nat.{zero, suc}
+use mathlib.Core.Bool.{Bool, true, false}
+use Rattle.number.specs.Arithmetic.{Arithmetic}
+use Rattle.sheet.specs.Tree.{done, one, fork, again}
+use Rattle.table.specs.TableRows.{Origin, Table}
+use Rattle.run.specs.Attempts.{Attempt, through, halted, stuck, _>>=_, present}
+use Rattle.run.specs.Actions.{Memory, Setting, acted, tested}
+
+module _ (A : Arithmetic) where
+  -- where it stopped, and why
+  pub record Stop : Type 0 where
+    pub origin : Origin
+    pub why : A .Why
+
+  abbrev pub from : {X : Type 0} → Origin → Attempt (A .Why) X → Attempt Stop X
+  from origin (through x) = through x
+  from origin (halted why) = halted (record { origin = origin; why = why })
+  from origin stuck = stuck
+
+  abbrev pub chosen : {X : Type 0} → Bool → Attempt Stop X → Attempt Stop X → Attempt Stop X
+  chosen true first second = first
+  chosen false first second = second
+
+  unfoldable pub tableRun : Setting A → Table → Memory A → Attempt Stop (Memory A)
+  unfolding acted tested
+  tableRun setting done memory = through memory
+  tableRun setting (one row k) memory = do
+    next ← from (row .origin) (acted A setting (row .action) memory)
+    tableRun setting k next
+  tableRun setting (fork f a b k) memory = do
+    verdict ← present (tested A f memory)
+    next ← chosen (verdict .first) (tableRun setting a (verdict .memory)) (tableRun setting b (verdict .memory))
+    tableRun setting k next
+  tableRun setting (again zero a k) memory = do
+    next ← tableRun setting a memory
+    tableRun setting k next
+  tableRun setting (again (suc m) a k) memory = do
+    next ← tableRun setting a memory
+    tableRun setting (again m a k) next
