@@ -13,3 +13,8 @@ pub mod OpenRepeats
 pub mod JumpsRight
 pub mod JumpPass
 pub mod TableHeld
+pub mod OpenedLaws
+pub mod LineLaws
+pub mod StraightLaws
+pub mod CrossLaws
+pub mod RunLaws

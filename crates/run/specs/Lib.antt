@@ -10,3 +10,4 @@ pub mod Buffers
 pub mod RowWords
 pub mod Runnable
 pub mod JumpsFound
+pub mod RunsRows

@@ -1,10 +1,14 @@
-// The runners. So far the code of single rows of the row machine, in both arithmetics; the loop over them comes later.
-// Every contract says what the row's written meaning (specs/Actions.antt) makes of the buffers (specs/Buffers.antt), and no place is asked
-// for: one that is not there answers Stuck.
+// The runners: the code of each single row, a row as one step of the row machine, and a run of a table's rows, in both arithmetics.
+// A row's contract says what its written meaning (specs/Actions.antt) makes of the buffers (specs/Buffers.antt), and a run's that it is the
+// machine's (specs/RunsRows.antt). No place is asked for: one that is not there answers Stuck.
+pub mod blocks;
 pub mod doubles;
 pub mod jumps;
+pub mod places;
 pub mod residues;
 pub mod turns;
+
+use sheet::RowNumber;
 
 // A right side in residues, which nothing stops.
 pub enum ResidueRead {
@@ -48,5 +52,36 @@ pub enum Branch {
 pub enum Branched {
     First(usize),
     Second(usize),
+    Stuck,
+}
+
+// Where a run is: its row, how many repeats are open, the heights of both stacks, and how many steps are left.
+pub struct Place {
+    pub at: usize,
+    pub depth: usize,
+    pub values: usize,
+    pub turns: usize,
+    pub left: usize,
+}
+
+// What a straight row comes to: the place after it. `Block` is the answer where no straight row stands.
+pub enum Acted {
+    On(Place),
+    Block,
+    Stopped,
+    Stuck,
+}
+
+// What a row of a block comes to: the place after it. `Over` is the answer past the last row.
+pub enum Crossed {
+    On(Place),
+    Over,
+    Stuck,
+}
+
+// What a run comes to. Stuck stands for a stuck machine and for one that is out of steps.
+pub enum Ended {
+    Finished,
+    Stopped(RowNumber),
     Stuck,
 }

@@ -1,4 +1,5 @@
 // Single rows of the row machine in residues.
+ghost use Prim.Native.Nat.{suc};
 ghost use mathlib.Core.Bool.{cond};
 ghost use mathlib.Core.Path.{_≡_};
 ghost use Rattle.number.specs.Residues.{residues};
@@ -6,21 +7,42 @@ ghost use Rattle.sheet.specs.Rows.{copy, sum, difference, product, negation, is
 ghost use Rattle.run.specs.Answers.{readResidue, whetherWent, branchOf};
 ghost use Rattle.run.specs.Buffers.{Evaluates, EvaluatesFixed, Assigns, Clears, Saves, TakesBack, Compares, TurnsRound};
 ghost use Rattle.run.specs.RowWords.{EvaluatesWords, AssignsWords};
+use super::Acted;
+use super::Crossed;
+use super::Ended;
+use super::Place;
+use super::blocks::branch_to;
+use super::blocks::cross;
+use super::places::first_place;
+use super::places::following;
+use super::places::is_of_block;
+use super::places::turns_to;
+use super::places::values_to;
+use super::places::went_to;
+use super::turns::save_turn;
+use sheet::MAX_DEPTH;
+use sheet::RowNumber;
+use sheet::RowWords;
+use sheet::row_words;
+ghost use Rattle.sheet.specs.Answers.{rowSaid};
+ghost use Rattle.run.specs.RunsRows.{cellsOf, ActsBy, StraightRow, BlockRow, RunsRows, ActedLeft, CrossedLeft};
 use super::Branch;
 use super::Moved;
 use super::ResidueRead;
 use super::Went;
 use number::constant;
 use number::residue;
+use sheet::Variable;
 use sheet::is_dependent;
 use sheet::kinds;
 
 // Kind 1.
-pub fn copied(vals: &[u32], a: usize) -> ResidueRead
-    ensures { λ r. ⌜ Evaluates residues (copy a) (now (vals .entry)) (readResidue r) ⌝ }
+pub fn copied(vals: &[u32], a: Variable) -> ResidueRead
+    ensures { λ r. ⌜ Evaluates residues (copy (a .0)) (now (vals .entry)) (readResidue r) ⌝ }
 {
-    if a < vals.len() {
-        ResidueRead::Is(vals[a])
+    let first = a.0;
+    if first < vals.len() {
+        ResidueRead::Is(vals[first])
     } else {
         ResidueRead::Stuck
     }
@@ -38,50 +60,57 @@ pub fn fixed(constants: &[u16], c: usize) -> ResidueRead
 }
 
 // Kind 3.
-pub fn added(vals: &[u32], a: usize, b: usize) -> ResidueRead
-    ensures { λ r. ⌜ Evaluates residues (sum a b) (now (vals .entry)) (readResidue r) ⌝ }
+pub fn added(vals: &[u32], a: Variable, b: Variable) -> ResidueRead
+    ensures { λ r. ⌜ Evaluates residues (sum (a .0) (b .0)) (now (vals .entry)) (readResidue r) ⌝ }
 {
-    if vals.len() <= a {
+    let first = a.0;
+    let second = b.0;
+    if vals.len() <= first {
         return ResidueRead::Stuck;
     }
-    if vals.len() <= b {
+    if vals.len() <= second {
         return ResidueRead::Stuck;
     }
-    ResidueRead::Is(residue::sum(vals[a], vals[b]))
+    ResidueRead::Is(residue::sum(vals[first], vals[second]))
 }
 
 // Kind 4.
-pub fn subtracted(vals: &[u32], a: usize, b: usize) -> ResidueRead
-    ensures { λ r. ⌜ Evaluates residues (difference a b) (now (vals .entry)) (readResidue r) ⌝ }
+pub fn subtracted(vals: &[u32], a: Variable, b: Variable) -> ResidueRead
+    ensures { λ r. ⌜ Evaluates residues (difference (a .0) (b .0)) (now (vals .entry)) (readResidue r) ⌝ }
 {
-    if vals.len() <= a {
+    let first = a.0;
+    let second = b.0;
+    if vals.len() <= first {
         return ResidueRead::Stuck;
     }
-    if vals.len() <= b {
+    if vals.len() <= second {
         return ResidueRead::Stuck;
     }
-    ResidueRead::Is(residue::difference(vals[a], vals[b]))
+    ResidueRead::Is(residue::difference(vals[first], vals[second]))
 }
 
 // Kind 5.
-pub fn multiplied(vals: &[u32], a: usize, b: usize) -> ResidueRead
-    ensures { λ r. ⌜ Evaluates residues (product a b) (now (vals .entry)) (readResidue r) ⌝ }
+pub fn multiplied(vals: &[u32], a: Variable, b: Variable) -> ResidueRead
+    ensures { λ r. ⌜ Evaluates residues (product (a .0) (b .0)) (now (vals .entry)) (readResidue r) ⌝ }
 {
-    if vals.len() <= a {
+    let first = a.0;
+    let second = b.0;
+    if vals.len() <= first {
         return ResidueRead::Stuck;
     }
-    if vals.len() <= b {
+    if vals.len() <= second {
         return ResidueRead::Stuck;
     }
-    ResidueRead::Is(residue::product(vals[a], vals[b]))
+    ResidueRead::Is(residue::product(vals[first], vals[second]))
 }
 
 // Kind 6.
-pub fn negated(vals: &[u32], a: usize) -> ResidueRead
-    ensures { λ r. ⌜ Evaluates residues (negation a) (now (vals .entry)) (readResidue r) ⌝ }
+pub fn negated(vals: &[u32], a: Variable) -> ResidueRead
+    ensures { λ r. ⌜ Evaluates residues (negation (a .0)) (now (vals .entry)) (readResidue r) ⌝ }
 {
-    if a < vals.len() {
-        ResidueRead::Is(residue::negation(vals[a]))
+    let first = a.0;
+    if first < vals.len() {
+        ResidueRead::Is(residue::negation(vals[first]))
     } else {
         ResidueRead::Stuck
     }
@@ -92,85 +121,89 @@ pub fn evaluate(kind: u16, a: usize, b: usize, constants: &[u16], vals: &[u32]) 
     ensures { λ r. ⌜ EvaluatesWords residues kind a b (now (constants .entry)) (now (vals .entry)) (readResidue r) ⌝ }
 {
     if kind == kinds::COPY {
-        return copied(vals, a);
+        return copied(vals, Variable(a));
     }
     if kind == kinds::CONSTANT {
         return fixed(constants, a);
     }
     if kind == kinds::SUM {
-        return added(vals, a, b);
+        return added(vals, Variable(a), Variable(b));
     }
     if kind == kinds::DIFFERENCE {
-        return subtracted(vals, a, b);
+        return subtracted(vals, Variable(a), Variable(b));
     }
     if kind == kinds::PRODUCT {
-        return multiplied(vals, a, b);
+        return multiplied(vals, Variable(a), Variable(b));
     }
     if kind == kinds::NEGATION {
-        return negated(vals, a);
+        return negated(vals, Variable(a));
     }
     ResidueRead::Stuck
 }
 
 // Kinds 1 to 6, from what the right side came to.
-fn assign(vals: &mut [u32], d: usize, read: ResidueRead) -> Went
-    ensures { λ r. ⌜ Assigns residues d (readResidue read) (now (vals .entry)) (now (vals .exit)) (whetherWent r) ⌝ }
+fn assign(vals: &mut [u32], d: Variable, read: ResidueRead) -> Went
+    ensures { λ r. ⌜ Assigns residues (d .0) (readResidue read) (now (vals .entry)) (now (vals .exit)) (whetherWent r) ⌝ }
 {
+    let to = d.0;
     let ResidueRead::Is(x) = read else {
         return Went::Stuck;
     };
-    if vals.len() <= d {
+    if vals.len() <= to {
         return Went::Stuck;
     }
-    vals[d] = x;
+    vals[to] = x;
     Went::On
 }
 
 // A row of kinds 1 to 6.
 pub fn assign_words(
     kind: u16,
-    d: usize,
+    d: Variable,
     a: usize,
     b: usize,
     constants: &[u16],
     vals: &mut [u32],
 ) -> Went
-    ensures { λ r. ⌜ AssignsWords residues kind d a b (now (constants .entry)) (now (vals .entry)) (now (vals .exit)) (whetherWent r) ⌝ }
+    ensures { λ r. ⌜ AssignsWords residues kind (d .0) a b (now (constants .entry)) (now (vals .entry)) (now (vals .exit)) (whetherWent r) ⌝ }
 {
     let read = evaluate(kind, a, b, constants, vals);
     assign(vals, d, read)
 }
 
 // Kind 16.
-pub fn clear(vals: &mut [u32], d: usize) -> Went
-    ensures { λ r. ⌜ Clears residues d (now (vals .entry)) (now (vals .exit)) (whetherWent r) ⌝ }
+pub fn clear(vals: &mut [u32], d: Variable) -> Went
+    ensures { λ r. ⌜ Clears residues (d .0) (now (vals .entry)) (now (vals .exit)) (whetherWent r) ⌝ }
 {
-    if vals.len() <= d {
+    let to = d.0;
+    if vals.len() <= to {
         return Went::Stuck;
     }
-    vals[d] = 0;
+    vals[to] = 0;
     Went::On
 }
 
 // Kind 12.
-pub fn save(vals: &[u32], d: usize, values: &mut [u32], height: usize) -> Moved
-    ensures { λ r. ⌜ Saves residues d (now (vals .entry)) (now (values .entry)) height (now (values .exit)) r ⌝ }
+pub fn save(vals: &[u32], d: Variable, values: &mut [u32], height: usize) -> Moved
+    ensures { λ r. ⌜ Saves residues (d .0) (now (vals .entry)) (now (values .entry)) height (now (values .exit)) r ⌝ }
 {
-    if vals.len() <= d {
+    let from = d.0;
+    if vals.len() <= from {
         return Moved::Stuck;
     }
     if values.len() <= height {
         return Moved::Stuck;
     }
-    values[height] = vals[d];
+    values[height] = vals[from];
     Moved::To(height + 1)
 }
 
 // Kind 13. The place that is taken back is cleared, so that a stack's cells above its height are zeros always.
-pub fn take_back(vals: &mut [u32], d: usize, values: &mut [u32], height: usize) -> Moved
-    ensures { λ r. ⌜ TakesBack residues d (now (vals .entry)) (now (values .entry)) height (now (vals .exit)) (now (values .exit)) r ⌝ }
+pub fn take_back(vals: &mut [u32], d: Variable, values: &mut [u32], height: usize) -> Moved
+    ensures { λ r. ⌜ TakesBack residues (d .0) (now (vals .entry)) (now (values .entry)) height (now (vals .exit)) (now (values .exit)) r ⌝ }
 {
-    if vals.len() <= d {
+    let to = d.0;
+    if vals.len() <= to {
         return Moved::Stuck;
     }
     if height == 0 {
@@ -181,22 +214,24 @@ pub fn take_back(vals: &mut [u32], d: usize, values: &mut [u32], height: usize) 
         return Moved::Stuck;
     }
     let x = values[top];
-    vals[d] = x;
+    vals[to] = x;
     values[top] = 0;
     Moved::To(top)
 }
 
 // Kind 7.
-pub fn test(vals: &[u32], a: usize, b: usize) -> Branch
-    ensures { λ r. ⌜ Compares residues a b (now (vals .entry)) (branchOf r) ⌝ }
+pub fn test(vals: &[u32], a: Variable, b: Variable) -> Branch
+    ensures { λ r. ⌜ Compares residues (a .0) (b .0) (now (vals .entry)) (branchOf r) ⌝ }
 {
-    if vals.len() <= a {
+    let first = a.0;
+    let second = b.0;
+    if vals.len() <= first {
         return Branch::Stuck;
     }
-    if vals.len() <= b {
+    if vals.len() <= second {
         return Branch::Stuck;
     }
-    if residue::less(vals[a], vals[b]) {
+    if residue::less(vals[first], vals[second]) {
         Branch::First
     } else {
         Branch::Second
@@ -232,4 +267,183 @@ pub fn turn_round(roles: &[u16], seeds: &[u32], vals: &mut [u32], copied: &mut [
         i += 1;
     }
     Went::On
+}
+
+// A straight row. `next` is the place of the row after it.
+fn act(
+    row: RowWords,
+    roles: &[u16],
+    constants: &[u16],
+    seeds: &[u32],
+    vals: &mut [u32],
+    values: &mut [u32],
+    turns: &mut [u16],
+    copied: &mut [u32],
+    next: Place,
+) -> Acted
+    ensures { λ r. ⌜ ActsBy residues (rowSaid row) (now (roles .entry)) (now (constants .entry)) (now (seeds .entry)) next
+        (cellsOf residues (now (vals .entry)) (now (values .entry)) (now (turns .entry)) (now (copied .entry)))
+        (cellsOf residues (now (vals .exit)) (now (values .exit)) (now (turns .exit)) (now (copied .exit))) r
+        × ActedLeft (suc (next .left)) r ⌝ }
+{
+    let kind = row.kind;
+    let d = row.d as usize;
+    if kind == table::kinds::SAVE {
+        return values_to(save(vals, Variable(d), values, next.values), next);
+    }
+    if kind == table::kinds::TAKE_BACK {
+        return values_to(take_back(vals, Variable(d), values, next.values), next);
+    }
+    if kind == table::kinds::SAVE_TURN {
+        return turns_to(save_turn(row.a, turns, next.turns), next);
+    }
+    if kind == table::kinds::CLEAR {
+        return went_to(clear(vals, Variable(d)), next);
+    }
+    if kind == table::kinds::TURN_ROUND {
+        return went_to(turn_round(roles, seeds, vals, copied), next);
+    }
+    let a = row.a as usize;
+    let b = row.b as usize;
+    went_to(assign_words(kind, Variable(d), a, b, constants, vals), next)
+}
+
+// The straight row at a place, if one stands there.
+fn straight_row(
+    table: &[u16],
+    rows: usize,
+    roles: &[u16],
+    constants: &[u16],
+    seeds: &[u32],
+    vals: &mut [u32],
+    values: &mut [u32],
+    turns: &mut [u16],
+    copied: &mut [u32],
+    place: Place,
+) -> Acted
+    ensures { λ r. ⌜ StraightRow residues (now (table .entry)) rows (now (roles .entry)) (now (constants .entry)) (now (seeds .entry)) place
+        (cellsOf residues (now (vals .entry)) (now (values .entry)) (now (turns .entry)) (now (copied .entry)))
+        (cellsOf residues (now (vals .exit)) (now (values .exit)) (now (turns .exit)) (now (copied .exit))) r
+        × ActedLeft (place .left) r ⌝ }
+{
+    let at = place.at;
+    if rows <= at {
+        return Acted::Block;
+    }
+    let row = row_words(table, 1, RowNumber(at));
+    if is_of_block(row.kind) {
+        return Acted::Block;
+    }
+    let left = place.left;
+    if left == 0 {
+        return Acted::Stuck;
+    }
+    let next = following(place, at + 1, left - 1);
+    act(
+        row,
+        roles,
+        constants,
+        seeds,
+        vals,
+        values,
+        turns,
+        copied,
+        next,
+    )
+}
+
+// The row of a block at a place, or the end.
+fn block_row(
+    table: &[u16],
+    rows: usize,
+    beyond: &[u16],
+    vals: &[u32],
+    turns: &mut [u16],
+    bodies: &mut [usize; MAX_DEPTH],
+    to_come: &mut [u16; MAX_DEPTH],
+    place: Place,
+) -> Crossed
+    ensures { λ r. ⌜ BlockRow residues (now (table .entry)) rows (now (beyond .entry)) place (now (vals .entry))
+        (now (turns .entry)) (now (bodies .entry)) (now («to_come» .entry)) (now (turns .exit)) (now (bodies .exit)) (now («to_come» .exit)) r
+        × CrossedLeft (place .left) r ⌝ }
+{
+    let at = place.at;
+    let left = place.left;
+    if left == 0 {
+        return Crossed::Stuck;
+    }
+    if rows <= at {
+        return Crossed::Over;
+    }
+    let row = row_words(table, 1, RowNumber(at));
+    let next = following(place, at + 1, left - 1);
+    if row.kind == kinds::IF {
+        let a = row.a as usize;
+        let b = row.b as usize;
+        return branch_to(
+            test(vals, Variable(a), Variable(b)),
+            beyond,
+            RowNumber(at),
+            next,
+        );
+    }
+    cross(row, beyond, RowNumber(at), next, turns, bodies, to_come)
+}
+
+// One run of a table's rows. A result that isn't finite, or a row that can't be done, leaves both loops at once.
+pub fn run_rows(
+    table: &[u16],
+    rows: usize,
+    beyond: &[u16],
+    roles: &[u16],
+    constants: &[u16],
+    seeds: &[u32],
+    vals: &mut [u32],
+    values: &mut [u32],
+    turns: &mut [u16],
+    copied: &mut [u32],
+    steps: usize,
+) -> Ended
+    ensures { λ r. ⌜ RunsRows residues (now (table .entry)) rows (now (beyond .entry)) (now (roles .entry)) (now (constants .entry)) (now (seeds .entry)) steps
+        (cellsOf residues (now (vals .entry)) (now (values .entry)) (now (turns .entry)) (now (copied .entry)))
+        (cellsOf residues (now (vals .exit)) (now (values .exit)) (now (turns .exit)) (now (copied .exit))) r ⌝ }
+{
+    let mut bodies = [0usize; MAX_DEPTH];
+    let mut to_come = [0u16; MAX_DEPTH];
+    let mut place = first_place(steps);
+    'run: loop {
+        loop {
+            match straight_row(
+                table,
+                rows,
+                roles,
+                constants,
+                seeds,
+                vals,
+                values,
+                turns,
+                copied,
+                place,
+            ) {
+                Acted::On(next) => place = next,
+                Acted::Block => break,
+                Acted::Stopped => break 'run Ended::Stopped(RowNumber(place.at)),
+                Acted::Stuck => break 'run Ended::Stuck,
+            }
+        }
+        match block_row(
+            table,
+            rows,
+            beyond,
+            vals,
+            turns,
+            &mut bodies,
+            &mut to_come,
+            place,
+        ) {
+            Crossed::On(next) => place = next,
+            Crossed::Over => break 'run Ended::Finished,
+            Crossed::Stuck => break 'run Ended::Stuck,
+        }
+    }
 }

@@ -13,7 +13,7 @@ returns : tie.Need-returns
 returns c =
     let args = c .before .before .before .before .args in
     let x = c .before .before .read .given .0 .0 in
-    rw (c .before .before .read .given .1) (assign-nowhere doubles (args .d) (args .vals .now) x (c .if1 .taken))
+    rw (c .before .before .read .given .1) (assign-nowhere doubles (args .d .0) (args .vals .now) x (c .if1 .taken))
 
 mul-vals : tie.Need-mul-vals
 mul-vals c = search needs
@@ -28,7 +28,7 @@ returns-2 : tie.Need-returns-2
 returns-2 c =
     let args = c .before .before .before .before .args in
     let x = c .before .before .read .given .0 .0 in
-    rw (c .before .before .read .given .1) (assign-goes doubles (args .d) (args .vals .now) x (c .if1 .left))
+    rw (c .before .before .read .given .1) (assign-goes doubles (args .d .0) (args .vals .now) x (c .if1 .left))
 
 enum-told : tie.Need-enum-told
 enum-told c = search needs
@@ -36,7 +36,7 @@ enum-told c = search needs
 returns-3 : tie.Need-returns-3
 returns-3 c =
     let args = c .before .before .args in
-    rw (c .enum-told .given .1) (assign-stops doubles (args .d) (args .vals .now) notFinite)
+    rw (c .enum-told .given .1) (assign-stops doubles (args .d .0) (args .vals .now) notFinite)
 
 enum-told-2 : tie.Need-enum-told-2
 enum-told-2 c = search needs
@@ -44,7 +44,7 @@ enum-told-2 c = search needs
 returns-4 : tie.Need-returns-4
 returns-4 c =
     let args = c .before .before .args in
-    rw (c .enum-told2 .given .1) (assign-sticks doubles (args .d) (args .vals .now))
+    rw (c .enum-told2 .given .1) (assign-sticks doubles (args .d .0) (args .vals .now))
 
 pub assign-spec : {M : Type 1} → statement M
 assign-spec =

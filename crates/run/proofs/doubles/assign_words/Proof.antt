@@ -20,7 +20,7 @@ returns c =
     let args = c .before .before .before .before .before .before .before .before .args in
     let evaluated = c .before .before .before .before .evaluate in
     let assigned = c .before .before .assign in
-    words-assigned doubles (args .kind) (args .d) (args .a) (args .b) (args .constants .now) (args .vals .now) (assigned .last .0)
+    words-assigned doubles (args .kind) (args .d .0) (args .a) (args .b) (args .constants .now) (args .vals .now) (assigned .last .0)
     (readDouble (evaluated .result))
     (whetherDid (assigned .result))
     (evaluated .ensures)

@@ -8,7 +8,7 @@ use Rattle.run.proofs.doubles.clear.Tie as tie
 returns : tie.Need-returns
 returns c =
     let args = c .before .before .args in
-    clear-nowhere doubles (args .d) (args .vals .now) (c .if1 .taken)
+    clear-nowhere doubles (args .d .0) (args .vals .now) (c .if1 .taken)
 
 zero-requires : tie.Need-zero-requires
 zero-requires c κs = search needs
@@ -25,7 +25,7 @@ same-length c = search needs
 returns-2 : tie.Need-returns-2
 returns-2 c =
     let args = c .before .before .before .args in
-    rw (c .zero .ensures) (clear-goes doubles (args .d) (args .vals .now) (c .before .if1 .left))
+    rw (c .zero .ensures) (clear-goes doubles (args .d .0) (args .vals .now) (c .before .if1 .left))
 
 pub clear-spec : {M : Type 1} → statement M
 clear-spec =

@@ -7,23 +7,23 @@ use borrow.Author.Needs.{needs}
 use Rattle.run.proofs.doubles.copied.Statement.{statement}
 use Rattle.run.proofs.doubles.copied.Tie as tie
 
-mul-t6 : tie.Need-mul-t6
-mul-t6 c = search needs
+mul-t7 : tie.Need-mul-t7
+mul-t7 c = search needs
 
-shared-slice-read-t8 : tie.Need-shared-slice-read-t8
-shared-slice-read-t8 c = search needs
+shared-slice-read-t9 : tie.Need-shared-slice-read-t9
+shared-slice-read-t9 c = search needs
 
 returns : tie.Need-returns
 unfolding evaluated
 returns c constants =
     let args = c .before .before .args in
-    sym (look-there (args .vals .now) (args .a) nan (c .before .if1 .taken))
+    sym (look-there (args .vals .now) (args .a .0) nan (c .before .if1 .taken))
 
 returns-2 : tie.Need-returns-2
 unfolding evaluated
 returns-2 c constants =
     let args = c .before .args in
-    sym (look-missing (args .vals .now) (args .a) (c .if1 .left))
+    sym (look-missing (args .vals .now) (args .a .0) (c .if1 .left))
 
 pub copied-spec : {M : Type 1} → statement M
-copied-spec = tie.close (tie.spec mul-t6 shared-slice-read-t8 returns returns-2)
+copied-spec = tie.close (tie.spec mul-t7 shared-slice-read-t9 returns returns-2)

@@ -13,13 +13,13 @@ returns : tie.Need-returns
 unfolding evaluated
 returns c constants =
     let args = c .before .before .args in
-    first-missing (args .vals .now) (λ x y. whole (doubles .product x y)) (args .a) (args .b) (c .if1 .taken)
+    first-missing (args .vals .now) (λ x y. whole (doubles .product x y)) (args .a .0) (args .b .0) (c .if1 .taken)
 
 returns-2 : tie.Need-returns-2
 unfolding evaluated
 returns-2 c constants =
     let args = c .before .before .before .args in
-    second-missing (args .vals .now) (λ x y. whole (doubles .product x y)) (args .a) (args .b) nan (c .before .if1 .left) (c .if2 .taken)
+    second-missing (args .vals .now) (λ x y. whole (doubles .product x y)) (args .a .0) (args .b .0) nan (c .before .if1 .left) (c .if2 .taken)
 
 mul-product : tie.Need-mul-product
 mul-product c = search needs
@@ -45,7 +45,7 @@ returns-3 c constants =
     let args = c .before .before .before .before .before .before .before .args in
     c .read-of .ensures
     ∙ ap whole (c .before .product .ensures)
-    ∙ operands-there (args .vals .now) (λ x y. whole (doubles .product x y)) (args .a) (args .b) nan
+    ∙ operands-there (args .vals .now) (λ x y. whole (doubles .product x y)) (args .a .0) (args .b .0) nan
     (c .before .before .before .before .before .if1 .left)
     (c .before .before .before .before .if2 .left)
 

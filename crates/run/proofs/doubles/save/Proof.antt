@@ -9,12 +9,12 @@ use Rattle.run.proofs.doubles.save.Tie as tie
 returns : tie.Need-returns
 returns c =
     let args = c .before .args in
-    save-nowhere doubles (args .d) (args .vals .now) (args .values .now) (args .height) (c .if1 .taken)
+    save-nowhere doubles (args .d .0) (args .vals .now) (args .values .now) (args .height) (c .if1 .taken)
 
 returns-2 : tie.Need-returns-2
 returns-2 c =
     let args = c .before .before .args in
-    save-full doubles (args .d) (args .vals .now) (args .values .now) (args .height) nan (c .before .if1 .left) (c .if2 .taken)
+    save-full doubles (args .d .0) (args .vals .now) (args .values .now) (args .height) nan (c .before .if1 .left) (c .if2 .taken)
 
 mul-values : tie.Need-mul-values
 mul-values c = search needs
@@ -28,8 +28,8 @@ mul-values-2 c = search needs
 slice-write-values : tie.Need-slice-write-values
 slice-write-values c = search needs
 
-add-t5 : tie.Need-add-t5
-add-t5 c = search needs
+add-t6 : tie.Need-add-t6
+add-t6 c = search needs
 
 same-length : tie.Need-same-length
 same-length c = search needs
@@ -37,7 +37,7 @@ same-length c = search needs
 returns-3 : tie.Need-returns-3
 returns-3 c =
     let args = c .before .before .before .args in
-    save-goes doubles (args .d) (args .vals .now) (args .values .now) (args .height) nan (c .before .before .if1 .left) (c .before .if2 .left)
+    save-goes doubles (args .d .0) (args .vals .now) (args .values .now) (args .height) nan (c .before .before .if1 .left) (c .before .if2 .left)
 
 pub save-spec : {M : Type 1} → statement M
 save-spec =
@@ -49,6 +49,6 @@ save-spec =
     shared-slice-read-values
     mul-values-2
     slice-write-values
-    add-t5
+    add-t6
     same-length
     returns-3)

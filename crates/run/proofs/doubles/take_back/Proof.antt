@@ -12,12 +12,12 @@ use Rattle.run.proofs.doubles.take_back.Tie as tie
 returns : tie.Need-returns
 returns c =
     let args = c .before .before .before .args in
-    take-back-nowhere doubles (args .d) (args .vals .now) (args .values .now) (args .height) (c .if1 .taken)
+    take-back-nowhere doubles (args .d .0) (args .vals .now) (args .values .now) (args .height) (c .if1 .taken)
 
 returns-2 : tie.Need-returns-2
 returns-2 c =
     let args = c .before .before .before .before .args in
-    take-back-empty doubles (args .d) (args .vals .now) (args .values .now) (args .height) (c .if2 .taken)
+    take-back-empty doubles (args .d .0) (args .vals .now) (args .values .now) (args .height) (c .if2 .taken)
 
 sub-top : tie.Need-sub-top
 sub-top c = search needs
@@ -26,7 +26,7 @@ returns-3 : tie.Need-returns-3
 returns-3 c =
     let args = c .before .before .before .before .before .args in
     let some : args .height ≡ suc (args .height - 1) = omega (arith, c .before .if2 .left) in
-    take-back-above doubles (args .d) (args .vals .now) (args .values .now) (args .height) (args .height - 1) some (c .if3 .taken)
+    take-back-above doubles (args .d .0) (args .vals .now) (args .values .now) (args .height) (args .height - 1) some (c .if3 .taken)
 
 mul-x : tie.Need-mul-x
 mul-x c = search needs
@@ -60,7 +60,7 @@ returns-4 c =
     let args = c .before .before .before .before .before .before .before .args in
     let some : args .height ≡ suc (args .height - 1) = omega (arith, c .before .before .before .if2 .left) in
     rw (c .zero .ensures)
-    (take-back-goes doubles (args .d) (args .vals .now) (args .values .now) (args .height) (args .height - 1) nan some
+    (take-back-goes doubles (args .d .0) (args .vals .now) (args .values .now) (args .height) (args .height - 1) nan some
     (c .before .before .before .before .if1 .left)
     (c .before .before .if3 .left))
 

@@ -11,12 +11,12 @@ use Rattle.run.proofs.doubles.test.Tie as tie
 returns : tie.Need-returns
 returns c =
     let args = c .before .before .args in
-    compare-first-missing doubles (args .a) (args .b) (args .vals .now) (c .if1 .taken)
+    compare-first-missing doubles (args .a .0) (args .b .0) (args .vals .now) (c .if1 .taken)
 
 returns-2 : tie.Need-returns-2
 returns-2 c =
     let args = c .before .before .before .args in
-    compare-second-missing doubles (args .a) (args .b) (args .vals .now) nan (c .before .if1 .left) (c .if2 .taken)
+    compare-second-missing doubles (args .a .0) (args .b .0) (args .vals .now) nan (c .before .if1 .left) (c .if2 .taken)
 
 mul-less : tie.Need-mul-less
 mul-less c = search needs
@@ -36,7 +36,7 @@ less-requires c κs = search needs
 returns-3 : tie.Need-returns-3
 returns-3 c =
     let args = c .before .before .before .before .before .before .before .args in
-    compare-goes doubles (args .a) (args .b) (args .vals .now) nan true
+    compare-goes doubles (args .a .0) (args .b .0) (args .vals .now) nan true
     (c .before .before .before .before .before .if1 .left)
     (c .before .before .before .before .if2 .left)
     (sym (c .before .less .ensures) ∙ c .if3 .taken)
@@ -44,7 +44,7 @@ returns-3 c =
 returns-4 : tie.Need-returns-4
 returns-4 c =
     let args = c .before .before .before .before .before .before .before .args in
-    compare-goes doubles (args .a) (args .b) (args .vals .now) nan false
+    compare-goes doubles (args .a .0) (args .b .0) (args .vals .now) nan false
     (c .before .before .before .before .before .if1 .left)
     (c .before .before .before .before .if2 .left)
     (sym (c .before .less .ensures) ∙ c .if3 .left)

@@ -12,13 +12,13 @@ returns : tie.Need-returns
 unfolding evaluated
 returns c constants =
     let args = c .before .before .args in
-    first-missing (args .vals .now) (λ x y. whole (residues .sum x y)) (args .a) (args .b) (c .if1 .taken)
+    first-missing (args .vals .now) (λ x y. whole (residues .sum x y)) (args .a .0) (args .b .0) (c .if1 .taken)
 
 returns-2 : tie.Need-returns-2
 unfolding evaluated
 returns-2 c constants =
     let args = c .before .before .before .args in
-    second-missing (args .vals .now) (λ x y. whole (residues .sum x y)) (args .a) (args .b) 0 (c .before .if1 .left) (c .if2 .taken)
+    second-missing (args .vals .now) (λ x y. whole (residues .sum x y)) (args .a .0) (args .b .0) 0 (c .before .if1 .left) (c .if2 .taken)
 
 mul-sum : tie.Need-mul-sum
 mul-sum c = search needs
@@ -40,7 +40,7 @@ unfolding evaluated
 returns-3 c constants =
     let args = c .before .before .before .before .before .before .args in
     ap whole (c .sum .ensures)
-    ∙ operands-there (args .vals .now) (λ x y. whole (residues .sum x y)) (args .a) (args .b) 0
+    ∙ operands-there (args .vals .now) (λ x y. whole (residues .sum x y)) (args .a .0) (args .b .0) 0
     (c .before .before .before .before .if1 .left)
     (c .before .before .before .if2 .left)
 

@@ -20,13 +20,13 @@ enum-told c = search needs
 returns : tie.Need-returns
 returns c =
     let args = c .before .before .args in
-    rw (c .enum-told .given .1) (assign-sticks residues (args .d) (args .vals .now))
+    rw (c .enum-told .given .1) (assign-sticks residues (args .d .0) (args .vals .now))
 
 returns-2 : tie.Need-returns-2
 returns-2 c =
     let args = c .before .before .before .before .args in
     let x = c .before .before .read .given .0 .0 in
-    rw (c .before .before .read .given .1) (assign-nowhere residues (args .d) (args .vals .now) x (c .if1 .taken))
+    rw (c .before .before .read .given .1) (assign-nowhere residues (args .d .0) (args .vals .now) x (c .if1 .taken))
 
 mul-vals : tie.Need-mul-vals
 mul-vals c = search needs
@@ -41,7 +41,7 @@ returns-3 : tie.Need-returns-3
 returns-3 c =
     let args = c .before .before .before .before .args in
     let x = c .before .before .read .given .0 .0 in
-    rw (c .before .before .read .given .1) (assign-goes residues (args .d) (args .vals .now) x (c .if1 .left))
+    rw (c .before .before .read .given .1) (assign-goes residues (args .d .0) (args .vals .now) x (c .if1 .left))
 
 pub assign-spec : {M : Type 1} → statement M
 assign-spec =

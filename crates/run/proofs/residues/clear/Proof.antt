@@ -8,7 +8,7 @@ use Rattle.run.proofs.residues.clear.Tie as tie
 returns : tie.Need-returns
 returns c =
     let args = c .before .args in
-    clear-nowhere residues (args .d) (args .vals .now) (c .if1 .taken)
+    clear-nowhere residues (args .d .0) (args .vals .now) (c .if1 .taken)
 
 mul-vals : tie.Need-mul-vals
 mul-vals c = search needs
@@ -22,7 +22,7 @@ same-length c = search needs
 returns-2 : tie.Need-returns-2
 returns-2 c =
     let args = c .before .args in
-    clear-goes residues (args .d) (args .vals .now) (c .if1 .left)
+    clear-goes residues (args .d .0) (args .vals .now) (c .if1 .left)
 
 pub clear-spec : {M : Type 1} → statement M
 clear-spec = tie.close (tie.spec returns mul-vals slice-write-vals same-length returns-2)

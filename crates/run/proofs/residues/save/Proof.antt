@@ -8,12 +8,12 @@ use Rattle.run.proofs.residues.save.Tie as tie
 returns : tie.Need-returns
 returns c =
     let args = c .before .args in
-    save-nowhere residues (args .d) (args .vals .now) (args .values .now) (args .height) (c .if1 .taken)
+    save-nowhere residues (args .d .0) (args .vals .now) (args .values .now) (args .height) (c .if1 .taken)
 
 returns-2 : tie.Need-returns-2
 returns-2 c =
     let args = c .before .before .args in
-    save-full residues (args .d) (args .vals .now) (args .values .now) (args .height) 0 (c .before .if1 .left) (c .if2 .taken)
+    save-full residues (args .d .0) (args .vals .now) (args .values .now) (args .height) 0 (c .before .if1 .left) (c .if2 .taken)
 
 mul-values : tie.Need-mul-values
 mul-values c = search needs
@@ -27,8 +27,8 @@ mul-values-2 c = search needs
 slice-write-values : tie.Need-slice-write-values
 slice-write-values c = search needs
 
-add-t5 : tie.Need-add-t5
-add-t5 c = search needs
+add-t6 : tie.Need-add-t6
+add-t6 c = search needs
 
 same-length : tie.Need-same-length
 same-length c = search needs
@@ -36,7 +36,7 @@ same-length c = search needs
 returns-3 : tie.Need-returns-3
 returns-3 c =
     let args = c .before .before .before .args in
-    save-goes residues (args .d) (args .vals .now) (args .values .now) (args .height) 0 (c .before .before .if1 .left) (c .before .if2 .left)
+    save-goes residues (args .d .0) (args .vals .now) (args .values .now) (args .height) 0 (c .before .before .if1 .left) (c .before .if2 .left)
 
 pub save-spec : {M : Type 1} → statement M
 save-spec =
@@ -48,6 +48,6 @@ save-spec =
     shared-slice-read-values
     mul-values-2
     slice-write-values
-    add-t5
+    add-t6
     same-length
     returns-3)

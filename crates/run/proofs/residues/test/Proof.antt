@@ -10,12 +10,12 @@ use Rattle.run.proofs.residues.test.Tie as tie
 returns : tie.Need-returns
 returns c =
     let args = c .before .before .args in
-    compare-first-missing residues (args .a) (args .b) (args .vals .now) (c .if1 .taken)
+    compare-first-missing residues (args .a .0) (args .b .0) (args .vals .now) (c .if1 .taken)
 
 returns-2 : tie.Need-returns-2
 returns-2 c =
     let args = c .before .before .before .args in
-    compare-second-missing residues (args .a) (args .b) (args .vals .now) 0 (c .before .if1 .left) (c .if2 .taken)
+    compare-second-missing residues (args .a .0) (args .b .0) (args .vals .now) 0 (c .before .if1 .left) (c .if2 .taken)
 
 mul-less : tie.Need-mul-less
 mul-less c = search needs
@@ -35,7 +35,7 @@ less-requires c κs = search needs
 returns-3 : tie.Need-returns-3
 returns-3 c =
     let args = c .before .before .before .before .before .before .before .args in
-    compare-goes residues (args .a) (args .b) (args .vals .now) 0 true
+    compare-goes residues (args .a .0) (args .b .0) (args .vals .now) 0 true
     (c .before .before .before .before .before .if1 .left)
     (c .before .before .before .before .if2 .left)
     (sym (c .before .less .ensures) ∙ c .if3 .taken)
@@ -43,7 +43,7 @@ returns-3 c =
 returns-4 : tie.Need-returns-4
 returns-4 c =
     let args = c .before .before .before .before .before .before .before .args in
-    compare-goes residues (args .a) (args .b) (args .vals .now) 0 false
+    compare-goes residues (args .a .0) (args .b .0) (args .vals .now) 0 false
     (c .before .before .before .before .before .if1 .left)
     (c .before .before .before .before .if2 .left)
     (sym (c .before .less .ensures) ∙ c .if3 .left)

@@ -1,0 +1,413 @@
+-- A block row's code as one step of the machine, over the arithmetic.
+use Prim.Native.Nat.{ℕ, zero, suc, pred, _+_, _*_, _≤_, _<_}
+use mathlib.Core.Path.{_≡_, refl, sym, ap, _∙_, subst}
+use mathlib.Core.Logic.{_≢_, _⊎_, inl, inr}
+use mathlib.Core.List.{List, [], _∷_}
+use mathlib.Core.Option.{Option, none, some}
+use native.Mathlib.Omega.{arith}
+use native.Mathlib.Numerals.{add-one}
+use borrow.Author.Tests.{ne-eqb}
+use lib.ListN.{length, getD, drop, drop-of-length-le}
+use Rattle.number.specs.Arithmetic.{Arithmetic}
+use Rattle.sheet.specs.Bounds.{limit}
+use Rattle.sheet.specs.Tree.{ifLine, elseLine, endIf, repeat, endRepeat}
+use Rattle.sheet.specs.Rows.{less, Row, rowOf}
+use Rattle.sheet.specs.Reading.{rowAt}
+use Rattle.table.specs.TableRows.{whether, onTurn, TableLine, tableRowOf}
+use Rattle.run.specs.Actions.{Setting, Verdict}
+use Rattle.run.specs.Answers.{branchOf}
+use Rattle.run.specs.Machine.{itsElse, itsEnd, oneMore, seek, Repeat, State, Step, step, stepAt, goTo, jump, afterTest, afterTurn}
+use Rattle.run.specs.Buffers.{memoryOf, Sound, Compares, TakesTurn}
+use Rattle.run.specs.Runnable.{Reached, Jumps}
+use Rattle.run.specs.RunsRows.{Opened, Opens, Closes, JumpsTo, BranchesTo, TurnsTo, Cells, cellsOf, buffersAt, stateAt, raised, within, moved, following, preceding, CrossedLeft, Blocked, CrossedSays, BlockRow, CrossesBy}
+use Rattle.run.specs.declared.Place.{Place}
+use Rattle.run.specs.declared.Branch.{Branch}
+use Rattle.run.specs.declared.Branch.the-variants as branch
+use Rattle.run.specs.declared.Branched.{Branched}
+use Rattle.run.specs.declared.Branched.the-variants as branched
+use Rattle.run.specs.declared.Crossed.{Crossed}
+use Rattle.run.specs.declared.Crossed.the-variants as crossed
+use Rattle.run.proofs.LineLaws.{blockOf, block-said}
+use Rattle.run.proofs.OpenedLaws.{opened-length}
+use Rattle.run.proofs.StraightLaws.{stands-there, words-there}
+
+-- ---- the steps that are left after a row
+
+pub branch-left : (beyond : List ℕ) (at : ℕ) (next : Place) (b : Branch) (answer : Crossed) → BranchesTo beyond at next b answer
+    → CrossedLeft (suc (next .left)) answer
+branch-left beyond at next branch.First answer is = rw is refl
+branch-left beyond at next branch.Second answer jumps = jumps .left
+branch-left beyond at next branch.Stuck answer is = rw is tt
+
+pub turn-left : (beyond : List ℕ) (at : ℕ) (next : Place) (b : Branched) (answer : Crossed) → TurnsTo beyond at next b answer
+    → CrossedLeft (suc (next .left)) answer
+turn-left beyond at next (branched.First height) answer is = rw is refl
+turn-left beyond at next (branched.Second height) answer jumps = jumps .left
+turn-left beyond at next branched.Stuck answer is = rw is tt
+
+-- ---- where a jump's code goes
+
+pub jump-goes : (beyond : List ℕ) (at : ℕ) (next to : Place) → to ≡ moved next (getD beyond at 0) → JumpsTo beyond at next (crossed.On to)
+jump-goes beyond at next to is = record { there = λ _. ap crossed.On is; left = ap (λ (p : Place). suc (p .left)) is }
+
+pub jump-nowhere : (beyond : List ℕ) (at : ℕ) (next : Place) → length beyond ≤ at → JumpsTo beyond at next crossed.Stuck
+jump-nowhere beyond at next h = record { there = λ here. absurd (omega arith); left = tt }
+
+-- ---- a jump goes on by at least one row, so the list of jumps has a number for it
+
+one-more-some : (o : Option ℕ) (far : ℕ) → oneMore o ≡ some far → 0 < far
+one-more-some none far is = let z : _≡_ {A = ℕ} 0 1 = cc in absurd (omega arith)
+one-more-some (some n) far is = let same : suc n ≡ far = cc in omega arith
+
+listed : (l : List ℕ) (i : ℕ) → 0 < getD l i 0 → i < length l
+listed [] i h = absurd (omega arith)
+listed (x ∷ l) zero h = omega arith
+listed (x ∷ l) (suc i) h = let later = listed l i h in omega arith
+
+room-or-full : (n m : ℕ) → (n < m) ⊎ (m ≤ n)
+room-or-full n zero = inr (omega arith)
+room-or-full zero (suc m) = inl (omega arith)
+room-or-full (suc n) (suc m) = more (room-or-full n m)
+  where
+    more : (n < m) ⊎ (m ≤ n) → (suc n < suc m) ⊎ (suc m ≤ suc n)
+    more (inl h) = inl (omega arith)
+    more (inr h) = inr (omega arith)
+
+module _ (A : Arithmetic) where
+  turn-out : (state : State A) (r : Repeat) (outer : List Repeat) → r .left ≡ 0
+      → afterTurn A state (r ∷ outer) ≡ goTo A (suc (state .at)) outer (state .memory)
+  turn-out state r outer is = rw is
+
+  turn-back : (state : State A) (r : Repeat) (n : ℕ) (outer : List Repeat) → r .left ≡ suc n
+      → afterTurn A state (r ∷ outer) ≡ goTo A (suc (r .start)) (record { start = r .start; left = n } ∷ outer) (state .memory)
+  turn-back state r n outer is = rw is
+
+  module _ (beyond : List ℕ) (at : ℕ) (next : Place) where
+    -- what is to be shown of one line
+    abbrev pub Crosses : Setting A → (line : TableLine) → (rest : List TableLine) → List Repeat → (before after : Cells A) → (held : List (A .Carrier))
+        → (bodies toCome : List ℕ) → Crossed → Type 0
+    Crosses setting line rest repeats before after held bodies toCome answer =
+        CrossedSays A setting (preceding next at) bodies toCome after held (stepAt A setting (stateAt A (preceding next at) repeats before held) (line ∷ rest))
+        answer
+
+    -- the step goes on to a place
+    goes-to : (setting : Setting A) (line : TableLine) (rest : List TableLine) (repeats : List Repeat) (before after : Cells A) (held : List (A .Carrier))
+        (bodies toCome : List ℕ) (answer : Crossed) (to : Place) (open-then : List Repeat)
+        → answer ≡ crossed.On to
+        → to .left ≡ next .left
+        → Opened (to .depth) bodies toCome open-then
+        → Sound A setting (buffersAt A to after held)
+        → stepAt A setting (stateAt A (preceding next at) repeats before held) (line ∷ rest)
+        ≡ goTo A (to .at) open-then (memoryOf A (buffersAt A to after held))
+        → Crosses setting line rest repeats before after held bodies toCome answer
+    goes-to setting line rest repeats before after held bodies toCome answer to open-then is left opened sound found =
+        subst (λ (r : Crossed). Crosses setting line rest repeats before after held bodies toCome r) (sym is)
+        (record { repeats = open-then; opened = opened; goes = record { is = found; fewer = ap suc (sym left); sound = sound } })
+
+    -- the step is stuck
+    sticks-there : (setting : Setting A) (line : TableLine) (rest : List TableLine) (repeats : List Repeat) (before after : Cells A) (held : List (A .Carrier))
+        (bodies toCome : List ℕ) (answer : Crossed)
+        → answer ≡ crossed.Stuck
+        → Blocked A (stepAt A setting (stateAt A (preceding next at) repeats before held) (line ∷ rest))
+        → Crosses setting line rest repeats before after held bodies toCome answer
+    sticks-there setting line rest repeats before after held bodies toCome answer is blocked =
+        subst (λ (r : Crossed). Crosses setting line rest repeats before after held bodies toCome r) (sym is) (inr blocked)
+
+    -- a jump over as many lines as a search finds
+    jumps-there : (setting : Setting A) (line : TableLine) (rest : List TableLine) (repeats : List Repeat) (before after : Cells A) (held : List (A .Carrier))
+        (bodies toCome : List ℕ) (answer : Crossed) (from : Place) (search-found : Option ℕ)
+        → from .left ≡ next .left
+        → Reached (oneMore search-found) at (getD beyond at 0)
+        → JumpsTo beyond at from answer
+        → Opened (from .depth) bodies toCome repeats
+        → Sound A setting (buffersAt A from after held)
+        → stepAt A setting (stateAt A (preceding next at) repeats before held) (line ∷ rest)
+        ≡ jump A (stateAt A (preceding next at) repeats before held) (memoryOf A (buffersAt A from after held)) (oneMore search-found)
+        → Crosses setting line rest repeats before after held bodies toCome answer
+    jumps-there setting line rest repeats before after held bodies toCome answer from search-found left reached jumps opened sound found =
+        let memory = memoryOf A (buffersAt A from after held) in
+        let state = stateAt A (preceding next at) repeats before held in
+        let positive = one-more-some search-found (reached .far) (reached .finds) in
+        let arrives = reached .arrives in
+        let here : at < length beyond = listed beyond at (omega arith) in
+        goes-to setting line rest repeats before after held bodies toCome answer (moved from (getD beyond at 0)) repeats (jumps .there here) left opened sound
+        (found ∙ ap (λ (o : Option ℕ). jump A state memory o) (reached .finds) ∙ ap (λ (n : ℕ). goTo A n repeats memory) (sym arrives))
+
+    -- ---- kind 7
+
+    module _ (setting : Setting A) (rest : List TableLine) (repeats : List Repeat) (a b : ℕ) (store values : List (A .Carrier)) (turns : List ℕ)
+        (copied held : List (A .Carrier)) (bodies toCome : List ℕ) (answer : Crossed) where
+      pub compare-crosses : (lines : List TableLine) (picked : Branch) → next .at ≡ suc at → drop at lines ≡ ifLine (whether (less a b)) ∷ rest
+          → Jumps lines beyond
+          → Opened (next .depth) bodies toCome repeats
+          → Sound A setting (buffersAt A next (cellsOf A store values turns copied) held)
+          → Compares A a b store (branchOf picked)
+          → BranchesTo beyond at next picked answer
+          → Crosses setting (ifLine (whether (less a b))) rest repeats (cellsOf A store values turns copied) (cellsOf A store values turns copied) held bodies
+          toCome answer
+      unfolding stepAt
+      compare-crosses lines branch.First follows here jumps opened sound compares is =
+          let cells = cellsOf A store values turns copied in
+          let tests = compares setting values (next .values) turns (next .turns) held sound in
+          goes-to setting (ifLine (whether (less a b))) rest repeats cells cells held bodies toCome answer next repeats is refl opened sound
+          (ap (λ (v : Option (Verdict A)). afterTest A (stateAt A (preceding next at) repeats cells held) rest v) (sym (tests .meaning))
+          ∙ ap (λ (n : ℕ). goTo A n repeats (memoryOf A (buffersAt A next cells held))) (sym follows))
+      compare-crosses lines branch.Second follows here jumps opened sound compares is =
+          let cells = cellsOf A store values turns copied in
+          let tests = compares setting values (next .values) turns (next .turns) held sound in
+          jumps-there setting (ifLine (whether (less a b))) rest repeats cells cells held bodies toCome answer next (seek itsElse 0 rest) refl
+          (jumps .fromIf at (whether (less a b)) rest here) is opened sound
+          (ap (λ (v : Option (Verdict A)). afterTest A (stateAt A (preceding next at) repeats cells held) rest v) (sym (tests .meaning)))
+      compare-crosses lines branch.Stuck follows here jumps opened sound compares is =
+          let cells = cellsOf A store values turns copied in
+          let tests = compares setting values (next .values) turns (next .turns) held sound in
+          let found = ap (λ (v : Option (Verdict A)). afterTest A (stateAt A (preceding next at) repeats cells held) rest v) (sym (tests .meaning)) in
+          sticks-there setting (ifLine (whether (less a b))) rest repeats cells cells held bodies toCome answer is
+          (subst (λ (s : Step A). Blocked A s) (sym found) tt)
+
+      -- ---- kind 15
+
+      pub turn-crosses : (lines : List TableLine) (picked : Branched) (turnsAfter : List ℕ) → next .at ≡ suc at → drop at lines ≡ ifLine onTurn ∷ rest
+          → Jumps lines beyond
+          → Opened (next .depth) bodies toCome repeats
+          → Sound A setting (buffersAt A next (cellsOf A store values turns copied) held)
+          → TakesTurn A turns (next .turns) turnsAfter picked
+          → TurnsTo beyond at next picked answer
+          → Crosses setting (ifLine onTurn) rest repeats (cellsOf A store values turns copied) (cellsOf A store values turnsAfter copied) held bodies toCome
+          answer
+      unfolding stepAt
+      turn-crosses lines (branched.First height) turnsAfter follows here jumps opened sound takes is =
+          let before = cellsOf A store values turns copied in
+          let after = cellsOf A store values turnsAfter copied in
+          let to = raised next (next .values) height in
+          let tests = takes setting store values (next .values) held sound in
+          goes-to setting (ifLine onTurn) rest repeats before after held bodies toCome answer to repeats is refl opened (tests .sound)
+          (ap (λ (v : Option (Verdict A)). afterTest A (stateAt A (preceding next at) repeats before held) rest v) (sym (tests .meaning))
+          ∙ ap (λ (n : ℕ). goTo A n repeats (memoryOf A (buffersAt A to after held))) (sym follows))
+      turn-crosses lines (branched.Second height) turnsAfter follows here jumps opened sound takes is =
+          let before = cellsOf A store values turns copied in
+          let after = cellsOf A store values turnsAfter copied in
+          let tests = takes setting store values (next .values) held sound in
+          jumps-there setting (ifLine onTurn) rest repeats before after held bodies toCome answer (raised next (next .values) height) (seek itsElse 0 rest) refl
+          (jumps .fromIf at onTurn rest here) is opened (tests .sound)
+          (ap (λ (v : Option (Verdict A)). afterTest A (stateAt A (preceding next at) repeats before held) rest v) (sym (tests .meaning)))
+      turn-crosses lines branched.Stuck turnsAfter follows here jumps opened sound takes is =
+          let before = cellsOf A store values turns copied in
+          let after = cellsOf A store values turnsAfter copied in
+          let tests = takes setting store values (next .values) held sound in
+          let found = ap (λ (v : Option (Verdict A)). afterTest A (stateAt A (preceding next at) repeats before held) rest v) (sym (tests .meaning)) in
+          sticks-there setting (ifLine onTurn) rest repeats before after held bodies toCome answer is (subst (λ (s : Step A). Blocked A s) (sym found) tt)
+
+    -- ---- the line that a row's words say
+
+    module _ (row : Row) (turns bodies toCome : List ℕ) where
+      crosses-as : (line : TableLine) (turnsAfter bodiesAfter toComeAfter : List ℕ) (answer : Crossed) → blockOf row ≡ some line
+          → ((setting : Setting A) (lines rest : List TableLine) (repeats : List Repeat) (store values copied held : List (A .Carrier))
+          → tableRowOf line ≡ row
+          → next .at ≡ suc at
+          → drop at lines ≡ line ∷ rest
+          → Jumps lines beyond
+          → Opened (next .depth) bodies toCome repeats
+          → next .depth ≤ limit .depth
+          → Sound A setting (buffersAt A next (cellsOf A store values turns copied) held)
+          → Crosses setting line rest repeats (cellsOf A store values turns copied) (cellsOf A store values turnsAfter copied) held bodiesAfter toComeAfter
+          answer)
+          → CrossesBy A row beyond at next turns bodies toCome turnsAfter bodiesAfter toComeAfter answer
+      crosses-as line turnsAfter bodiesAfter toComeAfter answer said crosses setting lines rest other repeats store values copied held words not-if follows here
+          jumps none-straight opened shallow sound =
+          let told : some line ≡ some other =
+          sym said
+          ∙ ap blockOf (sym words)
+          ∙ block-said other (λ basic-row is. none-straight basic-row rest (here ∙ ap (λ (l : TableLine). l ∷ rest) is)) in
+          let same : line ≡ other = cc in
+          subst
+          (λ (l : TableLine). Crosses setting l rest repeats (cellsOf A store values turns copied) (cellsOf A store values turnsAfter copied) held bodiesAfter
+            toComeAfter answer)
+          same
+          (crosses setting lines rest repeats store values copied held (ap tableRowOf same ∙ words) follows (here ∙ ap (λ (l : TableLine). l ∷ rest) (sym same))
+          jumps opened shallow sound)
+
+      pub else-crosses : (answer : Crossed) → row .kind ≡ 8 → JumpsTo beyond at next answer
+          → CrossesBy A row beyond at next turns bodies toCome turns bodies toCome answer
+      unfolding blockOf stepAt
+      else-crosses answer kind to =
+          crosses-as elseLine turns bodies toCome answer (rw kind)
+          (λ setting lines rest repeats store values copied held words follows here jumps opened shallow sound.
+            let cells = cellsOf A store values turns copied in
+            jumps-there setting elseLine rest repeats cells cells held bodies toCome answer next (seek itsEnd 0 rest) refl (jumps .fromElse at rest here) to opened sound refl)
+
+      pub end-if-crosses : row .kind ≡ 9 → CrossesBy A row beyond at next turns bodies toCome turns bodies toCome (crossed.On next)
+      unfolding blockOf stepAt
+      end-if-crosses kind =
+          crosses-as endIf turns bodies toCome (crossed.On next) (rw kind)
+          (λ setting lines rest repeats store values copied held words follows here jumps opened shallow sound.
+            let cells = cellsOf A store values turns copied in
+            goes-to setting endIf rest repeats cells cells held bodies toCome (crossed.On next) next repeats refl refl opened sound
+            (ap (λ (n : ℕ). goTo A n repeats (memoryOf A (buffersAt A next cells held))) (sym follows)))
+
+      pub repeat-crosses : (bodiesAfter toComeAfter : List ℕ) (answer : Crossed) → row .kind ≡ 10
+          → Opens (row .a) next bodies toCome bodiesAfter toComeAfter answer
+          → CrossesBy A row beyond at next turns bodies toCome turns bodiesAfter toComeAfter answer
+      unfolding blockOf stepAt tableRowOf rowOf
+      repeat-crosses bodiesAfter toComeAfter answer kind opens =
+          crosses-as (repeat (pred (row .a))) turns bodiesAfter toComeAfter answer (rw kind)
+          (λ setting lines rest repeats store values copied held words follows here jumps opened shallow sound.
+            by-room setting rest repeats (cellsOf A store values turns copied) held (sym (ap (λ (r : Row). r .a) words)) follows opened sound
+            (room-or-full (next .depth) (limit .depth)))
+        where
+          by-room : (setting : Setting A) (rest : List TableLine) (repeats : List Repeat) (cells : Cells A) (held : List (A .Carrier))
+              → row .a ≡ suc (pred (row .a))
+              → next .at ≡ suc at
+              → Opened (next .depth) bodies toCome repeats
+              → Sound A setting (buffersAt A next cells held)
+              → (next .depth < limit .depth) ⊎ (limit .depth ≤ next .depth)
+              → Crosses setting (repeat (pred (row .a))) rest repeats cells cells held bodiesAfter toComeAfter answer
+          by-room setting rest repeats cells held count follows opened sound (inl room) =
+              let m = pred (row .a) in
+              goes-to setting (repeat m) rest repeats cells cells held bodiesAfter toComeAfter answer (within next (suc (next .depth)))
+              (record { start = at; left = m } ∷ repeats)
+              (opens .room room m count)
+              refl
+              (opens .opened room m at repeats count follows opened)
+              sound
+              (ap (λ (n : ℕ). goTo A n (record { start = at; left = m } ∷ repeats) (memoryOf A (buffersAt A next cells held))) (sym follows))
+          by-room setting rest repeats cells held count follows opened sound (inr full) =
+              let deep = opened-length (next .depth) bodies toCome repeats opened in
+              sticks-there setting (repeat (pred (row .a))) rest repeats cells cells held bodiesAfter toComeAfter answer (opens .full full) (omega arith)
+
+      pub end-repeat-crosses : (bodiesAfter toComeAfter : List ℕ) (answer : Crossed) → row .kind ≡ 11
+          → Closes next bodies toCome bodiesAfter toComeAfter answer
+          → CrossesBy A row beyond at next turns bodies toCome turns bodiesAfter toComeAfter answer
+      unfolding blockOf stepAt
+      end-repeat-crosses bodiesAfter toComeAfter answer kind closes =
+          crosses-as endRepeat turns bodiesAfter toComeAfter answer (rw kind)
+          (λ setting lines rest repeats store values copied held words follows here jumps opened shallow sound.
+            by-repeats setting rest repeats (cellsOf A store values turns copied) held follows opened shallow sound)
+        where
+          by-left : (setting : Setting A) (rest : List TableLine) (r : Repeat) (outer : List Repeat) (cells : Cells A) (held : List (A .Carrier)) (left : ℕ)
+              → r .left ≡ left
+              → next .at ≡ suc at
+              → Opened (next .depth) bodies toCome (r ∷ outer)
+              → next .depth ≤ limit .depth
+              → Sound A setting (buffersAt A next cells held)
+              → Crosses setting endRepeat rest (r ∷ outer) cells cells held bodiesAfter toComeAfter answer
+          by-left setting rest r outer cells held zero left follows opened shallow sound =
+              let out = closes .out shallow r outer opened left in
+              goes-to setting endRepeat rest (r ∷ outer) cells cells held bodiesAfter toComeAfter answer (within next (pred (next .depth))) outer (out .0) refl
+              (out .1)
+              sound
+              (turn-out (stateAt A (preceding next at) (r ∷ outer) cells held) r outer left
+              ∙ ap (λ (n : ℕ). goTo A n outer (memoryOf A (buffersAt A next cells held))) (sym follows))
+          by-left setting rest r outer cells held (suc n) left follows opened shallow sound =
+              let back = closes .back shallow r n outer opened left in
+              goes-to setting endRepeat rest (r ∷ outer) cells cells held bodiesAfter toComeAfter answer (moved next (suc (r .start)))
+              (record { start = r .start; left = n } ∷ outer)
+              (back .0)
+              refl
+              (back .1)
+              sound
+              (turn-back (stateAt A (preceding next at) (r ∷ outer) cells held) r n outer left)
+
+          by-repeats : (setting : Setting A) (rest : List TableLine) (repeats : List Repeat) (cells : Cells A) (held : List (A .Carrier))
+              → next .at ≡ suc at
+              → Opened (next .depth) bodies toCome repeats
+              → next .depth ≤ limit .depth
+              → Sound A setting (buffersAt A next cells held)
+              → Crosses setting endRepeat rest repeats cells cells held bodiesAfter toComeAfter answer
+          by-repeats setting rest [] cells held follows opened shallow sound =
+              sticks-there setting endRepeat rest [] cells cells held bodiesAfter toComeAfter answer (closes .none opened) tt
+          by-repeats setting rest (r ∷ outer) cells held follows opened shallow sound =
+              by-left setting rest r outer cells held (r .left) refl follows opened shallow sound
+
+      pub on-turn-crosses : (picked : Branched) (turnsAfter : List ℕ) (answer : Crossed) → row .kind ≡ 15
+          → TakesTurn A turns (next .turns) turnsAfter picked
+          → TurnsTo beyond at next picked answer
+          → CrossesBy A row beyond at next turns bodies toCome turnsAfter bodies toCome answer
+      unfolding blockOf
+      on-turn-crosses picked turnsAfter answer kind takes to =
+          crosses-as (ifLine onTurn) turnsAfter bodies toCome answer (rw kind)
+          (λ setting lines rest repeats store values copied held words follows here jumps opened shallow sound.
+            turn-crosses setting rest repeats 0 0 store values turns copied held bodies toCome answer lines picked turnsAfter follows here jumps opened sound takes
+            to)
+
+      -- no line has another kind
+      pub never-crosses : (answer : Crossed) → row .kind ≢ 8 → row .kind ≢ 9 → row .kind ≢ 10 → row .kind ≢ 11 → row .kind ≢ 15
+          → CrossesBy A row beyond at next turns bodies toCome turns bodies toCome answer
+      unfolding blockOf
+      never-crosses answer k₈ k₉ k₁₀ k₁₁ k₁₅ setting lines rest other repeats store values copied held words k₇ follows here jumps none-straight opened shallow
+          sound =
+          let nothing : blockOf row ≡ none =
+          rw (ne-eqb (row .kind) 7 k₇, ne-eqb (row .kind) 8 k₈, ne-eqb (row .kind) 9 k₉, ne-eqb (row .kind) 10 k₁₀, ne-eqb (row .kind) 11 k₁₁,
+          ne-eqb (row .kind) 15 k₁₅) in
+          let told : none ≡ some other =
+          sym nothing
+          ∙ ap blockOf (sym words)
+          ∙ block-said other (λ basic-row is. none-straight basic-row rest (here ∙ ap (λ (l : TableLine). l ∷ rest) is)) in
+          let z : _≡_ {A = ℕ} 0 1 = cc in
+          absurd (omega arith)
+
+  -- ---- the row at a place
+
+  module _ (table : List ℕ) (rows : ℕ) (beyond : List ℕ) (place : Place) (store : List (A .Carrier)) (turns bodies toCome : List ℕ) where
+    pub block-spent : place .left ≡ 0 → BlockRow A table rows beyond place store turns bodies toCome turns bodies toCome crossed.Stuck
+    block-spent spent setting lines repeats values copied held holds count jumps none-straight opened shallow sound = inl spent
+
+    pub block-over : 0 < place .left → rows ≤ place .at → BlockRow A table rows beyond place store turns bodies toCome turns bodies toCome crossed.Over
+    unfolding step stepAt
+    block-over some-left over setting lines repeats values copied held holds count jumps none-straight opened shallow sound =
+        let none-there : drop (place .at) lines ≡ [] = drop-of-length-le lines {i = place .at} (rw count over) in
+        (some-left, rw none-there)
+
+    module _ (left : ℕ) (spends : place .left ≡ suc left) (turnsAfter bodiesAfter toComeAfter : List ℕ) (answer : Crossed) where
+      abbrev after-it : Place
+      after-it = following place (place .at + 1) left
+
+      same-place : preceding after-it (place .at) ≡ place
+      same-place = rw (sym spends)
+
+      -- the step at the line that stands there
+      found-there : (setting : Setting A) (lines rest : List TableLine) (line : TableLine) (repeats : List Repeat) (values copied held : List (A .Carrier))
+          → drop (place .at) lines ≡ line ∷ rest
+          → Crosses beyond (place .at) after-it setting line rest repeats (cellsOf A store values turns copied) (cellsOf A store values turnsAfter copied) held
+          bodiesAfter toComeAfter answer
+          → CrossedSays A setting place bodiesAfter toComeAfter (cellsOf A store values turnsAfter copied) held
+          (step A setting lines (stateAt A place repeats (cellsOf A store values turns copied) held)) answer
+      unfolding step
+      found-there setting lines rest line repeats values copied held here crosses =
+          rw here
+          (subst
+          (λ (p : Place). CrossedSays A setting p bodiesAfter toComeAfter (cellsOf A store values turnsAfter copied) held
+            (stepAt A setting (stateAt A p repeats (cellsOf A store values turns copied) held) (line ∷ rest)) answer)
+          same-place
+          crosses)
+
+      pub block-crosses : (row : Row) → row ≡ rowAt table (1 + place .at * limit .rowWords) → place .at < rows → row .kind ≢ 7
+          → CrossesBy A row beyond (place .at) after-it turns bodies toCome turnsAfter bodiesAfter toComeAfter answer
+          → BlockRow A table rows beyond place store turns bodies toCome turnsAfter bodiesAfter toComeAfter answer
+      block-crosses row said inside not-if crosses setting lines repeats values copied held holds count jumps none-straight opened shallow sound =
+          let there = stands-there lines (place .at) (rw count inside) in
+          let words = words-there table lines (there .rest) (there .line) (place .at) row holds said (there .is) in
+          found-there setting lines (there .rest) (there .line) repeats values copied held (there .is)
+          (crosses setting lines (there .rest) (there .line) repeats store values copied held words not-if (add-one (place .at)) (there .is) jumps none-straight
+          opened shallow sound)
+
+    module _ (left : ℕ) (spends : place .left ≡ suc left) (answer : Crossed) where
+      pub block-compares : (row : Row) (picked : Branch) → row ≡ rowAt table (1 + place .at * limit .rowWords) → place .at < rows → row .kind ≡ 7
+          → Compares A (row .a) (row .b) store (branchOf picked)
+          → BranchesTo beyond (place .at) (following place (place .at + 1) left) picked answer
+          → BlockRow A table rows beyond place store turns bodies toCome turns bodies toCome answer
+      unfolding blockOf
+      block-compares row picked said inside kind compares to setting lines repeats values copied held holds count jumps none-straight opened shallow sound =
+          let there = stands-there lines (place .at) (rw count inside) in
+          let words = words-there table lines (there .rest) (there .line) (place .at) row holds said (there .is) in
+          let is-if : blockOf row ≡ some (ifLine (whether (less (row .a) (row .b)))) = rw kind in
+          let told : some (ifLine (whether (less (row .a) (row .b)))) ≡ some (there .line) =
+          sym is-if
+          ∙ ap blockOf (sym words)
+          ∙ block-said (there .line)
+          (λ basic-row is. none-straight basic-row (there .rest) (there .is ∙ ap (λ (l : TableLine). l ∷ there .rest) is)) in
+          let same : ifLine (whether (less (row .a) (row .b))) ≡ there .line = cc in
+          let here = there .is ∙ ap (λ (l : TableLine). l ∷ there .rest) (sym same) in
+          found-there left spends turns bodies toCome answer setting lines (there .rest) (ifLine (whether (less (row .a) (row .b)))) repeats values copied held here
+          (compare-crosses beyond (place .at) (following place (place .at + 1) left) setting (there .rest) repeats (row .a) (row .b) store values turns copied held
+          bodies toCome answer lines picked (add-one (place .at)) here jumps opened sound compares to)

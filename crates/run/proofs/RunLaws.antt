@@ -1,0 +1,328 @@
+-- The runner's two loops over the arithmetic: what every place on the way stands for, and how each way out answers.
+use Prim.Native.Nat.{ℕ, zero, suc, _≤_, _<_}
+use mathlib.Core.Path.{_≡_, refl, sym, ap, _∙_, subst}
+use mathlib.Core.Logic.{_⊎_, inl, inr}
+use mathlib.Core.List.{List, []}
+use native.Mathlib.Omega.{arith}
+use lib.ListN.{length}
+use Rattle.number.specs.Arithmetic.{Arithmetic}
+use Rattle.sheet.specs.Bounds.{limit}
+use Rattle.table.specs.TableRows.{TableLine, Origin}
+use Rattle.run.specs.Actions.{Memory, Setting}
+use Rattle.run.specs.Machine.{Repeat, State, Step, goesOn, ended, stops, sticks, step, stateAfter, Ending, finished, stoppedAt, gotStuck, outOfFuel, runFor}
+use Rattle.run.specs.Buffers.{memoryOf, Sound, RoundSizes}
+use Rattle.run.specs.Runnable.{Shallow}
+use Rattle.run.specs.RunsRows.{Nested, Opened, firstPlace, Cells, cellsOf, buffersAt, stateAt, CopiesOn, StopsAt, Blocked, GoesTo, StepsStraight, StraightRow, CrossedSays, BlockRow, Handed, Finishes, StoppedAt}
+use Rattle.run.specs.declared.Place.{Place}
+use Rattle.run.specs.declared.Acted.{Acted}
+use Rattle.run.specs.declared.Acted.the-variants as acted
+use Rattle.run.specs.declared.Crossed.{Crossed}
+use Rattle.run.specs.declared.Crossed.the-variants as crossed
+use Rattle.run.specs.declared.Ended.the-variants as ended-as
+use Rattle.run.proofs.OpenedLaws.{opened-length}
+
+module _ (A : Arithmetic) (setting : Setting A) (lines : List TableLine) where
+  -- ---- one step of a run
+
+  run-goes : (n : ℕ) (now next : State A) → step A setting lines now ≡ goesOn next → runFor A (suc n) setting lines now ≡ runFor A n setting lines next
+  unfolding runFor
+  run-goes n now next is = rw (is, runFor)
+
+  run-ends : (n : ℕ) (now : State A) (memory : Memory A) → step A setting lines now ≡ ended memory → runFor A (suc n) setting lines now ≡ finished memory
+  unfolding runFor
+  run-ends n now memory is = rw (is, runFor)
+
+  run-stops : (n : ℕ) (now : State A) (at : ℕ) (origin : Origin) (why : A .Why) → step A setting lines now ≡ stops (record { index = at }) origin why
+      → runFor A (suc n) setting lines now ≡ stoppedAt (record { index = at }) origin why
+  unfolding runFor
+  run-stops n now at origin why is = rw (is, runFor)
+
+  run-sticks : (n : ℕ) (now : State A) → step A setting lines now ≡ sticks → runFor A (suc n) setting lines now ≡ gotStuck
+  unfolding runFor
+  run-sticks n now is = rw (is, runFor)
+
+  run-spent : (now : State A) → runFor A 0 setting lines now ≡ outOfFuel
+  unfolding runFor
+  run-spent now = refl
+
+  after-goes : (n : ℕ) (now next : State A) → step A setting lines now ≡ goesOn next → stateAfter A (suc n) setting lines now ≡ stateAfter A n setting lines next
+  unfolding stateAfter
+  after-goes n now next is = rw (is, stateAfter)
+
+  after-none : (now : State A) → stateAfter A 0 setting lines now ≡ goesOn now
+  unfolding stateAfter
+  after-none now = refl
+
+  -- stuck, or out of steps: a ninth open repeat there is not
+  run-blocked : (left : ℕ) (now : State A) → Shallow A setting lines now → Blocked A (step A setting lines now)
+      → (runFor A left setting lines now ≡ gotStuck) ⊎ (runFor A left setting lines now ≡ outOfFuel)
+  run-blocked zero now shallow blocked = inr (run-spent now)
+  run-blocked (suc n) now shallow blocked = by-step (step A setting lines now) refl blocked
+    where
+      by-step : (found : Step A) → step A setting lines now ≡ found → Blocked A found
+          → (runFor A (suc n) setting lines now ≡ gotStuck) ⊎ (runFor A (suc n) setting lines now ≡ outOfFuel)
+      by-step (goesOn next) is deep =
+          let bound = shallow 1 next (after-goes 0 now next is ∙ after-none next) in
+          absurd (omega arith)
+      by-step (ended memory) is blocked = absurd blocked
+      by-step (stops row origin why) is blocked = absurd blocked
+      by-step sticks is blocked = inl (run-sticks n now is)
+
+module _ (A : Arithmetic) where
+  memory-rebuilt : (m : Memory A) (store values : List (A .Carrier)) (turns : List ℕ) (copied : List (A .Carrier))
+      → m .store ≡ store
+      → m .values ≡ values
+      → m .turns ≡ turns
+      → m .copied ≡ copied
+      → record { store = store; values = values; turns = turns; copied = copied } ≡ m
+  memory-rebuilt m store values turns copied s v t c = rw (sym s, sym v, sym t, sym c)
+
+  sizes-kept : (roles : List ℕ) (seeds store copied store′ copied′ : List (A .Carrier)) → length store′ ≡ length store → length copied′ ≡ length copied
+      → RoundSizes A roles seeds store copied
+      → RoundSizes A roles seeds store′ copied′
+  sizes-kept roles seeds store copied store′ copied′ s c sizes =
+      let fits = sizes .storeFits in
+      record { seedsFit = sizes .seedsFit; storeFits = rw s fits; copiedFits = c ∙ sizes .copiedFits }
+
+module _ (A : Arithmetic) (table : List ℕ) (rows : ℕ) (beyond roles constants : List ℕ) (seeds : List (A .Carrier)) (steps : ℕ) where
+  abbrev runFrom : Setting A → List TableLine → Memory A → Ending A
+  runFrom setting lines start = runFor A steps setting lines (record { at = 0; repeats = []; memory = start })
+
+  -- the run from this place on is the rest of the whole run
+  pub record Running (setting : Setting A) (lines : List TableLine) (start : Memory A) (place : Place) (cells : Cells A) (bodies toCome : List ℕ)
+      : Type 0 where
+    pub held : List (A .Carrier)
+    pub repeats : List Repeat
+    pub opened : Opened (place .depth) bodies toCome repeats
+    pub same : runFor A (place .left) setting lines (stateAt A place repeats cells held) ≡ runFrom setting lines start
+    pub shallow : Shallow A setting lines (stateAt A place repeats cells held)
+    pub sound : Sound A setting (buffersAt A place cells held)
+    pub copies : (held ≡ start .copied) ⊎ (held ≡ cells .copied)
+
+  -- under every setting, lines and start that the runner may have been handed with its first buffers
+  pub record Invariant (first : Cells A) (place : Place) (cells : Cells A) (bodies toCome : List ℕ) : Type 0 where
+    pub storeLength : length (cells .store) ≡ length (first .store)
+    pub valuesLength : length (cells .values) ≡ length (first .values)
+    pub turnsLength : length (cells .turns) ≡ length (first .turns)
+    pub copiedLength : length (cells .copied) ≡ length (first .copied)
+    pub running : (setting : Setting A) (lines : List TableLine) (start : Memory A)
+        → Handed A table rows beyond roles constants seeds first setting lines start
+        → Running setting lines start place cells bodies toCome
+
+  pub invariant-starts : (first : Cells A) (bodies toCome : List ℕ) → limit .depth ≤ length bodies → limit .depth ≤ length toCome
+      → Invariant first (firstPlace steps) first bodies toCome
+  unfolding Nested
+  invariant-starts first bodies toCome roomOfBodies roomOfTurns =
+      record {
+        storeLength = refl;
+        valuesLength = refl;
+        turnsLength = refl;
+        copiedLength = refl;
+        running = λ setting lines start handed.
+            let whole = memory-rebuilt A start (first .store) [] [] (start .copied) (handed .store) (handed .values) (handed .turns) refl in
+            let state : stateAt A (firstPlace steps) [] first (start .copied) ≡ record { at = 0; repeats = []; memory = start } =
+            ap (λ (m : Memory A). record { at = 0; repeats = []; memory = m }) whole in
+            record {
+              held = start .copied;
+              repeats = [];
+              opened = record { roomOfBodies = roomOfBodies; roomOfTurns = roomOfTurns; nested = tt };
+              same = ap (λ (s : State A). runFor A steps setting lines s) state;
+              shallow = subst (λ (s : State A). Shallow A setting lines s) (sym state) (handed .shallow);
+              sound = handed .sound;
+              copies = inl refl;
+            };
+      }
+
+  module _ (setting : Setting A) (lines : List TableLine) (start : Memory A) (place : Place) (cells : Cells A) (bodies toCome : List ℕ)
+      (now : Running setting lines start place cells bodies toCome) where
+    abbrev state : State A
+    state = stateAt A place (now .repeats) cells (now .held)
+
+    copies-on : (held : List (A .Carrier)) (after : Cells A) → CopiesOn A (now .held) cells held after → (held ≡ start .copied) ⊎ (held ≡ after .copied)
+    copies-on held after (inr is) = inr is
+    copies-on held after (inl (is, kept)) = by-copies (now .copies)
+      where
+        by-copies : (now .held ≡ start .copied) ⊎ (now .held ≡ cells .copied) → (held ≡ start .copied) ⊎ (held ≡ after .copied)
+        by-copies (inl first) = inl (is ∙ first)
+        by-copies (inr copied) = inr (is ∙ copied ∙ sym kept)
+
+    running-goes : (next : Place) (repeats : List Repeat) (held : List (A .Carrier)) (after : Cells A) (bodiesAfter toComeAfter : List ℕ)
+        → GoesTo A setting place next repeats after held (step A setting lines state)
+        → Opened (next .depth) bodiesAfter toComeAfter repeats
+        → CopiesOn A (now .held) cells held after
+        → Running setting lines start next after bodiesAfter toComeAfter
+    running-goes next repeats held after bodiesAfter toComeAfter goes opened copies =
+        let then = stateAt A next repeats after held in
+        record {
+          held = held;
+          repeats = repeats;
+          opened = opened;
+          same =
+              sym (run-goes A setting lines (next .left) state then (goes .is))
+              ∙ ap (λ (n : ℕ). runFor A n setting lines state) (sym (goes .fewer))
+              ∙ now .same;
+          shallow = λ n s is. now .shallow (suc n) s (after-goes A setting lines n state then (goes .is) ∙ is);
+          sound = goes .sound;
+          copies = copies-on held after copies;
+        }
+
+    running-stuck : (place .left ≡ 0) ⊎ Blocked A (step A setting lines state)
+        → (runFrom setting lines start ≡ gotStuck) ⊎ (runFrom setting lines start ≡ outOfFuel)
+    running-stuck (inl spent) =
+        inr (sym (now .same) ∙ ap (λ (n : ℕ). runFor A n setting lines state) spent ∙ run-spent A setting lines state)
+    running-stuck (inr blocked) = by-ending (run-blocked A setting lines (place .left) state (now .shallow) blocked)
+      where
+        by-ending : (runFor A (place .left) setting lines state ≡ gotStuck) ⊎ (runFor A (place .left) setting lines state ≡ outOfFuel)
+            → (runFrom setting lines start ≡ gotStuck) ⊎ (runFrom setting lines start ≡ outOfFuel)
+        by-ending (inl is) = inl (sym (now .same) ∙ is)
+        by-ending (inr is) = inr (sym (now .same) ∙ is)
+
+    -- the run as its next step and the rest
+    one-more : 0 < place .left → (n : ℕ) × (place .left ≡ suc n)
+    one-more some-left = by-left (place .left) refl
+      where
+        by-left : (left : ℕ) → place .left ≡ left → (n : ℕ) × (place .left ≡ suc n)
+        by-left zero is = absurd (omega arith)
+        by-left (suc n) is = (n, is)
+
+    running-stops : 0 < place .left → StopsAt A (place .at) (step A setting lines state) → StoppedAt A (place .at) (runFrom setting lines start)
+    running-stops some-left stop =
+        let left = one-more some-left in
+        record {
+          origin = stop .origin;
+          why = stop .why;
+          is =
+              sym (now .same)
+              ∙ ap (λ (n : ℕ). runFor A n setting lines state) (left .1)
+              ∙ run-stops A setting lines (left .0) state (place .at) (stop .origin) (stop .why) (stop .is);
+        }
+
+    running-ends : (after : Cells A) → 0 < place .left
+        → step A setting lines state ≡ ended (memoryOf A (buffersAt A place after (now .held)))
+        → after .copied ≡ cells .copied
+        → Finishes A start after (runFrom setting lines start)
+    running-ends after some-left is kept =
+        let left = one-more some-left in
+        record {
+          height = place .values;
+          turnHeight = place .turns;
+          held = now .held;
+          is =
+              sym (now .same)
+              ∙ ap (λ (n : ℕ). runFor A n setting lines state) (left .1)
+              ∙ run-ends A setting lines (left .0) state (memoryOf A (buffersAt A place after (now .held))) is;
+          copies = copies-on (now .held) after (inl (refl, kept));
+        }
+
+  -- ---- the inner loop's row
+
+  module _ (first : Cells A) (place : Place) (cells after : Cells A) (bodies toCome : List ℕ) (now : Invariant first place cells bodies toCome) where
+    stepped : (setting : Setting A) (lines : List TableLine) (start : Memory A) → (handed : Handed A table rows beyond roles constants seeds first setting lines start)
+        → (answer : Acted)
+        → StraightRow A table rows roles constants seeds place cells after answer
+        → StepsStraight A setting lines place (now .running setting lines start handed .repeats) cells after (now .running setting lines start handed .held) answer
+    stepped setting lines start handed answer straight =
+        let here = now .running setting lines start handed in
+        straight setting lines (here .repeats) (here .held) (handed .holds) (handed .rows) (handed .suits)
+        (sizes-kept A roles seeds (first .store) (first .copied) (cells .store) (cells .copied) (now .storeLength) (now .copiedLength) (handed .sizes))
+        (here .sound)
+
+    pub straight-goes : (next : Place) → StraightRow A table rows roles constants seeds place cells after (acted.On next)
+        → length (after .store) ≡ length (cells .store)
+        → length (after .values) ≡ length (cells .values)
+        → length (after .turns) ≡ length (cells .turns)
+        → length (after .copied) ≡ length (cells .copied)
+        → Invariant first next after bodies toCome
+    straight-goes next straight s v t c =
+        record {
+          storeLength = s ∙ now .storeLength;
+          valuesLength = v ∙ now .valuesLength;
+          turnsLength = t ∙ now .turnsLength;
+          copiedLength = c ∙ now .copiedLength;
+          running = λ setting lines start handed.
+              let here = now .running setting lines start handed in
+              let steps-on = stepped setting lines start handed (acted.On next) straight in
+              running-goes setting lines start place cells bodies toCome here next (here .repeats) (steps-on .held) after bodies toCome (steps-on .says .1)
+              (rw (steps-on .says .0) (here .opened))
+              (steps-on .copies);
+        }
+
+    pub straight-stops : StraightRow A table rows roles constants seeds place cells after acted.Stopped
+        → (setting : Setting A) (lines : List TableLine) (start : Memory A)
+        → Handed A table rows beyond roles constants seeds first setting lines start
+        → StoppedAt A (place .at) (runFrom setting lines start)
+    straight-stops straight setting lines start handed =
+        let says = stepped setting lines start handed acted.Stopped straight .says in
+        running-stops setting lines start place cells bodies toCome (now .running setting lines start handed) (says .0) (says .1)
+
+    pub straight-sticks : StraightRow A table rows roles constants seeds place cells after acted.Stuck
+        → (setting : Setting A) (lines : List TableLine) (start : Memory A)
+        → Handed A table rows beyond roles constants seeds first setting lines start
+        → (runFrom setting lines start ≡ gotStuck) ⊎ (runFrom setting lines start ≡ outOfFuel)
+    straight-sticks straight setting lines start handed =
+        running-stuck setting lines start place cells bodies toCome (now .running setting lines start handed)
+        (stepped setting lines start handed acted.Stuck straight .says)
+
+    -- ---- the block row after it: where no straight row stood, nothing has happened
+
+    module _ (straight : StraightRow A table rows roles constants seeds place cells after acted.Block) where
+      module _ (setting : Setting A) (lines : List TableLine) (start : Memory A)
+          (handed : Handed A table rows beyond roles constants seeds first setting lines start) where
+        rested : Running setting lines start place after bodies toCome
+        rested =
+            subst (λ (x : Cells A). Running setting lines start place x bodies toCome) (sym (stepped setting lines start handed acted.Block straight .says .1))
+            (now .running setting lines start handed)
+
+        crossed-says : (turnsAfter bodiesAfter toComeAfter : List ℕ) (answer : Crossed)
+            → BlockRow A table rows beyond place (after .store) (after .turns) bodies toCome turnsAfter bodiesAfter toComeAfter answer
+            → CrossedSays A setting place bodiesAfter toComeAfter (cellsOf A (after .store) (after .values) turnsAfter (after .copied)) (rested .held)
+            (step A setting lines (stateAt A place (rested .repeats) after (rested .held))) answer
+        crossed-says turnsAfter bodiesAfter toComeAfter answer block =
+            let few = rested .shallow 0 _ (after-none A setting lines (stateAt A place (rested .repeats) after (rested .held))) in
+            let deep = opened-length (place .depth) bodies toCome (rested .repeats) (rested .opened) in
+            block setting lines (rested .repeats) (after .values) (after .copied) (rested .held) (handed .holds) (handed .rows) (handed .jumps)
+            (stepped setting lines start handed acted.Block straight .says .0)
+            (rested .opened)
+            (rw (sym deep) few)
+            (rested .sound)
+
+      module _ (turnsAfter bodiesAfter toComeAfter : List ℕ) where
+        abbrev left-over : Cells A
+        left-over = cellsOf A (after .store) (after .values) turnsAfter (after .copied)
+
+        pub block-goes : (next : Place)
+            → BlockRow A table rows beyond place (after .store) (after .turns) bodies toCome turnsAfter bodiesAfter toComeAfter (crossed.On next)
+            → length (after .store) ≡ length (cells .store)
+            → length (after .values) ≡ length (cells .values)
+            → length turnsAfter ≡ length (cells .turns)
+            → length (after .copied) ≡ length (cells .copied)
+            → Invariant first next left-over bodiesAfter toComeAfter
+        block-goes next block s v t c =
+            record {
+              storeLength = s ∙ now .storeLength;
+              valuesLength = v ∙ now .valuesLength;
+              turnsLength = t ∙ now .turnsLength;
+              copiedLength = c ∙ now .copiedLength;
+              running = λ setting lines start handed.
+                  let says = crossed-says setting lines start handed turnsAfter bodiesAfter toComeAfter (crossed.On next) block in
+                  let here = rested setting lines start handed in
+                  running-goes setting lines start place after bodies toCome here next (says .repeats) (here .held) left-over bodiesAfter toComeAfter (says .goes)
+                  (says .opened)
+                  (inl (refl, refl));
+            }
+
+        pub block-ends : BlockRow A table rows beyond place (after .store) (after .turns) bodies toCome turnsAfter bodiesAfter toComeAfter crossed.Over
+            → (setting : Setting A) (lines : List TableLine) (start : Memory A)
+            → Handed A table rows beyond roles constants seeds first setting lines start
+            → Finishes A start left-over (runFrom setting lines start)
+        block-ends block setting lines start handed =
+            let says = crossed-says setting lines start handed turnsAfter bodiesAfter toComeAfter crossed.Over block in
+            running-ends setting lines start place after bodies toCome (rested setting lines start handed) left-over (says .0) (says .1) refl
+
+        pub block-sticks : BlockRow A table rows beyond place (after .store) (after .turns) bodies toCome turnsAfter bodiesAfter toComeAfter crossed.Stuck
+            → (setting : Setting A) (lines : List TableLine) (start : Memory A)
+            → Handed A table rows beyond roles constants seeds first setting lines start
+            → (runFrom setting lines start ≡ gotStuck) ⊎ (runFrom setting lines start ≡ outOfFuel)
+        block-sticks block setting lines start handed =
+            running-stuck setting lines start place after bodies toCome (rested setting lines start handed)
+            (crossed-says setting lines start handed turnsAfter bodiesAfter toComeAfter crossed.Stuck block)

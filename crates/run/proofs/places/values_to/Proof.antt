@@ -1,0 +1,20 @@
+-- `run::places::values_to` meets its contract.
+
+use borrow.Author.Needs.{needs}
+use Rattle.run.proofs.places.values_to.Statement.{statement}
+use Rattle.run.proofs.places.values_to.Tie as tie
+
+enum-known-moved : tie.Need-enum-known-moved
+enum-known-moved c = search needs
+
+enum-told : tie.Need-enum-told
+enum-told c = search needs
+
+returns : tie.Need-returns
+returns c = rw (c .before .moved .given .1)
+
+returns-2 : tie.Need-returns-2
+returns-2 c = search needs
+
+pub values-to-spec : {M : Type 1} → statement M
+values-to-spec = tie.close (tie.spec enum-known-moved enum-told returns returns-2)

@@ -1,0 +1,94 @@
+// The place that a straight row leads to, from what its code answered.
+ghost use mathlib.Core.Path.{_≡_};
+ghost use Rattle.run.specs.RunsRows.{wentTo, didTo, valuesTo, turnsTo, firstPlace, following, isOfBlock};
+use super::Acted;
+use super::Did;
+use super::Moved;
+use super::Place;
+use super::Went;
+use sheet::kinds;
+
+pub fn went_to(went: Went, next: Place) -> Acted
+    ensures { λ r. ⌜ r ≡ wentTo went next ⌝ }
+{
+    match went {
+        Went::On => Acted::On(next),
+        Went::Stuck => Acted::Stuck,
+    }
+}
+
+pub fn did_to(did: Did, next: Place) -> Acted
+    ensures { λ r. ⌜ r ≡ didTo did next ⌝ }
+{
+    match did {
+        Did::On => Acted::On(next),
+        Did::Stopped => Acted::Stopped,
+        Did::Stuck => Acted::Stuck,
+    }
+}
+
+// A row that moved the value stack.
+pub fn values_to(moved: Moved, next: Place) -> Acted
+    ensures { λ r. ⌜ r ≡ valuesTo moved next ⌝ }
+{
+    match moved {
+        Moved::To(height) => Acted::On(Place {
+            at: next.at,
+            depth: next.depth,
+            values: height,
+            turns: next.turns,
+            left: next.left,
+        }),
+        Moved::Stuck => Acted::Stuck,
+    }
+}
+
+// A row that moved the turn stack.
+pub fn turns_to(moved: Moved, next: Place) -> Acted
+    ensures { λ r. ⌜ r ≡ turnsTo moved next ⌝ }
+{
+    match moved {
+        Moved::To(height) => Acted::On(Place {
+            at: next.at,
+            depth: next.depth,
+            values: next.values,
+            turns: height,
+            left: next.left,
+        }),
+        Moved::Stuck => Acted::Stuck,
+    }
+}
+
+// The place where a run starts, with empty stacks.
+pub fn first_place(steps: usize) -> Place
+    ensures { λ r. ⌜ r ≡ firstPlace steps ⌝ }
+{
+    Place {
+        at: 0,
+        depth: 0,
+        values: 0,
+        turns: 0,
+        left: steps,
+    }
+}
+
+pub fn following(place: Place, at: usize, left: usize) -> Place
+    ensures { λ r. ⌜ r ≡ following place at left ⌝ }
+{
+    Place {
+        at,
+        depth: place.depth,
+        values: place.values,
+        turns: place.turns,
+        left,
+    }
+}
+
+// Kinds 7 to 11 and 15.
+pub fn is_of_block(kind: u16) -> bool
+    ensures { λ r. ⌜ r ≡ isOfBlock kind ⌝ }
+{
+    let branches = (kind == kinds::IF) | (kind == kinds::ELSE) | (kind == kinds::END_IF);
+    let turns = (kind == kinds::REPEAT) | (kind == kinds::END_REPEAT);
+    branches | turns | (kind == table::kinds::ON_TURN)
+}
