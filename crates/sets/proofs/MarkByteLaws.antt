@@ -1,5 +1,5 @@
 -- The byte of a row's marks: how the code adds it up, what is read back of it, and a list of them.
-use Prim.Native.Nat.{ℕ, zero, suc, _+_, _*_, _≤_, _<_}
+use Prim.Native.Nat.{ℕ, zero, suc, _+_, _*_, _/_, _%_, _≤_, _<_}
 use native.Mathlib.Omega.{arith}
 use native.Mathlib.Decide.{ℕ-discrete}
 use mathlib.Core.Path.{_≡_, refl, sym, ap, subst, _∙_}
@@ -7,6 +7,7 @@ use mathlib.Core.Bool.{Bool, true, false}
 use mathlib.Core.List.{List}
 use mir.Val.{boolByte}
 use lib.ListN.{length, getD, set, length-set}
+use lib.Dec.{eqb}
 use lib.Seq.{getD-set-same, getD-set-other, set-comm, set-set}
 use Rattle.sheet.specs.Tree.{basic, ifLine, elseLine, endIf, repeat, endRepeat}
 use Rattle.sheet.specs.Rows.{_≔_, less, SheetLine, Row, rowOfAssignment, sheetRowOf}
@@ -27,27 +28,37 @@ pub bytes-of : (x y z w : Bool) (known : Activity) (saved : Bool) → x ≡ know
 bytes-of x y z w known saved a b c d =
     omega (arith, byte-of x .0, byte-of y .0, byte-of z .0, byte-of w .0, ap bit a, ap bit b, ap bit c, ap bit d)
 
+-- each mark read back of the byte, by its weight
+pub record ReadBack (known : Activity) (recorded : Bool) : Type 0 where
+  pub variedA : eqb (byteBy known recorded / 1 % 2) 1 ≡ known .variedA
+  pub variedB : eqb (byteBy known recorded / 2 % 2) 1 ≡ known .variedB
+  pub active : eqb (byteBy known recorded / 4 % 2) 1 ≡ known .active
+  pub saved : eqb (byteBy known recorded / 8 % 2) 1 ≡ recorded
+
+bit-back : (b : Bool) (digit : ℕ) → digit ≡ bit b → eqb digit 1 ≡ b
+bit-back true digit e = rw e
+bit-back false digit e = rw e
+
+bit-small : (b : Bool) → bit b ≤ 1
+bit-small true = omega arith
+bit-small false = omega arith
+
+pub read-back : (known : Activity) (recorded : Bool) → ReadBack known recorded
+read-back known recorded =
+    let a = bit-small (known .variedA) in
+    let b = bit-small (known .variedB) in
+    let c = bit-small (known .active) in
+    let d = bit-small recorded in
+    record {
+      variedA = bit-back (known .variedA) (byteBy known recorded / 1 % 2) (omega arith);
+      variedB = bit-back (known .variedB) (byteBy known recorded / 2 % 2) (omega arith);
+      active = bit-back (known .active) (byteBy known recorded / 4 % 2) (omega arith);
+      saved = bit-back recorded (byteBy known recorded / 8 % 2) (omega arith);
+    }
+
 pub active-back : (known : Activity) (saved : Bool) → has (byteBy known saved) 2 ≡ known .active
 unfolding has
-active-back known saved = each (known .variedA) (known .variedB) (known .active) saved
-  where
-    each : (x y z w : Bool) → has (bit x + 2 * bit y + 4 * bit z + 8 * bit w) 2 ≡ z
-    each true true true true = refl
-    each true true true false = refl
-    each true true false true = refl
-    each true true false false = refl
-    each true false true true = refl
-    each true false true false = refl
-    each true false false true = refl
-    each true false false false = refl
-    each false true true true = refl
-    each false true true false = refl
-    each false true false true = refl
-    each false true false false = refl
-    each false false true true = refl
-    each false false true false = refl
-    each false false false true = refl
-    each false false false false = refl
+active-back known saved = read-back known saved .active
 
 -- ---- by the cases that the code tells apart
 

@@ -303,15 +303,15 @@ fn words_fit(form: Form, d: usize, a: usize, b: usize, variables: usize, constan
 }
 
 // What a row is to the blocks, by its kind alone: a row of no kind opens and closes none.
-fn part_for(kind: usize, a: u16) -> Part
+fn part_for(kind: u16, a: u16) -> Part
     ensures { λ r. ⌜ r ≡ partFor kind a ⌝ }
 {
     match kind {
-        7 => Part::If,
-        8 => Part::Else,
-        9 => Part::EndIf,
-        10 => Part::Repeat(a),
-        11 => Part::EndRepeat,
+        kinds::IF => Part::If,
+        kinds::ELSE => Part::Else,
+        kinds::END_IF => Part::EndIf,
+        kinds::REPEAT => Part::Repeat(a),
+        kinds::END_REPEAT => Part::EndRepeat,
         _ => Part::Assignment,
     }
 }
@@ -320,7 +320,7 @@ fn part_at(words: &[u16], place: usize) -> Part
     requires { ⌜ place + limit .rowWords ≤ length (now words) ⌝ }
     ensures { λ r. ⌜ r ≡ partFor (rowAt (now (words .entry)) place .kind) (rowAt (now (words .entry)) place .a) ⌝ }
 {
-    part_for(wide(words[place]), words[place + 2])
+    part_for(words[place], words[place + 2])
 }
 
 // Whether the row at a place is of a kind and each of its words fits.

@@ -1,11 +1,10 @@
 -- What `sets::mark` leaves is what the writer reads: every assignment's marks and every block row's partners.
-use Prim.Native.Nat.{ℕ, suc, _+_, _/_, _%_, _≤_, _<_}
+use Prim.Native.Nat.{ℕ, suc, _+_, _≤_, _<_}
 use native.Mathlib.Omega.{arith}
 use mathlib.Core.Path.{_≡_, refl, sym, ap, subst, _∙_}
-use mathlib.Core.Bool.{Bool, true, false}
+use mathlib.Core.Bool.{Bool}
 use mathlib.Core.List.{List}
 use lib.ListN.{length, getD, take, length-take}
-use lib.Dec.{eqb}
 use Rattle.sheet.specs.Bounds.{limit}
 use Rattle.sheet.specs.Refusals.{given}
 use Rattle.sheet.specs.Tree.{Tree, done, one, fork, again, rows, basic}
@@ -15,53 +14,27 @@ use Rattle.sheet.proofs.ReadingParts.{same-given}
 use Rattle.sets.specs.VariableSets.{VariableSet}
 use Rattle.sets.specs.Transfers.{Activity}
 use Rattle.sets.specs.Marks.{markBy, varied, useful, required}
-use Rattle.sets.specs.MarkBytes.{bit, byteBy, byteAt, markBytes}
+use Rattle.sets.specs.MarkBytes.{byteBy, byteAt, markBytes}
 use Rattle.sets.specs.Partners.{CameFrom, GoesTo, PartnersFound}
 use Rattle.sets.specs.RowEquations.{lineIn}
 use Rattle.sets.specs.Laid.{Laid, AllMarked}
 use Rattle.sets.proofs.RowByRow.{LinesAt}
-use Rattle.sets.proofs.MarkByteLaws.{written-at}
+use Rattle.sets.proofs.MarkByteLaws.{read-back, written-at}
 use Rattle.sets.proofs.MarksListed.{marks-listed}
 use Rattle.sets.proofs.SheetMarked.{facts, partners-right}
-use Rattle.table.specs.MarkedRows.{bitOf, knownBy, savedBy, MarkSays, Noted}
+use Rattle.table.specs.MarkedRows.{knownBy, savedBy, MarkSays, Noted}
 use Rattle.table.specs.Plans.{SheetNoted}
 use Rattle.table.proofs.WalkTree.{rows-of-tree}
 use Rattle.table.proofs.SheetLaid.{sheet-lies}
 
 -- ---- a byte read back
 
-bit-back : (b : Bool) → (bit b ≤ 1) × (eqb (bit b) 1 ≡ b)
-bit-back true = (omega arith, refl)
-bit-back false = (omega arith, refl)
-
--- the place of a bit, by the digits before it and after it
-digit-back : (n weight : ℕ) (b : Bool) → n / weight % 2 ≡ bit b → b ≡ bitOf n weight
-digit-back n weight b e = sym (ap (λ d. eqb d 1) e ∙ bit-back b .1)
-
 same-activity : (x y z x′ y′ z′ : Bool) → x ≡ x′ → y ≡ y′ → z ≡ z′
     → _≡_ {A = Activity} (record { variedA = x; variedB = y; active = z }) (record { variedA = x′; variedB = y′; active = z′ })
 same-activity x y z x′ y′ z′ e f g = rw (e, f, g)
 
-module _ (known : Activity) (saved : Bool) where
-  abbrev byte : ℕ
-  byte = byteBy known saved
-
-  pub known-back : known ≡ knownBy byte
-  known-back =
-      let a = bit-back (known .variedA) .0 in
-      let b = bit-back (known .variedB) .0 in
-      let c = bit-back (known .active) .0 in
-      let d = bit-back saved .0 in
-      same-activity _ _ _ _ _ _ (digit-back byte 1 (known .variedA) (omega arith)) (digit-back byte 2 (known .variedB) (omega arith))
-      (digit-back byte 4 (known .active) (omega arith))
-
-  pub saved-back : saved ≡ savedBy byte
-  saved-back =
-      let a = bit-back (known .variedA) .0 in
-      let b = bit-back (known .variedB) .0 in
-      let c = bit-back (known .active) .0 in
-      let d = bit-back saved .0 in
-      digit-back byte 8 saved (omega arith)
+known-back : (known : Activity) (saved : Bool) → knownBy (byteBy known saved) ≡ known
+known-back known saved = let back = read-back known saved in same-activity _ _ _ _ _ _ (back .variedA) (back .variedB) (back .active)
 
 -- ---- all rows
 
@@ -74,8 +47,8 @@ module _ (line : ℕ → SheetLine) (v u r : List VariableSet) (marks came goes 
       let at : getD marks p 0 ≡ byteBy (m .known) (m .saved) = bytes p below ∙ ap (byteAt v u r p) is in
       record {
         assignment = refl;
-        known = known-back (m .known) (m .saved) ∙ ap knownBy (sym at);
-        saved = saved-back (m .known) (m .saved) ∙ ap savedBy (sym at);
+        known = sym (ap knownBy at ∙ known-back (m .known) (m .saved));
+        saved = sym (ap savedBy at ∙ read-back (m .known) (m .saved) .saved);
       }
 
   noted-tree : (t : Tree Assignment Test) (p : ℕ) → p + rows t ≤ count → LinesAt line t p → CameFrom came t p → GoesTo goes t p

@@ -44,7 +44,9 @@ partners-are c =
 -- ---- the needs
 
 find-partners-requires : tie.Need-find-partners-requires
-find-partners-requires c κs = let known = facts _ _ _ _ (handed-over (c .before .before .before .before .before .before .before .before .before)) in (known .readable, known .countSmall)
+find-partners-requires c κs =
+    let known = facts _ _ _ _ (handed-over (c .before .before .before .before .before .before .before .before .before)) in
+    (known .readable, known .countSmall)
 
 settle-requires : tie.Need-settle-requires
 settle-requires c κs =

@@ -9,7 +9,8 @@ use Rattle.sets.proofs.equations.right_side.Statement.{statement}
 use Rattle.sets.proofs.equations.right_side.Tie as tie
 
 -- the two sets that were read
-own-is : (c : tie.After-set-at) → let args = c .before .before .before .args in c .set-at .result ≡ setAt (now (args .sets)) (ownPoint (args .which) (args .row .0))
+own-is : (c : tie.After-set-at) → let args = c .before .before .before .args in
+    c .set-at .result ≡ setAt (now (args .sets)) (ownPoint (args .which) (args .row .0))
 own-is c = c .set-at .ensures ∙ ap (setAt (now (c .before .before .before .args .sets))) (c .before .own-point .ensures)
 
 other-is : (c : tie.After-set-at2) → let args = c .before .before .before .before .before .before .args in
@@ -60,7 +61,8 @@ returns-3 c l e =
     let args = start .args in
     rw (own-is (c .before .before .before .before .before .before), other-is (c .before .before .before))
     (rw (sym (c .before .joins .ensures), c .if3 .taken) at
-    (in-block (args .which) (args .active) (now (args .sets)) (args .row .0) (args .partner .0) _ _ _ _ l e (c .before .before .before .before .before .if1 .left) (c .before .before .if2 .left)))
+    (in-block (args .which) (args .active) (now (args .sets)) (args .row .0) (args .partner .0) _ _ _ _ l e
+    (c .before .before .before .before .before .if1 .left) (c .before .before .if2 .left)))
 
 returns-4 : tie.Need-returns-4
 returns-4 c l e =
@@ -68,7 +70,8 @@ returns-4 c l e =
     let args = start .args in
     rw (own-is (c .before .before .before .before .before .before))
     (rw (sym (c .before .joins .ensures), c .if3 .left) at
-    (in-block (args .which) (args .active) (now (args .sets)) (args .row .0) (args .partner .0) _ _ _ _ l e (c .before .before .before .before .before .if1 .left) (c .before .before .if2 .left)))
+    (in-block (args .which) (args .active) (now (args .sets)) (args .row .0) (args .partner .0) _ _ _ _ l e
+    (c .before .before .before .before .before .if1 .left) (c .before .before .if2 .left)))
 
 pub right-side-spec : {M : Type 1} → statement M
 right-side-spec =

@@ -42,7 +42,8 @@ row-byte-requires : tie.Need-row-byte-requires
 row-byte-requires c κs =
     let read = c .before .before .before .before .before .before .before .before .before in
     let start = read .before .before .before .before .before in
-    subst (λ r. Small (r .kind) (r .d) (r .a) (r .b)) (sym (read .row-words .ensures)) (start .pre .0 .small) (omega (arith, c .before .before .before .before .before .before .before .if1 .left))
+    subst (λ r. Small (r .kind) (r .d) (r .a) (r .b)) (sym (read .row-words .ensures)) (start .pre .0 .small)
+    (omega (arith, c .before .before .before .before .before .before .before .if1 .left))
 
 returns-2 : tie.Need-returns-2
 returns-2 c =
@@ -51,8 +52,8 @@ returns-2 c =
     let read = fits .before .before in
     let start = read .before .before .before .before .before in
     let args = start .args in
-    some-byte (now (args .varied)) (now (args .useful)) (now (args .required)) (args .row .0) _ _ _ _ _ _ (start .pre .0 .says ∙ sym (read .row-words .ensures))
-    (fits .if1 .left)
+    some-byte (now (args .varied)) (now (args .useful)) (now (args .required)) (args .row .0) _ _ _ _ _ _
+    (start .pre .0 .says ∙ sym (read .row-words .ensures)) (fits .if1 .left)
     (λ source e. rw (sym (sets .before .before .before .set-at .ensures), sym (sets .before .set-at2 .ensures), sym (sets .set-at3 .ensures)) (c .row-byte .ensures source e))
 
 pub byte-at-spec : {M : Type 1} → statement M

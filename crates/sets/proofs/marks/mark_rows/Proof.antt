@@ -30,7 +30,9 @@ byte-at-requires c κs =
     (start .pre .0 _ (c .loop-test .taken), omega (arith, c .loop-test .taken, start .pre .1))
 
 slice-write-marks : tie.Need-slice-write-marks Inv-loop μ-loop
-slice-write-marks c = omega (arith, c .before .loop-test .taken, marks-long (c .before .before), c .before .before .before .before .before .before .before .before .pre .2)
+slice-write-marks c =
+    let loop = c .before .before in
+    omega (arith, c .before .loop-test .taken, marks-long loop, loop .before .before .before .before .before .before .pre .2)
 
 add-number : tie.Need-add-number Inv-loop μ-loop
 add-number c = omega (arith, c .before .loop-test .taken, c .before .before .before .before .before .before .before .before .pre .1)
@@ -48,8 +50,9 @@ same-length c = marks-long (c .before)
 
 returns : tie.Need-returns Inv-loop μ-loop
 returns c =
-    let all : c .before .loop .number ≡ c .before .before .before .before .before .before .before .args .extent .rows = omega (arith, c .loop-test .left, c .before .loop .inv .0) in
-    rw (sym all) (c .before .loop .inv .1)
+    let loop = c .before in
+    let all : loop .loop .number ≡ loop .before .before .before .before .before .before .args .extent .rows = omega (arith, c .loop-test .left, loop .loop .inv .0) in
+    rw (sym all) (loop .loop .inv .1)
 
 pub mark-rows-spec : {M : Type 1} → statement M
 mark-rows-spec =

@@ -1,4 +1,5 @@
--- `sets::partners::find_partners` meets its contract: the loop's invariant: the rest of the pass from here ends where the whole pass does. The measure is what is left of the rows.
+-- `sets::partners::find_partners` meets its contract: the loop's invariant: the rest of the pass from here ends where the whole pass does.
+-- The measure is what is left of the rows.
 use Prim.Native.Nat.{_-_}
 use native.Mathlib.Omega.{arith}
 use Rattle.sets.specs.RowEquations.{lineIn}
@@ -20,10 +21,14 @@ row-words-requires : tie.Need-row-words-requires Inv-loop μ-loop
 row-words-requires c κs = tt
 
 partner-step-requires : tie.Need-partner-step-requires Inv-loop μ-loop
-partner-step-requires c κs = (omega (arith, c .before .before .before .loop-test .taken, c .before .before .before .before .before .before .before .before .pre .1), c .before .before .before .before .loop .inv .small)
+partner-step-requires c κs =
+    let inside = c .before .before .before in
+    (omega (arith, inside .loop-test .taken, inside .before .before .before .before .before .pre .1), inside .before .loop .inv .small)
 
 add-number : tie.Need-add-number Inv-loop μ-loop
-add-number c = omega (arith, c .before .before .before .before .before .before .before .before .loop-test .taken, c .before .before .before .before .before .before .before .before .before .before .before .before .before .pre .1)
+add-number c =
+    let inside = c .before .before .before .before .before .before .before .before in
+    omega (arith, inside .loop-test .taken, inside .before .before .before .before .before .pre .1)
 
 loop-less : tie.Need-loop-less Inv-loop μ-loop
 loop-less c = omega (arith, c .before .before .before .before .before .before .before .before .loop-test .taken)

@@ -35,8 +35,10 @@ same-length-3 c = search needs
 
 returns-3 : tie.Need-returns-3
 returns-3 c =
-    let outer = c .before .before .before .before .before .before .before .before .before in (
-      λ l e. rw (c .before .before .before .before .before .before .put2 .ensures, c .before .before .put3 .ensures, outer .partner-of .ensures .0) (repeat-ended _ _ _ (c .before .before .before .before .before .before .before .before .if3 .taken) l e),
+    let came = c .before .before .before .before .before .before in
+    let ends = came .before .before in
+    let outer = ends .before in (
+      λ l e. rw (came .put2 .ensures, c .before .before .put3 .ensures, outer .partner-of .ensures .0) (repeat-ended _ _ _ (ends .if3 .taken) l e),
       outer .partner-of .ensures .1,
     )
 
@@ -57,9 +59,13 @@ same-length-5 c = search needs
 
 returns-4 : tie.Need-returns-4
 returns-4 c =
-    let then = c .before .before .before .before in (
-      λ l e. rw (c .before .before .before .before .before .before .before .before .before .before .before .put4 .ensures, c .before .before .put6 .ensures, then .before .before .before .put5 .ensures, c .before .before .before .before .before .before .before .before .before .before .before .before .before .before .partner-of .ensures .0) (split _ _ _ (then .if4 .taken) l e),
-      c .before .before .before .before .before .before .before .before .before .before .before .before .before .before .before .before .before .before .before .before .pre .0,
+    let splits = c .before .before .before .before in
+    let goes = splits .before .before .before in
+    let came = goes .before .before .before .before in
+    let outer = came .before .before .before in (
+      λ l e. rw (came .put4 .ensures, c .before .before .put6 .ensures, goes .put5 .ensures, outer .partner-of .ensures .0)
+          (split _ _ _ (splits .if4 .taken) l e),
+      outer .before .before .before .before .before .before .pre .0,
     )
 
 same-length-6 : tie.Need-same-length-6
@@ -70,10 +76,13 @@ same-length-7 c = search needs
 
 returns-5 : tie.Need-returns-5
 returns-5 c =
-    let outer = c .before .before .before .before .before .before .before .before .before .before in
+    let goes = c .before .before .before in
+    let came = goes .before .before .before .before in
+    let goesOn = came .before .before in
+    let outer = goesOn .before in
     let other = not-opening _ (outer .before .before .before .if1 .left) .1 in (
-      λ l e. rw (c .before .before .before .before .before .before .before .put4 .ensures, c .before .before .before .put5 .ensures, outer .partner-of .ensures .0)
-          (if-ended _ _ _ (outer .before .before .if2 .left) (c .if4 .left) other (c .before .before .before .before .before .before .before .before .before .if3 .left) l e),
+      λ l e. rw (came .put4 .ensures, goes .put5 .ensures, outer .partner-of .ensures .0)
+          (if-ended _ _ _ (outer .before .before .if2 .left) (c .if4 .left) other (goesOn .if3 .left) l e),
       outer .partner-of .ensures .1,
     )
 

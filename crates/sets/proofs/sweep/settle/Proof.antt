@@ -1,5 +1,5 @@
--- `sets::sweep::settle` meets its contract: the loop's invariant: the definition's own rounds go on from here to the least sets. The measure: every round but the last adds a
--- member, so at most points × variables + 1 rounds are left.
+-- `sets::sweep::settle` meets its contract: the loop's invariant: the definition's own rounds go on from here to the least sets.
+-- The measure: every round but the last adds a member, so at most points × variables + 1 rounds are left.
 use Prim.Native.Nat.{suc}
 use borrow.Author.Needs.{needs}
 use mathlib.Core.Path.{sym, ap, _∙_}

@@ -1,4 +1,5 @@
--- `sets::sweep::sweep` meets its contract: the loop's invariant: the rest of the round from here ends where the whole round does. The measure is what is left of the rows.
+-- `sets::sweep::sweep` meets its contract: the loop's invariant: the rest of the round from here ends where the whole round does.
+-- The measure is what is left of the rows.
 use Prim.Native.Nat.{_-_, _<_}
 use borrow.Author.Needs.{needs}
 use native.Mathlib.Omega.{arith}
