@@ -1,4 +1,4 @@
-// The least sets of one kind, by rounds over all equations: each round's row in its turn, and rounds until one adds nothing.
+// One of the three sets at every point: rounds over all equations, each row in its turn, until a round adds nothing.
 ghost use mathlib.Core.Path.{_≡_};
 ghost use Prim.Native.Nat.{suc, _<_};
 ghost use lib.ListN.{getD, length, replicate};
