@@ -19,7 +19,8 @@ use Rattle.run.specs.Answers.{branchOf}
 use Rattle.run.specs.Machine.{itsElse, itsEnd, oneMore, seek, Repeat, State, Step, step, stepAt, goTo, jump, afterTest, afterTurn}
 use Rattle.run.specs.Buffers.{memoryOf, Sound, Compares, TakesTurn}
 use Rattle.run.specs.Runnable.{Reached, Jumps}
-use Rattle.run.specs.RunsRows.{Opened, Opens, Closes, JumpsTo, BranchesTo, TurnsTo, Cells, cellsOf, buffersAt, stateAt, raised, within, moved, following, preceding, CrossedLeft, Blocked, CrossedSays, BlockRow, CrossesBy}
+use Rattle.run.specs.RowSteps.{Opened, Opens, Closes, JumpsTo, BranchesTo, TurnsTo, buffersAt, stateAt, raised, within, moved, following, preceding, CrossedLeft, Blocked, CrossedSays, BlockRow, CrossesBy}
+use Rattle.run.specs.RunsRows.{Cells, cellsOf}
 use Rattle.run.specs.declared.Place.{Place}
 use Rattle.run.specs.declared.Branch.{Branch}
 use Rattle.run.specs.declared.Branch.the-variants as branch
@@ -222,7 +223,7 @@ module _ (A : Arithmetic) where
           let same : line ≡ other = cc in
           subst
           (λ (l : TableLine). Crosses setting l rest repeats (cellsOf A store values turns copied) (cellsOf A store values turnsAfter copied) held bodiesAfter
-            toComeAfter answer)
+          toComeAfter answer)
           same
           (crosses setting lines rest repeats store values copied held (ap tableRowOf same ∙ words) follows (here ∙ ap (λ (l : TableLine). l ∷ rest) (sym same))
           jumps opened shallow sound)
@@ -233,17 +234,17 @@ module _ (A : Arithmetic) where
       else-crosses answer kind to =
           crosses-as elseLine turns bodies toCome answer (rw kind)
           (λ setting lines rest repeats store values copied held words follows here jumps opened shallow sound.
-            let cells = cellsOf A store values turns copied in
-            jumps-there setting elseLine rest repeats cells cells held bodies toCome answer next (seek itsEnd 0 rest) refl (jumps .fromElse at rest here) to opened sound refl)
+          let cells = cellsOf A store values turns copied in
+          jumps-there setting elseLine rest repeats cells cells held bodies toCome answer next (seek itsEnd 0 rest) refl (jumps .fromElse at rest here) to opened sound refl)
 
       pub end-if-crosses : row .kind ≡ 9 → CrossesBy A row beyond at next turns bodies toCome turns bodies toCome (crossed.On next)
       unfolding blockOf stepAt
       end-if-crosses kind =
           crosses-as endIf turns bodies toCome (crossed.On next) (rw kind)
           (λ setting lines rest repeats store values copied held words follows here jumps opened shallow sound.
-            let cells = cellsOf A store values turns copied in
-            goes-to setting endIf rest repeats cells cells held bodies toCome (crossed.On next) next repeats refl refl opened sound
-            (ap (λ (n : ℕ). goTo A n repeats (memoryOf A (buffersAt A next cells held))) (sym follows)))
+          let cells = cellsOf A store values turns copied in
+          goes-to setting endIf rest repeats cells cells held bodies toCome (crossed.On next) next repeats refl refl opened sound
+          (ap (λ (n : ℕ). goTo A n repeats (memoryOf A (buffersAt A next cells held))) (sym follows)))
 
       pub repeat-crosses : (bodiesAfter toComeAfter : List ℕ) (answer : Crossed) → row .kind ≡ 10
           → Opens (row .a) next bodies toCome bodiesAfter toComeAfter answer
@@ -252,8 +253,8 @@ module _ (A : Arithmetic) where
       repeat-crosses bodiesAfter toComeAfter answer kind opens =
           crosses-as (repeat (pred (row .a))) turns bodiesAfter toComeAfter answer (rw kind)
           (λ setting lines rest repeats store values copied held words follows here jumps opened shallow sound.
-            by-room setting rest repeats (cellsOf A store values turns copied) held (sym (ap (λ (r : Row). r .a) words)) follows opened sound
-            (room-or-full (next .depth) (limit .depth)))
+          by-room setting rest repeats (cellsOf A store values turns copied) held (sym (ap (λ (r : Row). r .a) words)) follows opened sound
+          (room-or-full (next .depth) (limit .depth)))
         where
           by-room : (setting : Setting A) (rest : List TableLine) (repeats : List Repeat) (cells : Cells A) (held : List (A .Carrier))
               → row .a ≡ suc (pred (row .a))
@@ -282,7 +283,7 @@ module _ (A : Arithmetic) where
       end-repeat-crosses bodiesAfter toComeAfter answer kind closes =
           crosses-as endRepeat turns bodiesAfter toComeAfter answer (rw kind)
           (λ setting lines rest repeats store values copied held words follows here jumps opened shallow sound.
-            by-repeats setting rest repeats (cellsOf A store values turns copied) held follows opened shallow sound)
+          by-repeats setting rest repeats (cellsOf A store values turns copied) held follows opened shallow sound)
         where
           by-left : (setting : Setting A) (rest : List TableLine) (r : Repeat) (outer : List Repeat) (cells : Cells A) (held : List (A .Carrier)) (left : ℕ)
               → r .left ≡ left
@@ -327,8 +328,8 @@ module _ (A : Arithmetic) where
       on-turn-crosses picked turnsAfter answer kind takes to =
           crosses-as (ifLine onTurn) turnsAfter bodies toCome answer (rw kind)
           (λ setting lines rest repeats store values copied held words follows here jumps opened shallow sound.
-            turn-crosses setting rest repeats 0 0 store values turns copied held bodies toCome answer lines picked turnsAfter follows here jumps opened sound takes
-            to)
+          turn-crosses setting rest repeats 0 0 store values turns copied held bodies toCome answer lines picked turnsAfter follows here jumps opened sound takes
+          to)
 
       -- no line has another kind
       pub never-crosses : (answer : Crossed) → row .kind ≢ 8 → row .kind ≢ 9 → row .kind ≢ 10 → row .kind ≢ 11 → row .kind ≢ 15
@@ -337,8 +338,14 @@ module _ (A : Arithmetic) where
       never-crosses answer k₈ k₉ k₁₀ k₁₁ k₁₅ setting lines rest other repeats store values copied held words k₇ follows here jumps none-straight opened shallow
           sound =
           let nothing : blockOf row ≡ none =
-          rw (ne-eqb (row .kind) 7 k₇, ne-eqb (row .kind) 8 k₈, ne-eqb (row .kind) 9 k₉, ne-eqb (row .kind) 10 k₁₀, ne-eqb (row .kind) 11 k₁₁,
-          ne-eqb (row .kind) 15 k₁₅) in
+          rw (
+            ne-eqb (row .kind) 7 k₇,
+            ne-eqb (row .kind) 8 k₈,
+            ne-eqb (row .kind) 9 k₉,
+            ne-eqb (row .kind) 10 k₁₀,
+            ne-eqb (row .kind) 11 k₁₁,
+            ne-eqb (row .kind) 15 k₁₅,
+          ) in
           let told : none ≡ some other =
           sym nothing
           ∙ ap blockOf (sym words)
@@ -377,7 +384,7 @@ module _ (A : Arithmetic) where
           rw here
           (subst
           (λ (p : Place). CrossedSays A setting p bodiesAfter toComeAfter (cellsOf A store values turnsAfter copied) held
-            (stepAt A setting (stateAt A p repeats (cellsOf A store values turns copied) held) (line ∷ rest)) answer)
+          (stepAt A setting (stateAt A p repeats (cellsOf A store values turns copied) held) (line ∷ rest)) answer)
           same-place
           crosses)
 

@@ -12,7 +12,8 @@ use Rattle.run.specs.Actions.{Memory, Setting}
 use Rattle.run.specs.Machine.{Repeat, State, Step, goesOn, ended, stops, sticks, step, stateAfter, Ending, finished, stoppedAt, gotStuck, outOfFuel, runFor}
 use Rattle.run.specs.Buffers.{memoryOf, Sound, RoundSizes}
 use Rattle.run.specs.Runnable.{Shallow}
-use Rattle.run.specs.RunsRows.{Nested, Opened, firstPlace, Cells, cellsOf, buffersAt, stateAt, CopiesOn, StopsAt, Blocked, GoesTo, StepsStraight, StraightRow, CrossedSays, BlockRow, Handed, Finishes, StoppedAt}
+use Rattle.run.specs.RowSteps.{Nested, Opened, firstPlace, buffersAt, stateAt, CopiesOn, StopsAt, Blocked, GoesTo, StepsStraight, StraightRow, CrossedSays, BlockRow}
+use Rattle.run.specs.RunsRows.{Cells, cellsOf, Handed, Finishes, StoppedAt}
 use Rattle.run.specs.declared.Place.{Place}
 use Rattle.run.specs.declared.Acted.{Acted}
 use Rattle.run.specs.declared.Acted.the-variants as acted
@@ -84,9 +85,31 @@ module _ (A : Arithmetic) where
       let fits = sizes .storeFits in
       record { seedsFit = sizes .seedsFit; storeFits = rw s fits; copiedFits = c ∙ sizes .copiedFits }
 
-module _ (A : Arithmetic) (table : List ℕ) (rows : ℕ) (beyond roles constants : List ℕ) (seeds : List (A .Carrier)) (steps : ℕ) where
+-- what a run is given that stays as it is
+pub record Task (A : Arithmetic) : Type 0 where
+  pub table : List ℕ
+  pub rows : ℕ
+  pub beyond : List ℕ
+  pub roles : List ℕ
+  pub constants : List ℕ
+  pub seeds : List (A .Carrier)
+  pub steps : ℕ
+
+module _ (A : Arithmetic) (task : Task A) where
+  abbrev HandedOver : (first : Cells A) → Setting A → List TableLine → Memory A → Type 0
+  HandedOver first setting lines start =
+      Handed A (task .table) (task .rows) (task .beyond) (task .roles) (task .constants) (task .seeds) first setting lines start
+
+  abbrev Straight : Place → (before after : Cells A) → Acted → Type 0
+  Straight place before after answer =
+      StraightRow A (task .table) (task .rows) (task .roles) (task .constants) (task .seeds) place before after answer
+
+  abbrev Block : Place → (before : Cells A) → (bodies toCome turnsAfter bodiesAfter toComeAfter : List ℕ) → Crossed → Type 0
+  Block place before bodies toCome turnsAfter bodiesAfter toComeAfter answer =
+      BlockRow A (task .table) (task .rows) (task .beyond) place (before .store) (before .turns) bodies toCome turnsAfter bodiesAfter toComeAfter answer
+
   abbrev runFrom : Setting A → List TableLine → Memory A → Ending A
-  runFrom setting lines start = runFor A steps setting lines (record { at = 0; repeats = []; memory = start })
+  runFrom setting lines start = runFor A (task .steps) setting lines (record { at = 0; repeats = []; memory = start })
 
   -- the run from this place on is the rest of the whole run
   pub record Running (setting : Setting A) (lines : List TableLine) (start : Memory A) (place : Place) (cells : Cells A) (bodies toCome : List ℕ)
@@ -106,11 +129,11 @@ module _ (A : Arithmetic) (table : List ℕ) (rows : ℕ) (beyond roles constant
     pub turnsLength : length (cells .turns) ≡ length (first .turns)
     pub copiedLength : length (cells .copied) ≡ length (first .copied)
     pub running : (setting : Setting A) (lines : List TableLine) (start : Memory A)
-        → Handed A table rows beyond roles constants seeds first setting lines start
+        → HandedOver first setting lines start
         → Running setting lines start place cells bodies toCome
 
   pub invariant-starts : (first : Cells A) (bodies toCome : List ℕ) → limit .depth ≤ length bodies → limit .depth ≤ length toCome
-      → Invariant first (firstPlace steps) first bodies toCome
+      → Invariant first (firstPlace (task .steps)) first bodies toCome
   unfolding Nested
   invariant-starts first bodies toCome roomOfBodies roomOfTurns =
       record {
@@ -120,13 +143,13 @@ module _ (A : Arithmetic) (table : List ℕ) (rows : ℕ) (beyond roles constant
         copiedLength = refl;
         running = λ setting lines start handed.
             let whole = memory-rebuilt A start (first .store) [] [] (start .copied) (handed .store) (handed .values) (handed .turns) refl in
-            let state : stateAt A (firstPlace steps) [] first (start .copied) ≡ record { at = 0; repeats = []; memory = start } =
+            let state : stateAt A (firstPlace (task .steps)) [] first (start .copied) ≡ record { at = 0; repeats = []; memory = start } =
             ap (λ (m : Memory A). record { at = 0; repeats = []; memory = m }) whole in
             record {
               held = start .copied;
               repeats = [];
               opened = record { roomOfBodies = roomOfBodies; roomOfTurns = roomOfTurns; nested = tt };
-              same = ap (λ (s : State A). runFor A steps setting lines s) state;
+              same = ap (λ (s : State A). runFor A (task .steps) setting lines s) state;
               shallow = subst (λ (s : State A). Shallow A setting lines s) (sym state) (handed .shallow);
               sound = handed .sound;
               copies = inl refl;
@@ -217,17 +240,17 @@ module _ (A : Arithmetic) (table : List ℕ) (rows : ℕ) (beyond roles constant
   -- ---- the inner loop's row
 
   module _ (first : Cells A) (place : Place) (cells after : Cells A) (bodies toCome : List ℕ) (now : Invariant first place cells bodies toCome) where
-    stepped : (setting : Setting A) (lines : List TableLine) (start : Memory A) → (handed : Handed A table rows beyond roles constants seeds first setting lines start)
+    stepped : (setting : Setting A) (lines : List TableLine) (start : Memory A) → (handed : HandedOver first setting lines start)
         → (answer : Acted)
-        → StraightRow A table rows roles constants seeds place cells after answer
+        → Straight place cells after answer
         → StepsStraight A setting lines place (now .running setting lines start handed .repeats) cells after (now .running setting lines start handed .held) answer
     stepped setting lines start handed answer straight =
         let here = now .running setting lines start handed in
         straight setting lines (here .repeats) (here .held) (handed .holds) (handed .rows) (handed .suits)
-        (sizes-kept A roles seeds (first .store) (first .copied) (cells .store) (cells .copied) (now .storeLength) (now .copiedLength) (handed .sizes))
+        (sizes-kept A (task .roles) (task .seeds) (first .store) (first .copied) (cells .store) (cells .copied) (now .storeLength) (now .copiedLength) (handed .sizes))
         (here .sound)
 
-    pub straight-goes : (next : Place) → StraightRow A table rows roles constants seeds place cells after (acted.On next)
+    pub straight-goes : (next : Place) → Straight place cells after (acted.On next)
         → length (after .store) ≡ length (cells .store)
         → length (after .values) ≡ length (cells .values)
         → length (after .turns) ≡ length (cells .turns)
@@ -247,17 +270,17 @@ module _ (A : Arithmetic) (table : List ℕ) (rows : ℕ) (beyond roles constant
               (steps-on .copies);
         }
 
-    pub straight-stops : StraightRow A table rows roles constants seeds place cells after acted.Stopped
+    pub straight-stops : Straight place cells after acted.Stopped
         → (setting : Setting A) (lines : List TableLine) (start : Memory A)
-        → Handed A table rows beyond roles constants seeds first setting lines start
+        → HandedOver first setting lines start
         → StoppedAt A (place .at) (runFrom setting lines start)
     straight-stops straight setting lines start handed =
         let says = stepped setting lines start handed acted.Stopped straight .says in
         running-stops setting lines start place cells bodies toCome (now .running setting lines start handed) (says .0) (says .1)
 
-    pub straight-sticks : StraightRow A table rows roles constants seeds place cells after acted.Stuck
+    pub straight-sticks : Straight place cells after acted.Stuck
         → (setting : Setting A) (lines : List TableLine) (start : Memory A)
-        → Handed A table rows beyond roles constants seeds first setting lines start
+        → HandedOver first setting lines start
         → (runFrom setting lines start ≡ gotStuck) ⊎ (runFrom setting lines start ≡ outOfFuel)
     straight-sticks straight setting lines start handed =
         running-stuck setting lines start place cells bodies toCome (now .running setting lines start handed)
@@ -265,16 +288,16 @@ module _ (A : Arithmetic) (table : List ℕ) (rows : ℕ) (beyond roles constant
 
     -- ---- the block row after it: where no straight row stood, nothing has happened
 
-    module _ (straight : StraightRow A table rows roles constants seeds place cells after acted.Block) where
+    module _ (straight : Straight place cells after acted.Block) where
       module _ (setting : Setting A) (lines : List TableLine) (start : Memory A)
-          (handed : Handed A table rows beyond roles constants seeds first setting lines start) where
+          (handed : HandedOver first setting lines start) where
         rested : Running setting lines start place after bodies toCome
         rested =
             subst (λ (x : Cells A). Running setting lines start place x bodies toCome) (sym (stepped setting lines start handed acted.Block straight .says .1))
             (now .running setting lines start handed)
 
         crossed-says : (turnsAfter bodiesAfter toComeAfter : List ℕ) (answer : Crossed)
-            → BlockRow A table rows beyond place (after .store) (after .turns) bodies toCome turnsAfter bodiesAfter toComeAfter answer
+            → Block place after bodies toCome turnsAfter bodiesAfter toComeAfter answer
             → CrossedSays A setting place bodiesAfter toComeAfter (cellsOf A (after .store) (after .values) turnsAfter (after .copied)) (rested .held)
             (step A setting lines (stateAt A place (rested .repeats) after (rested .held))) answer
         crossed-says turnsAfter bodiesAfter toComeAfter answer block =
@@ -291,7 +314,7 @@ module _ (A : Arithmetic) (table : List ℕ) (rows : ℕ) (beyond roles constant
         left-over = cellsOf A (after .store) (after .values) turnsAfter (after .copied)
 
         pub block-goes : (next : Place)
-            → BlockRow A table rows beyond place (after .store) (after .turns) bodies toCome turnsAfter bodiesAfter toComeAfter (crossed.On next)
+            → Block place after bodies toCome turnsAfter bodiesAfter toComeAfter (crossed.On next)
             → length (after .store) ≡ length (cells .store)
             → length (after .values) ≡ length (cells .values)
             → length turnsAfter ≡ length (cells .turns)
@@ -311,17 +334,17 @@ module _ (A : Arithmetic) (table : List ℕ) (rows : ℕ) (beyond roles constant
                   (inl (refl, refl));
             }
 
-        pub block-ends : BlockRow A table rows beyond place (after .store) (after .turns) bodies toCome turnsAfter bodiesAfter toComeAfter crossed.Over
+        pub block-ends : Block place after bodies toCome turnsAfter bodiesAfter toComeAfter crossed.Over
             → (setting : Setting A) (lines : List TableLine) (start : Memory A)
-            → Handed A table rows beyond roles constants seeds first setting lines start
+            → HandedOver first setting lines start
             → Finishes A start left-over (runFrom setting lines start)
         block-ends block setting lines start handed =
             let says = crossed-says setting lines start handed turnsAfter bodiesAfter toComeAfter crossed.Over block in
             running-ends setting lines start place after bodies toCome (rested setting lines start handed) left-over (says .0) (says .1) refl
 
-        pub block-sticks : BlockRow A table rows beyond place (after .store) (after .turns) bodies toCome turnsAfter bodiesAfter toComeAfter crossed.Stuck
+        pub block-sticks : Block place after bodies toCome turnsAfter bodiesAfter toComeAfter crossed.Stuck
             → (setting : Setting A) (lines : List TableLine) (start : Memory A)
-            → Handed A table rows beyond roles constants seeds first setting lines start
+            → HandedOver first setting lines start
             → (runFrom setting lines start ≡ gotStuck) ⊎ (runFrom setting lines start ≡ outOfFuel)
         block-sticks block setting lines start handed =
             running-stuck setting lines start place after bodies toCome (rested setting lines start handed)

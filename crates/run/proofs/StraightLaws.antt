@@ -23,7 +23,8 @@ use Rattle.run.specs.Machine.{Repeat, Step, step, stepAt, afterAction, g
 use Rattle.run.specs.Buffers.{memoryOf, Sound, Does, Saves, TakesBack, SavesTurn, Clears, RoundSizes, TurnsRound}
 use Rattle.run.specs.RowWords.{sourceOf, AssignsWords}
 use Rattle.run.specs.Runnable.{Holds}
-use Rattle.run.specs.RunsRows.{Cells, cellsOf, buffersAt, stateAt, raised, following, actedBy, wentTo, didTo, valuesTo, turnsTo, isOfBlock, NoneStraight, ActedLeft, Suits, Acts, ActsBy, ActedSays, Blocked, StepsStraight, StraightRow}
+use Rattle.run.specs.RowSteps.{buffersAt, stateAt, raised, following, actedBy, wentTo, didTo, valuesTo, turnsTo, isOfBlock, NoneStraight, ActedLeft, Acts, ActsBy, ActedSays, Blocked, StepsStraight, StraightRow}
+use Rattle.run.specs.RunsRows.{Cells, cellsOf, Suits}
 use Rattle.run.specs.declared.Place.{Place}
 use Rattle.run.specs.declared.Went.{Went}
 use Rattle.run.specs.declared.Went.the-variants as went-as
@@ -123,15 +124,15 @@ module _ (A : Arithmetic) where
       save-acts m valuesAfter kind does =
           acts-as (save (row .d)) _ _ (valuesTo m next) (rw kind)
           (λ setting former is suits sizes sound.
-            record {
-              went = whetherMoved m;
-              height = heightAfter m (next .values);
-              turnHeight = next .turns;
-              held = former;
-              answers = values-answer m next;
-              does = does setting turns (next .turns) former sound;
-              copies = inl (refl, refl);
-            })
+          record {
+            went = whetherMoved m;
+            height = heightAfter m (next .values);
+            turnHeight = next .turns;
+            held = former;
+            answers = values-answer m next;
+            does = does setting turns (next .turns) former sound;
+            copies = inl (refl, refl);
+          })
 
       pub take-back-acts : (m : Moved) (storeAfter valuesAfter : List (A .Carrier)) → row .kind ≡ 13
           → TakesBack A (row .d) store values (next .values) storeAfter valuesAfter m
@@ -140,15 +141,15 @@ module _ (A : Arithmetic) where
       take-back-acts m storeAfter valuesAfter kind does =
           acts-as (takeBack (row .d)) _ _ (valuesTo m next) (rw kind)
           (λ setting former is suits sizes sound.
-            record {
-              went = whetherMoved m;
-              height = heightAfter m (next .values);
-              turnHeight = next .turns;
-              held = former;
-              answers = values-answer m next;
-              does = does setting turns (next .turns) former sound;
-              copies = inl (refl, refl);
-            })
+          record {
+            went = whetherMoved m;
+            height = heightAfter m (next .values);
+            turnHeight = next .turns;
+            held = former;
+            answers = values-answer m next;
+            does = does setting turns (next .turns) former sound;
+            copies = inl (refl, refl);
+          })
 
       pub save-turn-acts : (m : Moved) (turnsAfter : List ℕ) → row .kind ≡ 14
           → SavesTurn A (row .a) turns (next .turns) turnsAfter m
@@ -159,15 +160,15 @@ module _ (A : Arithmetic) where
           acts-as (saveTurn first) _ _ (turnsTo m next)
           (rw kind)
           (λ setting former is suits sizes sound.
-            record {
-              went = whetherMoved m;
-              height = next .values;
-              turnHeight = heightAfter m (next .turns);
-              held = former;
-              answers = turns-answer m next;
-              does = does setting first store values (next .values) former (sym (ap (λ (r : Row). r .a) is)) sound;
-              copies = inl (refl, refl);
-            })
+          record {
+            went = whetherMoved m;
+            height = next .values;
+            turnHeight = heightAfter m (next .turns);
+            held = former;
+            answers = turns-answer m next;
+            does = does setting first store values (next .values) former (sym (ap (λ (r : Row). r .a) is)) sound;
+            copies = inl (refl, refl);
+          })
 
       pub clear-acts : (w : Went) (storeAfter : List (A .Carrier)) → row .kind ≡ 16
           → Clears A (row .d) store storeAfter (whetherWent w)
@@ -177,15 +178,15 @@ module _ (A : Arithmetic) where
           acts-as (clear (row .d)) _ _ (wentTo w next)
           (rw kind)
           (λ setting former is suits sizes sound.
-            record {
-              went = whetherWent w;
-              height = next .values;
-              turnHeight = next .turns;
-              held = former;
-              answers = went-answers w next;
-              does = does setting values (next .values) turns (next .turns) former sound;
-              copies = inl (refl, refl);
-            })
+          record {
+            went = whetherWent w;
+            height = next .values;
+            turnHeight = next .turns;
+            held = former;
+            answers = went-answers w next;
+            does = does setting values (next .values) turns (next .turns) former sound;
+            copies = inl (refl, refl);
+          })
 
       pub turn-round-acts : (w : Went) (storeAfter copiedAfter : List (A .Carrier)) → row .kind ≡ 17
           → TurnsRound A roles seeds store copied storeAfter copiedAfter (whetherWent w)
@@ -195,16 +196,16 @@ module _ (A : Arithmetic) where
           acts-as turnRound _ _ (wentTo w next)
           (rw kind)
           (λ setting former is suits sizes sound.
-            record {
-              went = whetherWent w;
-              height = next .values;
-              turnHeight = next .turns;
-              held = copiedAfter;
-              answers = went-answers w next;
-              does =
-                  does .round sizes setting values (next .values) turns (next .turns) former (suits .variables) (suits .roles) (suits .seeds) sound;
-              copies = inr refl;
-            })
+          record {
+            went = whetherWent w;
+            height = next .values;
+            turnHeight = next .turns;
+            held = copiedAfter;
+            answers = went-answers w next;
+            does =
+                does .round sizes setting values (next .values) turns (next .turns) former (suits .variables) (suits .roles) (suits .seeds) sound;
+            copies = inr refl;
+          })
 
       -- every other kind, by the right side that the words say, if any
       pub assign-acts : (went : Try A (Unit {0})) (answer : Acted) (storeAfter : List (A .Carrier))
@@ -221,15 +222,15 @@ module _ (A : Arithmetic) where
               acts-as (assign (row .d ≔ source)) _ _ answer
               (rw (ne-eqb (row .kind) 12 k₁₂, ne-eqb (row .kind) 13 k₁₃, ne-eqb (row .kind) 14 k₁₄, ne-eqb (row .kind) 16 k₁₆, ne-eqb (row .kind) 17 k₁₇, is))
               (λ setting former said suits sizes sound.
-                record {
-                  went = went;
-                  height = next .values;
-                  turnHeight = next .turns;
-                  held = former;
-                  answers = answers;
-                  does = does .said setting source (suits .constants) is values (next .values) turns (next .turns) former sound;
-                  copies = inl (refl, refl);
-                })
+              record {
+                went = went;
+                height = next .values;
+                turnHeight = next .turns;
+                held = former;
+                answers = answers;
+                does = does .said setting source (suits .constants) is values (next .values) turns (next .turns) former sound;
+                copies = inl (refl, refl);
+              })
           by-source none is =
               λ setting action former said suits sizes sound.
               let nothing : actionOf row ≡ none =
@@ -257,8 +258,8 @@ module _ (A : Arithmetic) where
           held = former;
           says = (
             λ line rest is.
-              let words = words-there table lines rest (basic line) (place .at) row holds said is in
-              true-apart (sym block ∙ ap (λ (r : Row). isOfBlock (r .kind)) (sym words) ∙ straight-kind (line .action)),
+                let words = words-there table lines rest (basic line) (place .at) row holds said is in
+                true-apart (sym block ∙ ap (λ (r : Row). isOfBlock (r .kind)) (sym words) ∙ straight-kind (line .action)),
             refl,
             refl,
           );

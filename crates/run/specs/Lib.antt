@@ -11,3 +11,4 @@ pub mod RowWords
 pub mod Runnable
 pub mod JumpsFound
 pub mod RunsRows
+pub mod RowSteps

@@ -1,6 +1,6 @@
 // The runners: the code of each single row, a row as one step of the row machine, and a run of a table's rows, in both arithmetics.
 // A row's contract says what its written meaning (specs/Actions.antt) makes of the buffers (specs/Buffers.antt), and a run's that it is the
-// machine's (specs/RunsRows.antt). No place is asked for: one that is not there answers Stuck.
+// machine's (specs/RowSteps.antt, specs/RunsRows.antt). No place is asked for: one that is not there answers Stuck.
 pub mod blocks;
 pub mod doubles;
 pub mod jumps;

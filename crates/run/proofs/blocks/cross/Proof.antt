@@ -17,9 +17,9 @@ returns c =
     let args = c .before .before .before .before .args in
     let to = c .jump in (
       else-crosses residues (args .beyond .now) (args .at .0) (args .next) (rowSaid (args .row)) (args .turns .now) (args .bodies .now)
-      (args .to-come .now) (to .result) (c .before .if1 .taken) (to .ensures),
+          (args .to-come .now) (to .result) (c .before .if1 .taken) (to .ensures),
       else-crosses doubles (args .beyond .now) (args .at .0) (args .next) (rowSaid (args .row)) (args .turns .now) (args .bodies .now)
-      (args .to-come .now) (to .result) (c .before .if1 .taken) (to .ensures),
+          (args .to-come .now) (to .result) (c .before .if1 .taken) (to .ensures),
       to .ensures .left,
     )
 
@@ -27,9 +27,9 @@ returns-2 : tie.Need-returns-2
 returns-2 c =
     let args = c .before .before .before .before .args in (
       end-if-crosses residues (args .beyond .now) (args .at .0) (args .next) (rowSaid (args .row)) (args .turns .now) (args .bodies .now)
-      (args .to-come .now) (c .if2 .taken),
+          (args .to-come .now) (c .if2 .taken),
       end-if-crosses doubles (args .beyond .now) (args .at .0) (args .next) (rowSaid (args .row)) (args .turns .now) (args .bodies .now)
-      (args .to-come .now) (c .if2 .taken),
+          (args .to-come .now) (c .if2 .taken),
       refl,
     )
 
@@ -41,9 +41,9 @@ returns-3 c =
     let args = c .before .before .before .before .before .before .before .before .args in
     let done = c .open-repeat in (
       repeat-crosses residues (args .beyond .now) (args .at .0) (args .next) (rowSaid (args .row)) (args .turns .now) (args .bodies .now)
-      (args .to-come .now) _ _ (done .result) (c .before .before .before .if3 .taken) (done .ensures),
+          (args .to-come .now) _ _ (done .result) (c .before .before .before .if3 .taken) (done .ensures),
       repeat-crosses doubles (args .beyond .now) (args .at .0) (args .next) (rowSaid (args .row)) (args .turns .now) (args .bodies .now)
-      (args .to-come .now) _ _ (done .result) (c .before .before .before .if3 .taken) (done .ensures),
+          (args .to-come .now) _ _ (done .result) (c .before .before .before .if3 .taken) (done .ensures),
       done .ensures .left,
     )
 
@@ -55,9 +55,9 @@ returns-4 c =
     let args = c .before .before .before .before .before .before .before .before .before .args in
     let done = c .close-turn in (
       end-repeat-crosses residues (args .beyond .now) (args .at .0) (args .next) (rowSaid (args .row)) (args .turns .now) (args .bodies .now)
-      (args .to-come .now) _ _ (done .result) (c .before .before .before .if4 .taken) (done .ensures),
+          (args .to-come .now) _ _ (done .result) (c .before .before .before .if4 .taken) (done .ensures),
       end-repeat-crosses doubles (args .beyond .now) (args .at .0) (args .next) (rowSaid (args .row)) (args .turns .now) (args .bodies .now)
-      (args .to-come .now) _ _ (done .result) (c .before .before .before .if4 .taken) (done .ensures),
+          (args .to-come .now) _ _ (done .result) (c .before .before .before .if4 .taken) (done .ensures),
       done .ensures .left,
     )
 
@@ -76,13 +76,13 @@ returns-5 c =
     let taken = c .before .before .before .test-turn in
     let to = c .turn-to in (
       on-turn-crosses residues (args .beyond .now) (args .at .0) (args .next) (rowSaid (args .row)) (args .turns .now) (args .bodies .now)
-      (args .to-come .now) (taken .result) _ (to .result) (c .before .before .before .before .before .if5 .taken)
-      (taken .ensures .0)
-      (to .ensures),
+          (args .to-come .now) (taken .result) _ (to .result) (c .before .before .before .before .before .if5 .taken)
+          (taken .ensures .0)
+          (to .ensures),
       on-turn-crosses doubles (args .beyond .now) (args .at .0) (args .next) (rowSaid (args .row)) (args .turns .now) (args .bodies .now)
-      (args .to-come .now) (taken .result) _ (to .result) (c .before .before .before .before .before .if5 .taken)
-      (taken .ensures .1)
-      (to .ensures),
+          (args .to-come .now) (taken .result) _ (to .result) (c .before .before .before .before .before .if5 .taken)
+          (taken .ensures .1)
+          (to .ensures),
       turn-left (args .beyond .now) (args .at .0) (args .next) (taken .result) (to .result) (to .ensures),
     )
 
@@ -90,19 +90,19 @@ returns-6 : tie.Need-returns-6
 returns-6 c =
     let args = c .before .before .before .before .before .before .before .args in (
       never-crosses residues (args .beyond .now) (args .at .0) (args .next) (rowSaid (args .row)) (args .turns .now) (args .bodies .now)
-      (args .to-come .now) crossed.Stuck
-      (c .before .before .before .before .if1 .left)
-      (c .before .before .before .if2 .left)
-      (c .before .before .if3 .left)
-      (c .before .if4 .left)
-      (c .if5 .left),
+          (args .to-come .now) crossed.Stuck
+          (c .before .before .before .before .if1 .left)
+          (c .before .before .before .if2 .left)
+          (c .before .before .if3 .left)
+          (c .before .if4 .left)
+          (c .if5 .left),
       never-crosses doubles (args .beyond .now) (args .at .0) (args .next) (rowSaid (args .row)) (args .turns .now) (args .bodies .now)
-      (args .to-come .now) crossed.Stuck
-      (c .before .before .before .before .if1 .left)
-      (c .before .before .before .if2 .left)
-      (c .before .before .if3 .left)
-      (c .before .if4 .left)
-      (c .if5 .left),
+          (args .to-come .now) crossed.Stuck
+          (c .before .before .before .before .if1 .left)
+          (c .before .before .before .if2 .left)
+          (c .before .before .if3 .left)
+          (c .before .if4 .left)
+          (c .if5 .left),
       tt,
     )
 

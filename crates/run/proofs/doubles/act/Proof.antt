@@ -2,7 +2,7 @@
 use Rattle.sheet.specs.Answers.{rowSaid}
 use Rattle.number.specs.Doubles.{doubles}
 use Rattle.run.specs.Answers.{whetherDid}
-use Rattle.run.specs.RunsRows.{didTo}
+use Rattle.run.specs.RowSteps.{didTo}
 use Rattle.run.proofs.StraightLaws.{save-acts, take-back-acts, save-turn-acts, clear-acts, turn-round-acts, assign-acts, values-left, turns-left, went-left, did-left, did-answers}
 use borrow.Author.Needs.{needs}
 use Rattle.run.proofs.doubles.act.Statement.{statement}
@@ -28,10 +28,10 @@ returns c =
     let args = c .before .before .before .before .before .before .before .before .before .before .before .before .before .before .before .args in
     let done = c .before .before .before .save in (
       rw (c .values-to .ensures)
-      (save-acts doubles (rowSaid (args .row)) (args .roles .now) (args .constants .now) (args .seeds .now) (args .next) (args .vals .now)
-      (args .values .now) (args .turns .now) (args .copied .now) (done .result) _
-      (c .before .before .before .before .before .before .if1 .taken)
-      (done .ensures)),
+          (save-acts doubles (rowSaid (args .row)) (args .roles .now) (args .constants .now) (args .seeds .now) (args .next) (args .vals .now)
+          (args .values .now) (args .turns .now) (args .copied .now) (done .result) _
+          (c .before .before .before .before .before .before .if1 .taken)
+          (done .ensures)),
       rw (c .values-to .ensures) (values-left (done .result) (args .next)),
     )
 
@@ -52,10 +52,10 @@ returns-2 c =
     let args = c .before .before .before .before .before .before .before .before .before .before .before .before .before .before .before .before .before .before .args in
     let done = c .before .before .before .before .before .take-back in (
       rw (c .values-to2 .ensures)
-      (take-back-acts doubles (rowSaid (args .row)) (args .roles .now) (args .constants .now) (args .seeds .now) (args .next) (args .vals .now)
-      (args .values .now) (args .turns .now) (args .copied .now) (done .result) _ _
-      (c .before .before .before .before .before .before .before .before .if2 .taken)
-      (done .ensures)),
+          (take-back-acts doubles (rowSaid (args .row)) (args .roles .now) (args .constants .now) (args .seeds .now) (args .next) (args .vals .now)
+          (args .values .now) (args .turns .now) (args .copied .now) (done .result) _ _
+          (c .before .before .before .before .before .before .before .before .if2 .taken)
+          (done .ensures)),
       rw (c .values-to2 .ensures) (values-left (done .result) (args .next)),
     )
 
@@ -73,10 +73,10 @@ returns-3 c =
     let args = c .before .before .before .before .before .before .before .before .before .before .before .before .before .before .before .before .args in
     let done = c .before .before .before .save-turn in (
       rw (c .turns-to .ensures)
-      (save-turn-acts doubles (rowSaid (args .row)) (args .roles .now) (args .constants .now) (args .seeds .now) (args .next) (args .vals .now)
-      (args .values .now) (args .turns .now) (args .copied .now) (done .result) _
-      (c .before .before .before .before .before .if3 .taken)
-      (done .ensures .1)),
+          (save-turn-acts doubles (rowSaid (args .row)) (args .roles .now) (args .constants .now) (args .seeds .now) (args .next) (args .vals .now)
+          (args .values .now) (args .turns .now) (args .copied .now) (done .result) _
+          (c .before .before .before .before .before .if3 .taken)
+          (done .ensures .1)),
       rw (c .turns-to .ensures) (turns-left (done .result) (args .next)),
     )
 
@@ -94,10 +94,10 @@ returns-4 c =
     let args = c .before .before .before .before .before .before .before .before .before .before .before .before .before .before .before .before .before .args in
     let done = c .before .before .before .clear in (
       rw (c .went-to .ensures)
-      (clear-acts doubles (rowSaid (args .row)) (args .roles .now) (args .constants .now) (args .seeds .now) (args .next) (args .vals .now)
-      (args .values .now) (args .turns .now) (args .copied .now) (done .result) _
-      (c .before .before .before .before .before .if4 .taken)
-      (done .ensures)),
+          (clear-acts doubles (rowSaid (args .row)) (args .roles .now) (args .constants .now) (args .seeds .now) (args .next) (args .vals .now)
+          (args .values .now) (args .turns .now) (args .copied .now) (done .result) _
+          (c .before .before .before .before .before .if4 .taken)
+          (done .ensures)),
       rw (c .went-to .ensures) (went-left (done .result) (args .next)),
     )
 
@@ -118,10 +118,10 @@ returns-5 c =
     let args = c .before .before .before .before .before .before .before .before .before .before .before .before .before .before .before .before .before .before .before .before .before .args in
     let done = c .before .before .before .before .before .turn-round in (
       rw (c .went-to2 .ensures)
-      (turn-round-acts doubles (rowSaid (args .row)) (args .roles .now) (args .constants .now) (args .seeds .now) (args .next) (args .vals .now)
-      (args .values .now) (args .turns .now) (args .copied .now) (done .result) _ _
-      (c .before .before .before .before .before .before .before .before .if5 .taken)
-      (done .ensures)),
+          (turn-round-acts doubles (rowSaid (args .row)) (args .roles .now) (args .constants .now) (args .seeds .now) (args .next) (args .vals .now)
+          (args .values .now) (args .turns .now) (args .copied .now) (done .result) _ _
+          (c .before .before .before .before .before .before .before .before .if5 .taken)
+          (done .ensures)),
       rw (c .went-to2 .ensures) (went-left (done .result) (args .next)),
     )
 
@@ -145,15 +145,15 @@ returns-6 c =
     let args = c .before .before .before .before .before .before .before .before .before .before .before .before .before .before .before .before .before .before .before .before .args in
     let done = c .before .before .before .assign-words in (
       rw (c .did-to .ensures)
-      (assign-acts doubles (rowSaid (args .row)) (args .roles .now) (args .constants .now) (args .seeds .now) (args .next) (args .vals .now)
-      (args .values .now) (args .turns .now) (args .copied .now) (whetherDid (done .result)) (didTo (done .result) (args .next)) _
-      (c .before .before .before .before .before .before .before .before .before .before .before .if1 .left)
-      (c .before .before .before .before .before .before .before .before .before .before .if2 .left)
-      (c .before .before .before .before .before .before .before .before .before .if3 .left)
-      (c .before .before .before .before .before .before .before .before .if4 .left)
-      (c .before .before .before .before .before .before .before .if5 .left)
-      (did-answers (done .result) (args .next))
-      (done .ensures)),
+          (assign-acts doubles (rowSaid (args .row)) (args .roles .now) (args .constants .now) (args .seeds .now) (args .next) (args .vals .now)
+          (args .values .now) (args .turns .now) (args .copied .now) (whetherDid (done .result)) (didTo (done .result) (args .next)) _
+          (c .before .before .before .before .before .before .before .before .before .before .before .if1 .left)
+          (c .before .before .before .before .before .before .before .before .before .before .if2 .left)
+          (c .before .before .before .before .before .before .before .before .before .if3 .left)
+          (c .before .before .before .before .before .before .before .before .if4 .left)
+          (c .before .before .before .before .before .before .before .if5 .left)
+          (did-answers (done .result) (args .next))
+          (done .ensures)),
       rw (c .did-to .ensures) (did-left (done .result) (args .next)),
     )
 

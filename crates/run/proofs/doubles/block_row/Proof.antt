@@ -12,15 +12,19 @@ use Rattle.run.proofs.doubles.block_row.Tie as tie
 
 returns : tie.Need-returns
 returns c =
-    let args = c .before .before .before .before .before .args in
-    (block-spent doubles (args .table .now) (args .rows) (args .beyond .now) (args .place) (args .vals .now) (args .turns .now) (args .bodies .now)
-    (args .to-come .now) (c .if1 .taken), tt)
+    let args = c .before .before .before .before .before .args in (
+      block-spent doubles (args .table .now) (args .rows) (args .beyond .now) (args .place) (args .vals .now) (args .turns .now) (args .bodies .now)
+          (args .to-come .now) (c .if1 .taken),
+      tt,
+    )
 
 returns-2 : tie.Need-returns-2
 returns-2 c =
-    let args = c .before .before .before .before .before .before .args in
-    (block-over doubles (args .table .now) (args .rows) (args .beyond .now) (args .place) (args .vals .now) (args .turns .now) (args .bodies .now)
-    (args .to-come .now) (omega (arith, c .before .if1 .left)) (c .if2 .taken), tt)
+    let args = c .before .before .before .before .before .before .args in (
+      block-over doubles (args .table .now) (args .rows) (args .beyond .now) (args .place) (args .vals .now) (args .turns .now) (args .bodies .now)
+          (args .to-come .now) (omega (arith, c .before .if1 .left)) (c .if2 .taken),
+      tt,
+    )
 
 row-words-requires : tie.Need-row-words-requires
 row-words-requires c κs = search needs
@@ -56,14 +60,14 @@ returns-3 c =
     let spends : args .place .left ≡ suc left = omega (arith, c .before .before .before .before .before .before .before .before .before .if1 .left) in
     let next = c .before .before .before .before .before .before .following .ensures in (
       block-compares doubles (args .table .now) (args .rows) (args .beyond .now) (args .place) (args .vals .now) (args .turns .now)
-      (args .bodies .now) (args .to-come .now) left spends (to .result) (rowSaid (read .result)) (picked .result) (read .ensures)
-      (c .before .before .before .before .before .before .before .before .if2 .left)
-      (c .before .before .before .before .if3 .taken)
-      (picked .ensures)
-      (rw next at (to .ensures)),
+          (args .bodies .now) (args .to-come .now) left spends (to .result) (rowSaid (read .result)) (picked .result) (read .ensures)
+          (c .before .before .before .before .before .before .before .before .if2 .left)
+          (c .before .before .before .before .if3 .taken)
+          (picked .ensures)
+          (rw next at (to .ensures)),
       rw (ap (λ (p : Place). suc (p .left)) next ∙ sym spends) at
-      (branch-left (args .beyond .now) (args .place .at) (c .before .before .before .before .before .before .following .result) (picked .result)
-      (to .result) (to .ensures)),
+          (branch-left (args .beyond .now) (args .place .at) (c .before .before .before .before .before .before .following .result) (picked .result)
+          (to .result) (to .ensures)),
     )
 
 cross-requires : tie.Need-cross-requires
@@ -82,10 +86,10 @@ returns-4 c =
     (arith, c .before .before .before .before .before .before .before .before .before .before .before .if1 .left) in
     let next = c .before .before .before .before .before .before .before .before .following .ensures in (
       block-crosses doubles (args .table .now) (args .rows) (args .beyond .now) (args .place) (args .vals .now) (args .turns .now)
-      (args .bodies .now) (args .to-come .now) left spends _ _ _ (done .result) (rowSaid (read .result)) (read .ensures)
-      (c .before .before .before .before .before .before .before .before .before .before .if2 .left)
-      (c .before .before .before .before .before .before .if3 .left)
-      (rw next at (done .ensures .1)),
+          (args .bodies .now) (args .to-come .now) left spends _ _ _ (done .result) (rowSaid (read .result)) (read .ensures)
+          (c .before .before .before .before .before .before .before .before .before .before .if2 .left)
+          (c .before .before .before .before .before .before .if3 .left)
+          (rw next at (done .ensures .1)),
       rw (ap (λ (p : Place). suc (p .left)) next ∙ sym spends) at (done .ensures .2),
     )
 

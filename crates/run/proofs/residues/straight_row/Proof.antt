@@ -13,9 +13,11 @@ use Rattle.run.proofs.residues.straight_row.Tie as tie
 
 returns : tie.Need-returns
 returns c =
-    let args = c .before .before .before .before .before .before .before .before .before .args in
-    (straight-over residues (args .table .now) (args .rows) (args .roles .now) (args .constants .now) (args .seeds .now) (args .place)
-    (cellsOf residues (args .vals .now) (args .values .now) (args .turns .now) (args .copied .now)) (c .if1 .taken), tt)
+    let args = c .before .before .before .before .before .before .before .before .before .args in (
+      straight-over residues (args .table .now) (args .rows) (args .roles .now) (args .constants .now) (args .seeds .now) (args .place)
+          (cellsOf residues (args .vals .now) (args .values .now) (args .turns .now) (args .copied .now)) (c .if1 .taken),
+      tt,
+    )
 
 row-words-requires : tie.Need-row-words-requires
 row-words-requires c κs = search needs
@@ -28,16 +30,18 @@ returns-2 c =
     let args = c .before .before .before .before .before .before .before .before .before .before .before .before .args in
     let read = c .before .before .row-words in (
       straight-block residues (args .table .now) (args .rows) (args .roles .now) (args .constants .now) (args .seeds .now) (args .place)
-      (cellsOf residues (args .vals .now) (args .values .now) (args .turns .now) (args .copied .now)) (rowSaid (read .result)) (read .ensures)
-      (sym (c .before .is-of-block .ensures) ∙ c .if2 .taken),
+          (cellsOf residues (args .vals .now) (args .values .now) (args .turns .now) (args .copied .now)) (rowSaid (read .result)) (read .ensures)
+          (sym (c .before .is-of-block .ensures) ∙ c .if2 .taken),
       tt,
     )
 
 returns-3 : tie.Need-returns-3
 returns-3 c =
-    let args = c .before .before .before .before .before .before .before .before .before .before .before .before .before .args in
-    (straight-spent residues (args .table .now) (args .rows) (args .roles .now) (args .constants .now) (args .seeds .now) (args .place)
-    (cellsOf residues (args .vals .now) (args .values .now) (args .turns .now) (args .copied .now)) (c .if3 .taken), tt)
+    let args = c .before .before .before .before .before .before .before .before .before .before .before .before .before .args in (
+      straight-spent residues (args .table .now) (args .rows) (args .roles .now) (args .constants .now) (args .seeds .now) (args .place)
+          (cellsOf residues (args .vals .now) (args .values .now) (args .turns .now) (args .copied .now)) (c .if3 .taken),
+      tt,
+    )
 
 add-following : tie.Need-add-following
 add-following c = search needs
@@ -73,12 +77,12 @@ returns-4 c =
     (arith, c .before .before .before .before .before .before .before .before .before .before .before .before .before .before .if3 .left) in
     let next = c .before .before .before .before .before .before .before .before .before .before .before .before .before .following .ensures in (
       straight-acts residues (args .table .now) (args .rows) (args .roles .now) (args .constants .now) (args .seeds .now) (args .place) left
-      (cellsOf residues (args .vals .now) (args .values .now) (args .turns .now) (args .copied .now)) _ (done .result) (rowSaid (read .result))
-      (read .ensures)
-      (sym (c .before .before .before .before .before .before .before .before .before .before .before .before .before .before .before .before .is-of-block .ensures) ∙ c .before .before .before .before .before .before .before .before .before .before .before .before .before .before .before .if2 .left)
-      (c .before .before .before .before .before .before .before .before .before .before .before .before .before .before .before .before .before .before .if1 .left)
-      spends
-      (rw next at (done .ensures .0)),
+          (cellsOf residues (args .vals .now) (args .values .now) (args .turns .now) (args .copied .now)) _ (done .result) (rowSaid (read .result))
+          (read .ensures)
+          (sym (c .before .before .before .before .before .before .before .before .before .before .before .before .before .before .before .before .is-of-block .ensures) ∙ c .before .before .before .before .before .before .before .before .before .before .before .before .before .before .before .if2 .left)
+          (c .before .before .before .before .before .before .before .before .before .before .before .before .before .before .before .before .before .before .if1 .left)
+          spends
+          (rw next at (done .ensures .0)),
       rw (ap (λ (p : Place). suc (p .left)) next ∙ sym spends) at (done .ensures .1),
     )
 
