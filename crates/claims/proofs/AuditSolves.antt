@@ -22,7 +22,7 @@ use Rattle.claims.specs.IdealSweep.{swept, Ideal, ideal}
 use Rattle.claims.specs.EquationTwo.{Instance, valueNo, EquationTwo}
 use Rattle.claims.specs.WholeRun.{AnswersAs}
 use Rattle.claims.specs.Demands.{AuditSolves}
-use Rattle.claims.proofs.AttemptLaws.{same-through, went}
+use Rattle.run.proofs.AttemptLaws.{same-through, went}
 use Rattle.claims.proofs.Runs.{runs}
 use Rattle.claims.proofs.RunsKeepSizes.{runs-keep}
 use Rattle.claims.proofs.RunAccepted.{RunAccepted, run-accepted}

@@ -16,7 +16,7 @@ use Rattle.table.specs.TableRows.{Action, assign, save, takeBack, saveTurn, cle
 use Rattle.run.specs.Attempts.{through, halted, _>>=_, whole, look}
 use Rattle.run.specs.Actions.{Memory, Setting, evaluated, acted, stored, withStore}
 use Rattle.run.specs.RowReads.{originalAt, readsOf}
-use Rattle.claims.proofs.AttemptLaws.{Ready, gives, stops, whole-ready}
+use Rattle.run.proofs.AttemptLaws.{Ready, gives, stops, whole-ready}
 use Rattle.claims.proofs.Stores.{is-below, same-default, at-known, at-first-part, at-second-part, set-second-part}
 
 -- ---- rows that work on the adjoints

@@ -27,7 +27,7 @@ use Rattle.run.specs.InTheLarge.{Stop}
 use Rattle.claims.specs.Execution.{Executed, Progress, performed, execution, executed}
 use Rattle.claims.specs.IdealSweep.{swept, Ideal, ideal}
 use Rattle.claims.specs.EquationTwo.{Instance, valueNo, Trace, EquationTwo}
-use Rattle.claims.proofs.AttemptLaws.{same-through, went}
+use Rattle.run.proofs.AttemptLaws.{same-through, went}
 use Rattle.claims.proofs.Runs.{Runs, stay, row, left, right, last, more, runs, was-performed}
 use Rattle.claims.proofs.RunsKeepSizes.{performed-keeps, runs-keep}
 use Rattle.claims.proofs.ResiduesGo.{execution-goes}

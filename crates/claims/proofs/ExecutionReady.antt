@@ -14,7 +14,7 @@ use Rattle.run.specs.Attempts.{Attempt, through, _>>=_, whole, look}
 use Rattle.run.specs.Actions.{evaluated, compared}
 use Rattle.run.specs.InTheLarge.{Stop, chosen}
 use Rattle.claims.specs.Execution.{Progress, performed, turned, executed}
-use Rattle.claims.proofs.AttemptLaws.{Ready, gives, ready-then, stops, whole-ready}
+use Rattle.run.proofs.AttemptLaws.{Ready, gives, ready-then, stops, whole-ready}
 use Rattle.claims.proofs.Runs.{runs}
 use Rattle.claims.proofs.RunsKeepSizes.{performed-keeps, runs-keep}
 use Rattle.claims.proofs.Stores.{known-at}

@@ -21,7 +21,7 @@ use Rattle.run.specs.Actions.{Memory, Setting, evaluated, acted, compared, verd
 use Rattle.run.specs.InTheLarge.{Stop, from, chosen, tableRun}
 use Rattle.claims.specs.Execution.{Progress, onward, performed, turned, executed}
 use Rattle.claims.specs.SavedRows.{onto, savedValues}
-use Rattle.claims.proofs.AttemptLaws.{bind-assoc, bind-same}
+use Rattle.run.proofs.AttemptLaws.{bind-assoc, bind-same}
 use Rattle.claims.proofs.Runs.{was-performed, Runs, stay, row, left, right, last, more, runs}
 use Rattle.claims.proofs.Stores.{is-below}
 use Rattle.claims.proofs.RunsKeepSizes.{performed-keeps, runs-keep}

@@ -15,7 +15,7 @@ use Rattle.run.specs.Calls.{settingOf}
 use Rattle.run.specs.InTheLarge.{Stop, tableRun}
 use Rattle.claims.specs.Execution.{Executed, execution}
 use Rattle.claims.specs.IdealSweep.{derivedBy, swept, Ideal, ideal}
-use Rattle.claims.proofs.AttemptLaws.{bind-unless}
+use Rattle.run.proofs.AttemptLaws.{bind-unless}
 use Rattle.claims.proofs.Heights.{withRooms, more-room-same-in-the-large}
 
 module _ (A : Arithmetic) (setting : Setting A) (values turns : ℕ) (moreValues : setting .valueRoom ≤ values) (moreTurns : setting .turnRoom ≤ turns) where

@@ -12,7 +12,6 @@ pub mod StartExactlyWhen
 pub mod ExactlyWhenHolds
 pub mod ReaderExactlyWhen
 -- demand 3: the replay
-pub mod AttemptLaws
 pub mod Runs
 pub mod RunsKeepSizes
 pub mod Stores

@@ -8,7 +8,7 @@ use Rattle.sheet.specs.Names.{Present}
 use Rattle.sheet.specs.Reading.{Sheet, variablesOf}
 use Rattle.run.specs.Attempts.{through}
 use Rattle.claims.specs.Execution.{Progress, execution}
-use Rattle.claims.proofs.AttemptLaws.{Ready, gives, stops}
+use Rattle.run.proofs.AttemptLaws.{Ready, gives, stops}
 use Rattle.claims.proofs.ExecutionReady.{executed-ready}
 
 pub execution-goes : (sheet : Sheet) (starts : List ℕ) → length starts ≡ variablesOf sheet

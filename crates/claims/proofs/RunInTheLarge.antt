@@ -29,7 +29,7 @@ use Rattle.claims.specs.Execution.{Progress, execution}
 use Rattle.claims.specs.IdealSweep.{swept, Ideal, ideal}
 use Rattle.claims.specs.SavedRows.{savedValues, recordedIn}
 use Rattle.claims.specs.WholeRun.{Matches}
-use Rattle.claims.proofs.AttemptLaws.{Ready, gives, stops}
+use Rattle.run.proofs.AttemptLaws.{Ready, gives, stops}
 use Rattle.claims.proofs.Runs.{Runs, runs}
 use Rattle.claims.proofs.RunsKeepSizes.{runs-keep}
 use Rattle.claims.proofs.ExecutionReady.{executed-ready}

@@ -5,23 +5,17 @@ use mathlib.Core.Bool.{Bool, true, false}
 use mathlib.Core.List.{List}
 use mathlib.Core.Option.{some}
 use lib.ListN.{length, set}
-use native.Mathlib.Omega.{arith}
 use Rattle.number.specs.Arithmetic.{Arithmetic}
 use Rattle.sheet.specs.Tree.{Tree, done, one, fork, again, rows}
 use Rattle.sheet.specs.Rows.{Assignment, _≔_, Source, Test}
-use Rattle.table.specs.TableRows.{Origin, ofRow, itself}
-use Rattle.run.specs.Attempts.{Attempt, through, halted, stuck, present, replaced}
+use Rattle.table.specs.TableRows.{ofRow, itself}
+use Rattle.run.specs.Attempts.{through, present, replaced}
 use Rattle.run.specs.Actions.{evaluated, compared}
 use Rattle.run.specs.InTheLarge.{from, chosen}
 use Rattle.claims.specs.Execution.{Progress, onward, performed, turned, executed}
-use Rattle.claims.proofs.AttemptLaws.{gives, is-present, same-through, was-replaced, went}
+use Rattle.run.proofs.AttemptLaws.{came, is-present, same-through, was-replaced, went}
 
 module _ (A : Arithmetic) where
-  pub came : {X : Type 0} (origin : Origin) (m : Attempt (A .Why) X) (x : X) → from A origin m ≡ through x → m ≡ through x
-  came origin (through y) x e = cc
-  came origin (halted why) x e = let z : _≡_ {A = ℕ} 0 1 = cc in absurd (omega arith)
-  came origin stuck x e = let z : _≡_ {A = ℕ} 0 1 = cc in absurd (omega arith)
-
   module _ (constants : List ℕ) where
     -- one assignment that went through: the value it gave, and the values before and after
     pub record Performed (p d : ℕ) (source : Source) (now next : Progress A) : Type 0 where
@@ -39,7 +33,7 @@ module _ (A : Arithmetic) where
         let store = was-replaced (now .store) (second .0) d (first .0) (second .1) in
         record {
           value = first .0;
-          gives = came (ofRow (record { index = p }) itself) (evaluated A constants source (now .store)) (first .0) (first .1);
+          gives = came A (ofRow (record { index = p }) itself) (evaluated A constants source (now .store)) (first .0) (first .1);
           known = store .0;
           goes = cc (second .2, store .1);
         }

@@ -2,9 +2,19 @@
 pub mod PlaceLaws
 pub mod StackLaws
 pub mod RowLaws
+pub mod RoleLaws
 pub mod RoundLaws
+pub mod FillingLaws
+pub mod AdmittedLaws
 pub mod RowsPinned
+pub mod AttemptLaws
+pub mod RunsCopy
 pub mod RowWordLaws
+pub mod OpenedLaws
+pub mod LineLaws
+pub mod StraightLaws
+pub mod CrossLaws
+pub mod RunLaws
 -- the machine on a table
 pub mod MachineFollows
 pub mod Fuel
@@ -13,8 +23,8 @@ pub mod OpenRepeats
 pub mod JumpsRight
 pub mod JumpPass
 pub mod TableHeld
-pub mod OpenedLaws
-pub mod LineLaws
-pub mod StraightLaws
-pub mod CrossLaws
-pub mod RunLaws
+-- the calls
+pub mod SectionLaws
+pub mod CallsJudged
+pub mod CallLaws
+pub mod CallsPinned

@@ -1,39 +1,28 @@
 -- Row 17 as one loop: a turn of it copies one value out and sets one adjoint.
-use Prim.Native.Nat.{ℕ, zero, suc, _+_, _*_, _≤_, _<_}
+use Prim.Native.Nat.{ℕ, zero, _+_, _*_, _≤_, _<_}
 use mathlib.Core.Path.{_≡_, refl, sym, ap, _∙_}
 use mathlib.Core.Bool.{cond}
-use mathlib.Core.List.{List, [], _∷_, _++_, append-nil}
+use mathlib.Core.List.{List, [], _++_, append-nil}
 use native.Mathlib.Nat.{zero-add}
 use native.Mathlib.Numerals.{add-one}
 use native.Mathlib.Omega.{arith}
 use lib.ListN.{length, getD, take, drop, set, length-append, List·getD-append, drop-of-length-le}
-use lib.Seq.{paste, paste-zero, paste-suc, length-paste, getD-take, getD-drop, take-all, length-take-le}
+use lib.Seq.{paste, paste-zero, paste-suc, length-paste, getD-take, take-all, length-take-le}
 use Rattle.number.specs.Arithmetic.{Arithmetic}
 use Rattle.sheet.specs.Rows.{isDependent}
 use Rattle.run.specs.Attempts.{through, stuck}
 use Rattle.run.specs.Actions.{seeded, turnedRound, acted}
 use Rattle.run.specs.Buffers.{RoundSizes, TurnsRound}
-
-any-default : {X : Type 0} (l : List X) (i : ℕ) (y z : X) → i < length l → getD l i y ≡ getD l i z
-any-default [] i y z h = absurd (omega arith)
-any-default (x ∷ l) zero y z h = refl
-any-default (x ∷ l) (suc i) y z h = any-default l i y z (omega arith)
+use Rattle.run.proofs.RoleLaws.{seeded-counting, counting-length, counting-at}
 
 module _ (A : Arithmetic) where
   pub seeded-length : (roles : List ℕ) (seeds : List (A .Carrier)) → length (seeded A roles seeds) ≡ length roles
-  unfolding seeded
-  seeded-length [] seeds = refl
-  seeded-length (role ∷ roles) seeds = ap suc (seeded-length roles (drop 1 seeds))
+  seeded-length roles seeds = ap length (seeded-counting A roles seeds) ∙ counting-length A isDependent roles seeds
 
-  pub seeded-at : (roles : List ℕ) (seeds : List (A .Carrier)) (i : ℕ) (z : A .Carrier) → i < length roles
-      → getD (seeded A roles seeds) i z ≡ cond (isDependent (getD roles i 0)) (getD seeds i (A .zero)) (A .zero)
-  unfolding seeded
-  seeded-at [] seeds i z h = absurd (omega arith)
-  seeded-at (role ∷ roles) seeds zero z h = refl
-  seeded-at (role ∷ roles) seeds (suc i) z h =
-      let next : 1 + i ≡ suc i = omega arith in
-      seeded-at roles (drop 1 seeds) i z (omega arith)
-      ∙ ap (λ x. cond (isDependent (getD roles i 0)) x (A .zero)) (getD-drop 1 seeds i (A .zero) ∙ ap (λ n. getD seeds n (A .zero)) next)
+  pub seeded-at : (roles : List ℕ) (seeds : List (A .Carrier)) (i : ℕ) (z : A .Carrier) → i < length roles → i < length seeds
+      → getD (seeded A roles seeds) i z ≡ cond (isDependent (getD roles i 0)) (getD seeds i z) (A .zero)
+  seeded-at roles seeds i z h there =
+      ap (λ l. getD l i z) (seeded-counting A roles seeds) ∙ counting-at A isDependent roles seeds i z h there
 
   module _ (roles : List ℕ) (seeds store copied : List (A .Carrier)) where
     -- the buffers after i turns
@@ -79,7 +68,7 @@ module _ (A : Arithmetic) where
           let room = sizes .copiedFits in
           let there : i < length seeds = rw (sizes .seedsFit) h in
           let seed : cond (isDependent (getD roles i 0)) (getD seeds i z) (A .zero) ≡ getD (seeded A roles seeds) i z =
-          rw (any-default seeds i z (A .zero) there) (sym (seeded-at roles seeds i z h)) in
+          sym (seeded-at roles seeds i z h there) in
           rw (add-one i, seed, now .storeIs, now .copiedIs, original-kept i i z h)
           (record {
             storeIs = paste-suc store v (seeded A roles seeds) i z (omega arith) (rw (seeded-length roles seeds) h);

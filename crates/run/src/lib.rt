@@ -1,14 +1,37 @@
-// The runners: the code of each single row, a row as one step of the row machine, and a run of a table's rows, in both arithmetics.
-// A row's contract says what its written meaning (specs/Actions.antt) makes of the buffers (specs/Buffers.antt), and a run's that it is the
-// machine's (specs/RowSteps.antt, specs/RunsRows.antt). No place is asked for: one that is not there answers Stuck.
+// The runners: the code of each single row, a row as one step of the row machine, a run of a table's rows, and the calls that run a sheet,
+// in both arithmetics. A row's contract says what its written meaning (specs/Actions.antt) makes of the buffers (specs/Buffers.antt), a run's
+// that it is the machine's (specs/RunsRows.antt), and a call's that it is `run` (specs/Calls.antt). No place is asked for: one that is not
+// there answers Stuck.
 pub mod blocks;
+mod buffers;
+mod calls_audit;
+mod calls_double;
 pub mod doubles;
-pub mod jumps;
+mod jumps;
 pub mod places;
+mod refusals;
 pub mod residues;
 pub mod turns;
 
+pub use calls_audit::run_audit;
+pub use calls_double::run_double;
 use sheet::RowNumber;
+
+// What refuses a planned sheet's run, refusals 8 to 11. A start value or seed that isn't finite has its place.
+pub enum Unfit {
+    SmallTable,
+    SmallValueStack,
+    SmallTurnStack,
+    WrongStarts,
+    WrongSeeds,
+    WrongResult,
+    NotFinite(usize),
+}
+
+pub enum Fit {
+    No(Unfit),
+    Fits,
+}
 
 // A right side in residues, which nothing stops.
 pub enum ResidueRead {

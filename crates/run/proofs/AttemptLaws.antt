@@ -7,8 +7,10 @@ use mathlib.Core.Path.{_≡_, refl}
 use lib.Dec.{ltb, ltb→lt}
 use lib.ListN.{length, set}
 use native.Mathlib.Omega.{arith}
-use Rattle.number.specs.Arithmetic.{Outcome, stop, value}
+use Rattle.number.specs.Arithmetic.{Arithmetic, Outcome, stop, value}
+use Rattle.table.specs.TableRows.{Origin}
 use Rattle.run.specs.Attempts.{Attempt, _>>=_, halted, present, replaced, stuck, through, whole}
+use Rattle.run.specs.InTheLarge.{from}
 
 pub bind-assoc : {W X Y Z : Type 0} (m : Attempt W X) (f : X → Attempt W Y) (g : Y → Attempt W Z) → (m >>= f >>= g) ≡ (m >>= λ x. f x >>= g)
 bind-assoc (through x) f g = refl
@@ -32,6 +34,12 @@ same-through e = cc
 pub is-present : {W X : Type 0} (o : Option X) (x : X) → present {Why = W} o ≡ through x → o ≡ some x
 is-present none x e = let z : _≡_ {A = ℕ} 0 1 = cc in absurd (omega arith)
 is-present (some y) x e = cc
+
+module _ (A : Arithmetic) where
+  pub came : {X : Type 0} (origin : Origin) (m : Attempt (A .Why) X) (x : X) → from A origin m ≡ through x → m ≡ through x
+  came origin (through y) x e = cc
+  came origin (halted why) x e = let z : _≡_ {A = ℕ} 0 1 = cc in absurd (omega arith)
+  came origin stuck x e = let z : _≡_ {A = ℕ} 0 1 = cc in absurd (omega arith)
 
 -- a store that was replaced at a place had that place
 pub was-replaced : {W X : Type 0} (xs ys : List X) (i : ℕ) (x : X) → replaced {Why = W} xs i x ≡ through ys → (i < length xs) × (ys ≡ set xs i x)

@@ -1,0 +1,24 @@
+-- Any two results that the contracts of run_double and run_audit permit coincide: answer, place and every lent word.
+use Prim.Native.Nat.{ℕ}
+use mathlib.Core.Path.{_≡_, sym, ap, _∙_}
+use mathlib.Core.List.{List}
+use Rattle.number.specs.Arithmetic.{Arithmetic}
+use Rattle.table.specs.declared.Answer.{Answer}
+use Rattle.run.specs.Calls.{Lent, Ran, run}
+use Rattle.run.specs.CallAnswers.{ranOf}
+
+module _ (A : Arithmetic) where
+  -- an answer with what the lent buffers then hold
+  pub record Left : Type 0 where
+    pub answer : Answer
+    pub lent : Lent A
+
+  leftBy : Ran A → Left
+  leftBy ran = record { answer = record { number = ran .number; place = ran .place }; lent = ran .lent }
+
+  pub one-run : (words : List ℕ) (starts seeds : List (A .Carrier)) (lent : Lent A) (left left′ : Left)
+      → ranOf A (left .answer) (left .lent) ≡ run A words starts seeds lent
+      → ranOf A (left′ .answer) (left′ .lent) ≡ run A words starts seeds lent
+      → left ≡ left′
+  unfolding leftBy
+  one-run words starts seeds lent left left′ e e′ = ap leftBy (e ∙ sym e′)

@@ -1,0 +1,153 @@
+// Refusals 8 to 11, judged one after another once a sheet is planned.
+ghost use mathlib.Core.Path.{_≡_};
+ghost use mathlib.Core.List.{_++_};
+ghost use Prim.Native.Nat.{_+_, _^_, _<_};
+ghost use lib.ListN.{length};
+ghost use Rattle.number.specs.Doubles.{doubles};
+ghost use Rattle.sheet.specs.Refusals.{numberOf, placeOf};
+ghost use Rattle.run.specs.Calls.{allAdmitted};
+ghost use Rattle.run.specs.CallSteps.{fitSaid, unfitRefusal, tableFits, stacksFit, lengthsFit, roomsFit};
+use super::Fit;
+use super::Unfit;
+use number::double;
+use table::Answer;
+use table::Plan;
+
+// The numbers of these refusals, 8 apart, and of a run that stops.
+const SMALL_STACK: u16 = 9;
+
+const WRONG_LENGTH: u16 = 10;
+
+const NOT_FINITE_GIVEN: u16 = 11;
+
+pub const NOT_FINITE_RESULT: u16 = 12;
+
+// No number of 01's: no run ever answers it.
+pub const STUCK: u16 = 65535;
+
+// 8
+fn table_fits(rows: usize, room: usize) -> Fit
+    ensures { λ r. ⌜ fitSaid r ≡ tableFits rows room ⌝ }
+{
+    if room < 1 {
+        return Fit::No(Unfit::SmallTable);
+    }
+    if (room - 1) / sheet::ROW_WORDS < rows {
+        return Fit::No(Unfit::SmallTable);
+    }
+    Fit::Fits
+}
+
+// 9
+fn stacks_fit(values: usize, value_room: usize, turns: usize, turn_room: usize) -> Fit
+    ensures { λ r. ⌜ fitSaid r ≡ stacksFit values «value_room» turns «turn_room» ⌝ }
+{
+    if value_room < values {
+        return Fit::No(Unfit::SmallValueStack);
+    }
+    if turn_room < turns {
+        return Fit::No(Unfit::SmallTurnStack);
+    }
+    Fit::Fits
+}
+
+// 10
+fn lengths_fit(variables: usize, starts: usize, seeds: usize, result: usize) -> Fit
+    ensures { λ r. ⌜ fitSaid r ≡ lengthsFit variables starts seeds result ⌝ }
+{
+    if starts != variables {
+        return Fit::No(Unfit::WrongStarts);
+    }
+    if seeds != variables {
+        return Fit::No(Unfit::WrongSeeds);
+    }
+    if result % 2 != 0 {
+        return Fit::No(Unfit::WrongResult);
+    }
+    if result / 2 != variables {
+        return Fit::No(Unfit::WrongResult);
+    }
+    Fit::Fits
+}
+
+// 11: the numbers are judged in their order, the first one at this place.
+fn finite_from(numbers: &[f64], place: usize) -> Fit
+    requires { ⌜ place + length (now numbers) < 2 ^ 64 ⌝ }
+    ensures { λ r. ⌜ fitSaid r ≡ allAdmitted doubles (now (numbers .entry)) place ⌝ }
+{
+    let mut i: usize = 0;
+    while i < numbers.len() {
+        if !double::is_finite(numbers[i]) {
+            return Fit::No(Unfit::NotFinite(place + i));
+        }
+        i += 1;
+    }
+    Fit::Fits
+}
+
+pub fn all_finite(starts: &[f64], seeds: &[f64]) -> Fit
+    ensures { λ r. ⌜ fitSaid r ≡ allAdmitted doubles (now (starts .entry) ++ now (seeds .entry)) 0 ⌝ }
+{
+    if let Fit::No(why) = finite_from(starts, 0) {
+        return Fit::No(why);
+    }
+    finite_from(seeds, starts.len())
+}
+
+// 8 to 10
+pub fn rooms_fit(
+    plan: Plan,
+    table_room: usize,
+    value_room: usize,
+    turn_room: usize,
+    starts: usize,
+    seeds: usize,
+    result: usize,
+) -> Fit
+    ensures { λ r. ⌜ fitSaid r ≡ roomsFit plan «table_room» «value_room» «turn_room» starts seeds result ⌝ }
+{
+    if let Fit::No(why) = table_fits(plan.rows, table_room) {
+        return Fit::No(why);
+    }
+    if let Fit::No(why) = stacks_fit(plan.values, value_room, plan.turns, turn_room) {
+        return Fit::No(why);
+    }
+    let shape = plan.shape;
+    lengths_fit(shape.variables, starts, seeds, result)
+}
+
+// The number and the place of a refusal.
+pub fn answer_no(why: Unfit) -> Answer
+    ensures { λ r. ⌜ (r .number ≡ numberOf (unfitRefusal why)) × (r .place ≡ placeOf (unfitRefusal why)) ⌝ }
+{
+    match why {
+        Unfit::SmallTable => Answer {
+            number: table::SMALL_TABLE,
+            place: 0,
+        },
+        Unfit::SmallValueStack => Answer {
+            number: SMALL_STACK,
+            place: 0,
+        },
+        Unfit::SmallTurnStack => Answer {
+            number: SMALL_STACK,
+            place: 1,
+        },
+        Unfit::WrongStarts => Answer {
+            number: WRONG_LENGTH,
+            place: 0,
+        },
+        Unfit::WrongSeeds => Answer {
+            number: WRONG_LENGTH,
+            place: 1,
+        },
+        Unfit::WrongResult => Answer {
+            number: WRONG_LENGTH,
+            place: 2,
+        },
+        Unfit::NotFinite(place) => Answer {
+            number: NOT_FINITE_GIVEN,
+            place,
+        },
+    }
+}
