@@ -15,6 +15,7 @@ pub mod turns;
 
 pub use calls_audit::run_audit;
 pub use calls_double::run_double;
+pub use refusals::NOT_FINITE_RESULT;
 use sheet::RowNumber;
 
 // What refuses a planned sheet's run, refusals 8 to 11. A start value or seed that isn't finite has its place.

@@ -1,0 +1,19 @@
+-- `gallop::lend::first_words` is safe: the part that is lent is as long as was asked for.
+use mathlib.Core.Path.{sym}
+use native.Mathlib.Omega.{arith}
+use lib.Seq.{length-take-le}
+use borrow.Author.Needs.{needs}
+use Rattle.gallop.proofs.lend.first_words.Statement.{statement}
+use Rattle.gallop.proofs.lend.first_words.Tie as tie
+
+slice-aggregate-result : tie.Need-slice-aggregate-result
+slice-aggregate-result c = sym (length-take-le _ _ (omega arith))
+
+returns : tie.Need-returns
+returns c = search needs
+
+returns-2 : tie.Need-returns-2
+returns-2 c = search needs
+
+pub first-words-spec : {M : Type 1} → statement M
+first-words-spec = tie.close (tie.spec slice-aggregate-result returns returns-2)

@@ -1,0 +1,36 @@
+// The program: one request a line on standard input, one answer a line on standard output.
+mod answers;
+mod audits;
+mod doubles;
+mod fields;
+mod lend;
+mod lines;
+mod pattern;
+mod requests;
+mod runs;
+
+use lines::Line;
+use lines::Waiting;
+
+// Nothing says that the input ends, so the lines are counted down from a number that no run uses up.
+fn main() {
+    let mut read = [0u8; lines::READ_AT_ONCE];
+    let mut line = [0u8; lines::MAX_LINE];
+    let mut numbers = [0u64; fields::MAX_FIELDS];
+    let mut out = [0u8; answers::MAX_ANSWER];
+    let mut waiting = Waiting { at: 0, end: 0 };
+    let mut left = u64::MAX;
+    while 0 < left {
+        match lines::next_line(&mut read, &mut line, waiting) {
+            Line::End => return,
+            Line::Is(length, rest) => {
+                let used = requests::answer_line(&line, length, &mut numbers, &mut out);
+                if !answers::send(&out, used) {
+                    return;
+                }
+                waiting = rest;
+            }
+        }
+        left -= 1;
+    }
+}
