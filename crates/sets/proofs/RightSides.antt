@@ -9,13 +9,13 @@ use mathlib.Core.Logic.{_≢_}
 use lib.ListN.{getD}
 use lib.Bits.{or-comm}
 use Rattle.sheet.specs.Tree.{basic, ifLine, elseLine, endIf, repeat, endRepeat}
-use Rattle.sheet.specs.Rows.{Assignment, _≔_, Source, copy, fixed, sum, difference, product, negation, less, SheetLine, Row, rowOfAssignment, sheetRowOf}
+use Rattle.sheet.specs.Rows.{Assignment, _≔_, Source, copy, fixed, sum, difference, product, negation, less, SheetLine, Row, rowOfAssignment, sheetRowOf, lineOfRow}
 use Rattle.sets.specs.declared.Which.{Which}
 use Rattle.sets.specs.declared.Which.the-variants.{Varied, Useful, Required}
 use Rattle.sets.specs.VariableSets.{VariableSet, _∪_}
 use Rattle.sets.specs.Equations.{setAt, rightSide, pointOf}
 use Rattle.sets.specs.RowWords.{Gives}
-use Rattle.sets.specs.RowEquations.{equationOf, forwardOf, backwardOf, turnOf, ownPoint, settledPoint, joinsBy, RightSide, Given, rowIn, activeIn, lineOfRow, equationIn}
+use Rattle.sets.specs.RowEquations.{equationOf, forwardOf, backwardOf, turnOf, ownPoint, settledPoint, joinsBy, RightSide, Given, rowIn, activeIn, equationIn}
 
 -- an assignment's kind and target stand in its row
 pub row-of-assignment : (d : ℕ) (source : Source) → (rowOfAssignment (d ≔ source) .d ≡ d) × (rowOfAssignment (d ≔ source) .kind < 7)

@@ -6,17 +6,13 @@ use mathlib.Core.List.{List, [], _∷_, map}
 use lib.ListN.{length}
 use Rattle.sheet.specs.Bounds.{limit}
 use Rattle.sheet.specs.Tree.{Tree, done, one, fork, again, rows, flat, basic, elseLine, endIf, endRepeat}
-use Rattle.sheet.specs.Rows.{Assignment, _≔_, copy, fixed, sum, difference, product, negation, less, Test, SheetLine, sheetRowOf, treeRows}
+use Rattle.sheet.specs.Rows.{Assignment, _≔_, copy, fixed, sum, difference, product, negation, less, Test, SheetLine, sheetRowOf, treeRows, lineOfRow}
 use Rattle.sheet.specs.Names.{SourcePresent, AssignmentPresent, Present}
 use Rattle.sheet.specs.Reading.{rowAt, rowsAt}
-use Rattle.sheet.proofs.RowsBack as rows-back
+use Rattle.sheet.proofs.RowsBack.{line-back}
 use Rattle.sheet.proofs.RowsCounted.{lines-counted}
-use Rattle.sets.specs.RowEquations.{lineBy, lineOfRow, lineIn, Readable, Small}
+use Rattle.sets.specs.RowEquations.{lineIn, Readable, Small}
 use Rattle.sets.proofs.RowByRow.{LinesAt}
-
-line-back : (l : SheetLine) → lineOfRow (sheetRowOf l) ≡ l
-unfolding lineOfRow
-line-back = rows-back.line-back lineBy (λ kind r. refl)
 
 -- ---- rows by number
 

@@ -4,12 +4,11 @@ use Prim.Native.Nat.{ℕ, zero, suc, _+_, _*_, _-_, _<_}
 use mathlib.Core.Path.{_≡_}
 use mathlib.Core.Bool.{Bool, false, _||_}
 use mathlib.Core.List.{List, [], _∷_}
-use mathlib.Core.Option.{Option, none, some}
 use lib.ListN.{getD, take, drop, length as List·length}
 use lib.Dec.{eqb}
 use Rattle.sheet.specs.Bounds.{limit}
 use Rattle.sheet.specs.Tree.{basic, ifLine, elseLine, endIf, repeat, endRepeat}
-use Rattle.sheet.specs.Rows.{Assignment, SheetLine, Row, Kind, kindOf, sheetRowOf, isIndependent, isDependent}
+use Rattle.sheet.specs.Rows.{Assignment, SheetLine, Row, sheetRowOf, isIndependent, isDependent, lineOfRow}
 use Rattle.sheet.specs.Reading.{rowAt}
 use Rattle.sets.specs.declared.Which.{Which}
 use Rattle.sets.specs.declared.Which.the-variants.{Varied, Useful, Required}
@@ -17,15 +16,6 @@ use Rattle.sets.specs.VariableSets.{VariableSet, has, places}
 use Rattle.sets.specs.Equations.{Equation, starts, passes, joins, unchanged, rightSide, setAt}
 use Rattle.sets.specs.ProperEquations.{Proper}
 use Rattle.sets.specs.Transfers.{variedAfter, usefulBefore, requiredAfter}
-
--- the line that a row's words say; of a row that says none, any
-abbrev pub lineBy : Option Kind → Row → SheetLine
-lineBy none r = endRepeat
-lineBy (some kind) r = kind .means (r .d) (r .a) (r .b)
-
-unfoldable pub lineOfRow : Row → SheetLine
-unfolding kindOf
-lineOfRow r = lineBy (kindOf (r .kind)) r
 
 -- the line of a sheet's row
 abbrev pub lineIn : List ℕ → (first row : ℕ) → SheetLine

@@ -1,41 +1,33 @@
 -- A row and its line settle each other: the line read from a row says that row again, and no other line says it.
 use Prim.Native.Nat.{ℕ, zero, suc, pred}
-use mathlib.Core.Path.{_≡_, refl, ap, subst}
+use mathlib.Core.Path.{_≡_, refl, sym, ap, subst, _∙_}
 use mathlib.Core.Bool.{Bool, true, false, _&&_}
 use mathlib.Core.List.{List, [], _∷_, map}
 use mathlib.Core.Option.{Option, none, some}
 use lib.Dec.{T, leb, eqb→eq, leb→le}
 use native.Mathlib.Omega.{arith}
 use Rattle.sheet.specs.Tree.{basic, ifLine, elseLine, endIf, repeat, endRepeat}
-use Rattle.sheet.specs.Rows.{_≔_, copy, fixed, sum, difference, product, negation, less, SheetLine, Row, turns, unused, fits, Kind, kindOf, wordsFit, sheetRowOf}
+use Rattle.sheet.specs.Rows.{_≔_, copy, fixed, sum, difference, product, negation, less, SheetLine, Row, turns, unused, fits, Kind, kindOf, wordsFit, sheetRowOf, lineOfRow}
 
 -- ---- from a line to its row and back
 
--- reading a row as its kind means it gets back the line that the row was made of
-pub line-back : (by : Option Kind → Row → SheetLine) → ((kind : Kind) (r : Row) → by (some kind) r ≡ kind .means (r .d) (r .a) (r .b))
-    → (l : SheetLine) → by (kindOf (sheetRowOf l .kind)) (sheetRowOf l) ≡ l
-unfolding kindOf sheetRowOf
-line-back by means (basic (d ≔ copy a)) = means _ _
-line-back by means (basic (d ≔ fixed a)) = means _ _
-line-back by means (basic (d ≔ sum a b)) = means _ _
-line-back by means (basic (d ≔ difference a b)) = means _ _
-line-back by means (basic (d ≔ product a b)) = means _ _
-line-back by means (basic (d ≔ negation a)) = means _ _
-line-back by means (ifLine (less a b)) = means _ _
-line-back by means elseLine = means _ _
-line-back by means endIf = means _ _
-line-back by means (repeat m) = means _ _
-line-back by means endRepeat = means _ _
-
--- the line of a row, whatever its words; of a row of no kind, another
-abbrev lineOr : SheetLine → Option Kind → Row → SheetLine
-lineOr other none r = other
-lineOr other (some kind) r = kind .means (r .d) (r .a) (r .b)
+-- the line that a row says is the line that it was made of
+pub line-back : (l : SheetLine) → lineOfRow (sheetRowOf l) ≡ l
+unfolding lineOfRow sheetRowOf
+line-back (basic (d ≔ copy a)) = refl
+line-back (basic (d ≔ fixed a)) = refl
+line-back (basic (d ≔ sum a b)) = refl
+line-back (basic (d ≔ difference a b)) = refl
+line-back (basic (d ≔ product a b)) = refl
+line-back (basic (d ≔ negation a)) = refl
+line-back (ifLine (less a b)) = refl
+line-back elseLine = refl
+line-back endIf = refl
+line-back (repeat m) = refl
+line-back endRepeat = refl
 
 pub only-line : (l l′ : SheetLine) → sheetRowOf l ≡ sheetRowOf l′ → l ≡ l′
-only-line l l′ e =
-    let back = line-back (lineOr l) (λ kind r. refl) in
-    cc (back l, back l′, ap (λ r. lineOr l (kindOf (r .kind)) r) e)
+only-line l l′ e = sym (line-back l) ∙ ap lineOfRow e ∙ line-back l′
 
 pub only-lines : (ls ls′ : List SheetLine) → map sheetRowOf ls ≡ map sheetRowOf ls′ → ls ≡ ls′
 only-lines [] [] e = refl

@@ -5,10 +5,10 @@ use mathlib.Core.Bool.{Bool, true, false}
 use mathlib.Core.List.{List, [], _∷_, _++_}
 use native.Mathlib.Omega.{arith}
 use Rattle.sheet.specs.Tree.{flat, done, RowNumber}
-use Rattle.sheet.specs.Rows.{Row, kindOf, rowOf, rowOfAssignment}
+use Rattle.sheet.specs.Rows.{Row, kindOf, rowOf, rowOfAssignment, lineOfRow}
 use Rattle.table.specs.TableRows.{Table, Action, Operation, linesOf, tableRowOf, rowOfAction}
 use Rattle.table.specs.Adjoint.{put, putIf, partsOf, derivativeRows, backwardOf}
-use Rattle.table.specs.MarkedRows.{row4, rowIf, rowsIn, lineOfRow, sourceOf, partRows, assignmentBack, bitOf}
+use Rattle.table.specs.MarkedRows.{row4, rowIf, rowsIn, sourceOf, partRows, assignmentBack, bitOf}
 
 pub rows-of-put : (row : RowNumber) (operation : Operation) (action : Action) (rest : Table)
     → rowsIn (put row operation action rest) ≡ rowOfAction action ∷ rowsIn rest

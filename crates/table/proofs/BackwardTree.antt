@@ -6,15 +6,15 @@ use mathlib.Core.List.{List, [], _∷_, _++_, append-assoc, append-nil}
 use lib.ListN.{getD}
 use native.Mathlib.Omega.{arith}
 use Rattle.sheet.specs.Tree.{Tree, done, one, fork, again, basic, ifLine, elseLine, endIf, repeat, endRepeat, flat, rows, RowNumber}
-use Rattle.sheet.specs.Rows.{Assignment, Test, less, SheetLine, Row, sheetRowOf, rowOf, rowOfAssignment, rowOfTest, treeRows, _≔_, Source, copy, fixed, sum, difference, product, negation}
+use Rattle.sheet.specs.Rows.{Assignment, Test, less, SheetLine, Row, sheetRowOf, rowOf, rowOfAssignment, rowOfTest, treeRows, _≔_, Source, copy, fixed, sum, difference, product, negation, lineOfRow}
 use Rattle.sheet.specs.Reading.{rowsAt}
 use Rattle.sets.specs.Transfers.{Activity}
 use Rattle.sets.specs.Marks.{Marked, numbered}
 use Rattle.table.specs.TableRows.{Table, tableRowOf, rowOfAction, rowOfTableTest, onTurn, assign, clear, takeBack, t, u, adjointOf}
 use Rattle.table.specs.Adjoint.{addInto, subtractFrom, scaled, partsOf, derivativeRows, backwardOf, backwardPart}
-use Rattle.table.specs.MarkedRows.{row4, rowIf, rowsIn, lineOfRow, backwardOfLine, stepBack, turnsBack, Handed, rowOfNumber, backwardAt, wayBack, backwardRows, MarkSays, Noted, anyRow, knownBy, savedBy}
+use Rattle.table.specs.MarkedRows.{row4, rowIf, rowsIn, backwardOfLine, stepBack, turnsBack, Handed, rowOfNumber, backwardAt, wayBack, backwardRows, MarkSays, Noted, anyRow, knownBy, savedBy}
 use Rattle.table.proofs.AssignmentRows.{rows-of-put, rows-of-put-if, rows-of-done}
-use Rattle.table.proofs.LineRows.{line-back}
+use Rattle.sheet.proofs.RowsBack.{line-back}
 use Rattle.table.proofs.TreeRows.{StandsAt, tree-stands, stands-after, fork-before, again-before}
 
 -- ---- one assignment's rows before others, without the row that they come from

@@ -6,14 +6,14 @@ use mathlib.Core.List.{List, [], _∷_}
 use lib.ListN.{length, length-append, getD}
 use native.Mathlib.Omega.{arith}
 use Rattle.sheet.specs.Tree.{Tree, done, one, fork, again, basic, ifLine, elseLine, endIf, repeat, endRepeat, flat, rows}
-use Rattle.sheet.specs.Rows.{Assignment, Test, SheetLine, sheetRowOf, treeRows}
+use Rattle.sheet.specs.Rows.{Assignment, Test, SheetLine, sheetRowOf, treeRows, lineOfRow}
 use Rattle.sheet.specs.Reading.{rowsAt}
 use Rattle.sets.specs.Marks.{Marked, numbered}
 use Rattle.table.specs.TableRows.{Table, saveTurn, turning, onTurn, turnRound, ofTurningRound}
 use Rattle.table.specs.Adjoint.{put, forwardRow, forwardPart, backwardOf, backwardPart, adjointTable}
 use Rattle.table.specs.Sizes.{tableRows}
-use Rattle.table.specs.MarkedRows.{rowsIn, rowNumbered, lineOfRow, forwardOfLine, backwardOfLine, countRows, MarkSays, Noted}
-use Rattle.table.proofs.LineRows.{line-back}
+use Rattle.table.specs.MarkedRows.{rowsIn, rowNumbered, forwardOfLine, backwardOfLine, countRows, MarkSays, Noted}
+use Rattle.sheet.proofs.RowsBack.{line-back}
 use Rattle.table.proofs.TreeRows.{StandsAt, tree-stands, stands-after}
 use Rattle.table.proofs.ForwardTree.{marked-forward}
 use Rattle.table.proofs.BackwardTree.{marked-backward}

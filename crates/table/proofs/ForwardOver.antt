@@ -1,10 +1,11 @@
 -- The forward part row by row.
 use Prim.Native.Nat.{ℕ, suc, _+_, _-_, _≤_, _<_}
+use Rattle.sheet.specs.Rows.{lineOfRow}
 use mathlib.Core.Path.{_≡_}
 use mathlib.Core.List.{List, [], _++_}
 use lib.ListN.{getD}
 use native.Mathlib.Omega.{arith}
-use Rattle.table.specs.MarkedRows.{rowNumbered, lineOfRow, forwardOfLine, forwardRows}
+use Rattle.table.specs.MarkedRows.{rowNumbered, forwardOfLine, forwardRows}
 
 module _ (words : List ℕ) (first : ℕ) (marks : List ℕ) where
   pub forward-next : (p rows : ℕ) → p < rows

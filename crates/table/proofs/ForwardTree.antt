@@ -6,14 +6,14 @@ use mathlib.Core.List.{List, [], _∷_, _++_, append-assoc, append-nil}
 use lib.ListN.{getD}
 use native.Mathlib.Omega.{arith}
 use Rattle.sheet.specs.Tree.{Tree, done, one, fork, again, basic, ifLine, elseLine, endIf, repeat, endRepeat, flat, rows, RowNumber}
-use Rattle.sheet.specs.Rows.{Assignment, Test, SheetLine, Row, sheetRowOf, rowOf, rowOfAssignment, rowOfTest, treeRows}
+use Rattle.sheet.specs.Rows.{Assignment, Test, SheetLine, Row, sheetRowOf, rowOf, rowOfAssignment, rowOfTest, treeRows, lineOfRow}
 use Rattle.sheet.specs.Reading.{rowsAt}
 use Rattle.sets.specs.Marks.{Marked, numbered}
 use Rattle.table.specs.TableRows.{Table, tableRowOf, rowOfAction, rowOfTableTest, whether, saveTurn, turning}
 use Rattle.table.specs.Adjoint.{put, targetOf, forwardRow, forwardPart}
-use Rattle.table.specs.MarkedRows.{row4, rowIf, rowsIn, rowNumbered, lineOfRow, forwardOfLine, forwardRows, MarkSays, Noted}
+use Rattle.table.specs.MarkedRows.{row4, rowIf, rowsIn, rowNumbered, forwardOfLine, forwardRows, MarkSays, Noted}
 use Rattle.table.proofs.AssignmentRows.{rows-of-put, rows-of-put-if, rows-of-done}
-use Rattle.table.proofs.LineRows.{line-back}
+use Rattle.sheet.proofs.RowsBack.{line-back}
 use Rattle.table.proofs.TreeRows.{StandsAt, tree-stands, stands-after, fork-before, again-before}
 
 -- the rows of an assignment, before the rest

@@ -5,18 +5,13 @@ use mathlib.Core.Bool.{Bool}
 use mathlib.Core.List.{List, [], _∷_, _++_}
 use native.Mathlib.Omega.{arith}
 use Rattle.sheet.specs.Tree.{basic, ifLine, elseLine, endIf, repeat, endRepeat}
-use Rattle.sheet.specs.Rows.{Row, SheetLine, less, kindOf, rowOf, sheetRowOf, _≔_}
-use Rattle.sheet.proofs.RowsBack as rows-back
+use Rattle.sheet.specs.Rows.{Row, SheetLine, less, kindOf, rowOf, sheetRowOf, _≔_, lineOfRow}
 use Rattle.table.specs.TableRows.{tableRowOf, rowOfAction, rowOfTableTest}
 use Rattle.table.specs.Adjoint.{forwardRow}
-use Rattle.table.specs.MarkedRows.{row4, rowIf, meansBy, lineOfRow, Says, sourceOf, assignmentBack, bitOf, forwardOfLine, backwardOfLine}
+use Rattle.table.specs.MarkedRows.{row4, rowIf, Says, sourceOf, assignmentBack, bitOf, forwardOfLine, backwardOfLine}
 use Rattle.table.proofs.AssignmentRows.{rows-of-put, rows-of-put-if, rows-of-done}
 
 -- ---- the line that a row says
-
-pub line-back : (l : SheetLine) → lineOfRow (sheetRowOf l) ≡ l
-unfolding lineOfRow
-line-back = rows-back.line-back meansBy (λ kind r. refl)
 
 module _ (kind d a b : ℕ) where
   pub if-line : kind ≡ 7 → lineOfRow (row4 kind d a b) ≡ ifLine (less a b)

@@ -7,17 +7,17 @@ use native.Mathlib.Nat.{suc-mul}
 use native.Mathlib.Omega.{arith}
 use borrow.Author.Tests.{le-ltb}
 use Rattle.sheet.specs.Tree.{Tree, done, one, fork, again, basic, ifLine, elseLine, endIf, repeat, endRepeat, flat, rows}
-use Rattle.sheet.specs.Rows.{Assignment, Test, less, SheetLine, rowOf, rowOfTest, sheetRowOf, treeRows}
+use Rattle.sheet.specs.Rows.{Assignment, Test, less, SheetLine, rowOf, rowOfTest, sheetRowOf, treeRows, lineOfRow}
 use Rattle.sheet.specs.Reading.{rowsAt}
 use Rattle.sheet.specs.LongestRun.{longestRun}
 use Rattle.sets.specs.Marks.{Marked, MarkedTest, numbered}
 use Rattle.table.specs.Adjoint.{Body}
 use Rattle.table.specs.Sizes.{valuesNeeded, turnsNeeded}
-use Rattle.table.specs.MarkedRows.{rowNumbered, lineOfRow, Noted}
+use Rattle.table.specs.MarkedRows.{rowNumbered, Noted}
 use Rattle.table.specs.Needs.{greatestWord, capped, ofSaved, ofBranch, needOfLine, blockEnd, afterRow, needAt, needsFrom, needOver}
 use Rattle.table.specs.declared.needs.Stack.{Stack}
 use Rattle.table.specs.declared.needs.Stack.the-variants as stack
-use Rattle.table.proofs.LineRows.{line-back}
+use Rattle.sheet.proofs.RowsBack.{line-back}
 use Rattle.table.proofs.TreeRows.{StandsAt, tree-stands, stands-after}
 use Rattle.table.proofs.WalkTree.{rows-of-tree}
 use Rattle.table.proofs.TableBounds.{values-within-run, turns-within-run}

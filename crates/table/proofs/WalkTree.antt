@@ -5,12 +5,12 @@ use mathlib.Core.List.{List, [], _∷_}
 use lib.ListN.{length, length-map, getD}
 use native.Mathlib.Omega.{arith}
 use Rattle.sheet.specs.Tree.{Tree, done, one, fork, again, basic, ifLine, elseLine, endIf, repeat, endRepeat, flat, rows}
-use Rattle.sheet.specs.Rows.{Assignment, Test, less, SheetLine, Row, sheetRowOf, rowOf, rowOfAssignment, rowOfTest, treeRows, _≔_, copy, fixed, sum, difference, product, negation}
+use Rattle.sheet.specs.Rows.{Assignment, Test, less, SheetLine, Row, sheetRowOf, rowOf, rowOfAssignment, rowOfTest, treeRows, _≔_, copy, fixed, sum, difference, product, negation, lineOfRow}
 use Rattle.sheet.specs.Reading.{rowsAt}
 use Rattle.sheet.proofs.RowsCounted.{lines-counted}
 use Rattle.sets.specs.Marks.{Marked}
-use Rattle.table.specs.MarkedRows.{rowNumbered, lineOfRow, Says, stepBack, Handed, rowOfNumber, wayBack, Visited, Walks, Noted}
-use Rattle.table.proofs.LineRows.{line-back}
+use Rattle.table.specs.MarkedRows.{rowNumbered, Says, stepBack, Handed, rowOfNumber, wayBack, Visited, Walks, Noted}
+use Rattle.sheet.proofs.RowsBack.{line-back}
 use Rattle.table.proofs.TreeRows.{StandsAt, tree-stands, stands-after}
 use Rattle.table.proofs.BackwardTree.{step-assignment, step-if}
 

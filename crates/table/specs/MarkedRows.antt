@@ -4,14 +4,14 @@ use Prim.Native.Nat.{ℕ, zero, suc, _+_, _*_, _-_, _≤_, _<_, _/_, _%_}
 use mathlib.Core.Path.{_≡_}
 use mathlib.Core.Bool.{Bool, true, false, cond, _||_}
 use mathlib.Core.List.{List, [], _∷_, _++_, map}
-use mathlib.Core.Option.{Option, none, some}
+use mathlib.Core.Option.{some}
 use lib.ListN.{length, getD}
 use lib.Seq.{sets}
 use lib.Dec.{eqb}
 use Rattle.sheet.specs.Reading.{rowAt}
 use Rattle.sheet.specs.Bounds.{limit}
 use Rattle.sheet.specs.Tree.{Tree, done, one, fork, again, rows, RowNumber, basic, ifLine, elseLine, endIf, repeat, endRepeat}
-use Rattle.sheet.specs.Rows.{Assignment, Test, _≔_, Source, fixed, SheetLine, Row, Kind, kindOf, rowOfTest, sheetRowOf}
+use Rattle.sheet.specs.Rows.{Assignment, Test, _≔_, Source, fixed, SheetLine, Row, rowOfTest, sheetRowOf, lineOfRow}
 use Rattle.sets.specs.Transfers.{Activity}
 use Rattle.sets.specs.Marks.{Marked}
 use Rattle.table.specs.TableRows.{Table, linesOf, tableRowOf, wordsOf, rowOfAction, saveTurn, onTurn}
@@ -60,15 +60,6 @@ savedBy mark = bitOf mark 8
 -- the row number that a row's words don't show
 abbrev pub anyRow : RowNumber
 anyRow = record { index = 0 }
-
-abbrev pub meansBy : Option Kind → Row → SheetLine
-meansBy none r = endRepeat
-meansBy (some kind) r = kind .means (r .d) (r .a) (r .b)
-
--- the line that a row says; a row of no kind says none, and isn't asked
-unfoldable pub lineOfRow : Row → SheetLine
-unfolding kindOf
-lineOfRow r = meansBy (kindOf (r .kind)) r
 
 -- small enough words that every number in the table fits a word
 pub record Small (variables : ℕ) (r : Row) : Type 0 where

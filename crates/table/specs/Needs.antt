@@ -6,9 +6,9 @@ use mathlib.Core.List.{List, [], _∷_}
 use lib.ListN.{length, getD}
 use lib.Dec.{eqb, ltb}
 use Rattle.sheet.specs.Tree.{basic, ifLine, elseLine, endIf, repeat, endRepeat}
-use Rattle.sheet.specs.Rows.{SheetLine}
+use Rattle.sheet.specs.Rows.{SheetLine, lineOfRow}
 use Rattle.sheet.specs.Reading.{rowAt}
-use Rattle.table.specs.MarkedRows.{savedBy, lineOfRow, rowNumbered}
+use Rattle.table.specs.MarkedRows.{savedBy, rowNumbered}
 use Rattle.table.specs.declared.needs.Stack.{Stack}
 use Rattle.table.specs.declared.needs.Stack.the-variants as stack
 

@@ -1,10 +1,11 @@
 // R, the number of the table's rows, without writing it.
 ghost use mathlib.Core.Path.{_≡_};
+ghost use Rattle.sheet.specs.Rows.{lineOfRow};
 ghost use mathlib.Core.Bool.{cond};
 ghost use Prim.Native.Nat.{ℕ, _+_, _*_, _≤_, _<_};
 ghost use lib.ListN.{length};
 ghost use Rattle.sheet.specs.Bounds.{limit};
-ghost use Rattle.table.specs.MarkedRows.{row4, Says, Readable, lineOfRow, partRows, assignmentBack, forwardOfLine, backwardOfLine, countRows};
+ghost use Rattle.table.specs.MarkedRows.{row4, Says, Readable, partRows, assignmentBack, forwardOfLine, backwardOfLine, countRows};
 use super::kinds;
 use super::rows;
 

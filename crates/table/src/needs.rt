@@ -1,9 +1,10 @@
 // S and T: what a sheet's rows need of the value stack or of the turn stack.
 ghost use mathlib.Core.Path.{_≡_};
+ghost use Rattle.sheet.specs.Rows.{lineOfRow};
 ghost use Prim.Native.Nat.{ℕ, suc, _-_, _≤_, _<_, max};
 ghost use mathlib.Core.List.{List};
 ghost use lib.ListN.{length};
-ghost use Rattle.table.specs.MarkedRows.{row4, Says, Readable, lineOfRow, savedBy};
+ghost use Rattle.table.specs.MarkedRows.{row4, Says, Readable, savedBy};
 ghost use Rattle.table.specs.Needs.{capped, ofSaved, ofBranch, needOfLine, blockEnd, afterRow, HoldsFrom, NeedRoom, needOver};
 use super::count;
 use super::rows;
