@@ -18,12 +18,12 @@ use Rattle.table.specs.declared.Answer.{Answer}
 use Rattle.run.specs.Attempts.{through, halted, stuck}
 use Rattle.run.specs.Actions.{Memory, Setting}
 use Rattle.run.specs.Machine.{Ending, finished, runFor}
-use Rattle.run.specs.Calls.{Ran, settingOf, startOf, resultOf, lentAfter, ranTo}
+use Rattle.run.specs.Calls.{Ran, settingOf, startOf, resultOf, lentAfter, ranTo, lentOf}
 use Rattle.run.specs.InTheLarge.{tableRun}
-use Rattle.run.specs.Buffers.{Stack}
-use Rattle.run.specs.RunsRows.{Cells, cellsOf, Handed, EndsLike, RunsRows}
-use Rattle.run.specs.CallSteps.{loaded, ResultFits}
-use Rattle.run.specs.CallAnswers.{AtTheEnd, lentOf, endedAs, RunsCleared, sheetRun, Ready, RunRoom, RanTo}
+use Rattle.run.specs.inner.Buffers.{Stack}
+use Rattle.run.specs.inner.RunsRows.{Cells, cellsOf, Handed, EndsLike, RunsRows}
+use Rattle.run.specs.inner.CallSteps.{loaded, ResultFits}
+use Rattle.run.specs.inner.CallAnswers.{AtTheEnd, endedAs, RunsCleared, sheetRun, Ready, RunRoom, RanTo}
 use Rattle.run.specs.declared.Ended.{Ended}
 use Rattle.run.specs.declared.Ended.the-variants as ended
 use Rattle.run.proofs.MachineFollows.{Result, EndsAs, run-follows}

@@ -17,12 +17,12 @@ use Rattle.table.specs.TableRows.{tableWords}
 use Rattle.table.specs.Adjoint.{tableOf}
 use Rattle.table.specs.Sizes.{tableRows, valuesNeeded, turnsNeeded}
 use Rattle.table.specs.Calls.{tableRoom, readFor, overwritten}
-use Rattle.table.specs.Plans.{PlanMade}
+use Rattle.table.specs.inner.Plans.{PlanMade}
 use Rattle.table.specs.declared.Answer as answered
 use Rattle.table.specs.declared.Plan.{Plan}
-use Rattle.run.specs.Calls.{Lent, allAdmitted, readToRun, ranOn, run}
-use Rattle.run.specs.CallSteps.{tableFits, stacksFit, roomsFit}
-use Rattle.run.specs.CallAnswers.{lentOf, ranOf, sheetRun, Written, RanTo}
+use Rattle.run.specs.Calls.{Lent, allAdmitted, readToRun, ranOn, run, lentOf, ranOf}
+use Rattle.run.specs.inner.CallSteps.{tableFits, stacksFit, roomsFit}
+use Rattle.run.specs.inner.CallAnswers.{sheetRun, Written, RanTo}
 
 -- ---- one judgement after another, however they are put together
 

@@ -4,8 +4,7 @@ use mathlib.Core.Path.{_≡_, sym, ap, _∙_}
 use mathlib.Core.List.{List}
 use Rattle.number.specs.Arithmetic.{Arithmetic}
 use Rattle.table.specs.declared.Answer.{Answer}
-use Rattle.run.specs.Calls.{Lent, Ran, run}
-use Rattle.run.specs.CallAnswers.{ranOf}
+use Rattle.run.specs.Calls.{Lent, Ran, run, ranOf}
 
 module _ (A : Arithmetic) where
   -- an answer with what the lent buffers then hold

@@ -15,12 +15,12 @@ use Rattle.sheet.specs.Rows.{less, Row, rowOf}
 use Rattle.sheet.specs.Reading.{rowAt}
 use Rattle.table.specs.TableRows.{whether, onTurn, TableLine, tableRowOf}
 use Rattle.run.specs.Actions.{Setting, Verdict}
-use Rattle.run.specs.Answers.{branchOf}
+use Rattle.run.specs.inner.RowAnswers.{branchOf}
 use Rattle.run.specs.Machine.{itsElse, itsEnd, oneMore, seek, Repeat, State, Step, step, stepAt, goTo, jump, afterTest, afterTurn}
-use Rattle.run.specs.Buffers.{memoryOf, Sound, Compares, TakesTurn}
-use Rattle.run.specs.Runnable.{Reached, Jumps}
-use Rattle.run.specs.RowSteps.{Opened, Opens, Closes, JumpsTo, BranchesTo, TurnsTo, buffersAt, stateAt, raised, within, moved, following, preceding, CrossedLeft, Blocked, CrossedSays, BlockRow, CrossesBy}
-use Rattle.run.specs.RunsRows.{Cells, cellsOf}
+use Rattle.run.specs.inner.Buffers.{memoryOf, Sound, Compares, TakesTurn}
+use Rattle.run.specs.inner.Runnable.{Reached, Jumps}
+use Rattle.run.specs.inner.RowSteps.{Opened, Opens, Closes, JumpsTo, BranchesTo, TurnsTo, buffersAt, stateAt, raised, within, moved, following, preceding, CrossedLeft, Blocked, CrossedSays, BlockRow, CrossesBy}
+use Rattle.run.specs.inner.RunsRows.{Cells, cellsOf}
 use Rattle.run.specs.declared.Place.{Place}
 use Rattle.run.specs.declared.Branch.{Branch}
 use Rattle.run.specs.declared.Branch.the-variants as branch

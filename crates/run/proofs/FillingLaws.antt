@@ -13,7 +13,7 @@ use borrow.Rule.Slice.PartMut.{putMid, postOf}
 use Rattle.number.specs.Arithmetic.{Arithmetic}
 use Rattle.sheet.specs.Rows.{isIndependent}
 use Rattle.run.specs.Calls.{independentAdjoints}
-use Rattle.run.specs.CallSteps.{filled, ResultFits, resultFrom}
+use Rattle.run.specs.inner.CallSteps.{filled, ResultFits, resultFrom}
 use Rattle.run.proofs.RoleLaws.{adjoints-counting, counting-length, counting-at}
 
 module _ {X : Type 0} (front before : List X) where

@@ -11,8 +11,8 @@ use Rattle.sheet.specs.Tree.{rows, endIf}
 use Rattle.sheet.specs.Reading.{rowAt}
 use Rattle.sheet.proofs.RowsCounted.{lines-counted}
 use Rattle.table.specs.TableRows.{Table, TableLine, linesOf}
-use Rattle.run.specs.Runnable.{placeOfRow, Holds}
-use Rattle.run.specs.JumpsFound.{Found, endsBranch, opensBranch, notedBefore, foundAt, foundOver, JumpsOf}
+use Rattle.run.specs.inner.Runnable.{placeOfRow, Holds}
+use Rattle.run.specs.inner.JumpsFound.{Found, endsBranch, opensBranch, notedBefore, foundAt, foundOver, JumpsOf}
 use Rattle.run.proofs.JumpsRight.{jumps-right}
 
 -- ---- one row, by the cases that the code tells apart

@@ -12,8 +12,8 @@ use Rattle.sheet.specs.Rows.{_≔_, copy, fixed, sum, difference, product, nega
 use Rattle.sheet.proofs.RowsCounted.{flat-length, lines-counted}
 use Rattle.table.specs.TableRows.{Action, Origin, assign, save, takeBack, saveTurn, clear, turnRound, whether, onTurn, TableRow, TableTest, Table, TableLine, tableRowOf, linesOf}
 use Rattle.run.specs.Machine.{itsElse, itsEnd, oneMore, seek}
-use Rattle.run.specs.Runnable.{Reached, Jumps}
-use Rattle.run.specs.JumpsFound.{Found, endsBranch, opensBranch, notedBefore, foundAt, foundOver}
+use Rattle.run.specs.inner.Runnable.{Reached, Jumps}
+use Rattle.run.specs.inner.JumpsFound.{Found, endsBranch, opensBranch, notedBefore, foundAt, foundOver}
 use Rattle.run.proofs.LinesStand.{Branch, stands-at}
 use Rattle.run.proofs.MachineFollows.{past-flat, seek-else, seek-end}
 

@@ -8,8 +8,8 @@ use lib.Dec.{eqb}
 use Rattle.sheet.specs.Tree.{basic, ifLine, elseLine, endIf, repeat, endRepeat}
 use Rattle.sheet.specs.Rows.{Source, copy, fixed, sum, difference, product, negation, _≔_, less, Row, rowOf, rowOfAssignment, rowOfTest}
 use Rattle.table.specs.TableRows.{Action, assign, save, takeBack, saveTurn, clear, turnRound, whether, onTurn, TableLine, TableRow, rowOfAction, rowOfTableTest, tableRowOf}
-use Rattle.run.specs.RowWords.{sourceOf}
-use Rattle.run.specs.RowSteps.{isOfBlock}
+use Rattle.run.specs.inner.RowWords.{sourceOf}
+use Rattle.run.specs.inner.RowSteps.{isOfBlock}
 
 pub true-apart : true ≡ false → ⊥
 true-apart is = let z : _≡_ {A = ℕ} 0 1 = cc in omega arith

@@ -19,7 +19,7 @@ use Rattle.table.proofs.TableBounds.{table-deep, marked-deep}
 use Rattle.run.specs.Attempts.{Attempt, through, halted, stuck}
 use Rattle.run.specs.Actions.{Memory, Setting, Verdict, acted, tested}
 use Rattle.run.specs.Machine.{itsElse, itsEnd, oneMore, seek, Repeat, State, Step, goesOn, ended, stops, sticks, jump, afterAction, branchTo, afterTest, afterTurn, stepAt, step, ifItGoesOn, stateAfter}
-use Rattle.run.specs.Runnable.{Shallow}
+use Rattle.run.specs.inner.Runnable.{Shallow}
 use Rattle.run.specs.Calls.{startOf}
 use Rattle.run.proofs.LinesStand.{Branch, Stands, stands-at, FromEach, from-each-next, from-each-end}
 use Rattle.run.proofs.MachineFollows.{past-line, past-tree, seek-else, seek-end}

@@ -8,7 +8,7 @@ use lib.ListN.{length, getD, set, length-set}
 use lib.Seq.{getD-set-same, getD-set-other}
 use Rattle.sheet.specs.Bounds.{limit}
 use Rattle.run.specs.Machine.{Repeat}
-use Rattle.run.specs.RowSteps.{Nested, Opened, Opens, Closes, moved, within}
+use Rattle.run.specs.inner.RowSteps.{Nested, Opened, Opens, Closes, moved, within}
 use Rattle.run.specs.declared.Place.{Place}
 use Rattle.run.specs.declared.Crossed.the-variants as crossed
 

@@ -12,7 +12,7 @@ use Rattle.number.specs.Arithmetic.{Arithmetic}
 use Rattle.sheet.specs.Rows.{isDependent}
 use Rattle.run.specs.Attempts.{through, stuck}
 use Rattle.run.specs.Actions.{seeded, turnedRound, acted}
-use Rattle.run.specs.Buffers.{RoundSizes, TurnsRound}
+use Rattle.run.specs.inner.Buffers.{RoundSizes, TurnsRound}
 use Rattle.run.proofs.RoleLaws.{seeded-counting, counting-length, counting-at}
 
 module _ (A : Arithmetic) where

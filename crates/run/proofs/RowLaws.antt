@@ -14,8 +14,8 @@ use Rattle.sheet.specs.Rows.{_≔_}
 use Rattle.table.specs.TableRows.{Action, save, takeBack, saveTurn, clear, assign}
 use Rattle.run.specs.Attempts.{through, halted, stuck}
 use Rattle.run.specs.Actions.{Memory, Setting, acted, tested, compared, restored}
-use Rattle.run.specs.Answers.{turnOf, heightBranched}
-use Rattle.run.specs.Buffers.{Buffers, memoryOf, Sound, Does, Assigns, Clears, Saves, TakesBack, SavesTurn, Compares, TakesTurn, stackOf}
+use Rattle.run.specs.inner.RowAnswers.{turnOf, heightBranched}
+use Rattle.run.specs.inner.Buffers.{Buffers, memoryOf, Sound, Does, Assigns, Clears, Saves, TakesBack, SavesTurn, Compares, TakesTurn, stackOf}
 use Rattle.run.specs.declared.Moved.the-variants as moved
 use Rattle.run.specs.declared.Branched.{Branched}
 use Rattle.run.specs.declared.Branched.the-variants as branched

@@ -12,8 +12,8 @@ use Rattle.sheet.specs.Rows.{Source, copy, fixed, sum, difference, product, neg
 use Rattle.table.specs.TableRows.{assign}
 use Rattle.run.specs.Attempts.{stuck}
 use Rattle.run.specs.Actions.{Setting, Try, evaluated}
-use Rattle.run.specs.Buffers.{Sound, Assigns}
-use Rattle.run.specs.RowWords.{sourceOf, EvaluatesWords, AssignsWords}
+use Rattle.run.specs.inner.Buffers.{Sound, Assigns}
+use Rattle.run.specs.inner.RowWords.{sourceOf, EvaluatesWords, AssignsWords}
 use Rattle.run.proofs.PlaceLaws.{look-missing}
 use Rattle.run.proofs.RowLaws.{assign-sticks}
 use Rattle.run.proofs.RowsPinned.{does-pinned}

@@ -10,14 +10,14 @@ use Rattle.number.specs.Arithmetic.{Arithmetic}
 use Rattle.table.specs.TableRows.{Action, TableTest}
 use Rattle.run.specs.Attempts.{Attempt, through, halted, stuck}
 use Rattle.run.specs.Actions.{Memory, Setting, Try, Verdict}
-use Rattle.run.specs.Answers.{whetherWent, whetherDid, whetherMoved, heightAfter}
+use Rattle.run.specs.inner.RowAnswers.{whetherWent, whetherDid, whetherMoved, heightAfter}
 use Rattle.run.specs.declared.Went.{Went}
 use Rattle.run.specs.declared.Went.the-variants as went
 use Rattle.run.specs.declared.Did.{Did}
 use Rattle.run.specs.declared.Did.the-variants as did
 use Rattle.run.specs.declared.Moved.{Moved}
 use Rattle.run.specs.declared.Moved.the-variants as moved
-use Rattle.run.specs.Buffers.{Buffers, memoryOf, Sound, Does, Tests, stackOf, Stack}
+use Rattle.run.specs.inner.Buffers.{Buffers, memoryOf, Sound, Does, Tests, stackOf, Stack}
 use Rattle.run.proofs.StackLaws.{stack-length}
 
 module _ {X : Type 0} (zero : X) where

@@ -10,10 +10,10 @@ use Rattle.sheet.specs.Bounds.{limit}
 use Rattle.table.specs.TableRows.{TableLine, Origin}
 use Rattle.run.specs.Actions.{Memory, Setting}
 use Rattle.run.specs.Machine.{Repeat, State, Step, goesOn, ended, stops, sticks, step, stateAfter, Ending, finished, stoppedAt, gotStuck, outOfFuel, runFor}
-use Rattle.run.specs.Buffers.{memoryOf, Sound, RoundSizes}
-use Rattle.run.specs.Runnable.{Shallow}
-use Rattle.run.specs.RowSteps.{Nested, Opened, firstPlace, buffersAt, stateAt, CopiesOn, StopsAt, Blocked, GoesTo, StepsStraight, StraightRow, CrossedSays, BlockRow}
-use Rattle.run.specs.RunsRows.{Cells, cellsOf, Handed, Finishes, StoppedAt}
+use Rattle.run.specs.inner.Buffers.{memoryOf, Sound, RoundSizes}
+use Rattle.run.specs.inner.Runnable.{Shallow}
+use Rattle.run.specs.inner.RowSteps.{Nested, Opened, firstPlace, buffersAt, stateAt, CopiesOn, StopsAt, Blocked, GoesTo, StepsStraight, StraightRow, CrossedSays, BlockRow}
+use Rattle.run.specs.inner.RunsRows.{Cells, cellsOf, Handed, Finishes, StoppedAt}
 use Rattle.run.specs.declared.Place.{Place}
 use Rattle.run.specs.declared.Acted.{Acted}
 use Rattle.run.specs.declared.Acted.the-variants as acted

@@ -18,9 +18,9 @@ use Rattle.table.specs.TableRows.{linesOf}
 use Rattle.table.specs.Adjoint.{tableOf}
 use Rattle.table.specs.Sizes.{tableRows, mostTableRows}
 use Rattle.table.specs.declared.Plan.{Plan}
-use Rattle.run.specs.Runnable.{Holds}
-use Rattle.run.specs.JumpsFound.{JumpsOf}
-use Rattle.run.specs.CallAnswers.{Ready, Written}
+use Rattle.run.specs.inner.Runnable.{Holds}
+use Rattle.run.specs.inner.JumpsFound.{JumpsOf}
+use Rattle.run.specs.inner.CallAnswers.{Ready, Written}
 use Rattle.run.proofs.Fuel.{sheet-steps-within}
 use Rattle.run.proofs.TableHeld.{table-holds, table-rows-within}
 

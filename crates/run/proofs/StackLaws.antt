@@ -6,7 +6,7 @@ use native.Mathlib.Omega.{arith}
 use native.Mathlib.Numerals.{add-one}
 use lib.ListN.{length, getD, take, drop, set, replicate, length-set, length-reverse}
 use lib.Seq.{take-suc, take-suc-set, take-set-le, drop-set-lt, drop-cons, drop-drop, getD-set-same, length-take-le}
-use Rattle.run.specs.Buffers.{stackOf, Stack}
+use Rattle.run.specs.inner.Buffers.{stackOf, Stack}
 
 module _ {X : Type 0} where
   pub stack-length : (height : ℕ) (cells : List X) → height ≤ length cells → length (stackOf height cells) ≡ height

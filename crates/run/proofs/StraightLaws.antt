@@ -18,13 +18,13 @@ use Rattle.sheet.specs.Reading.{rowAt}
 use Rattle.table.specs.TableRows.{Action, assign, save, takeBack, saveTurn, clear, turnRound, TableLine, TableRow, rowOfAction, tableRowOf}
 use Rattle.run.specs.Attempts.{through, halted, stuck}
 use Rattle.run.specs.Actions.{Setting, Try, acted}
-use Rattle.run.specs.Answers.{whetherWent, whetherDid, whetherMoved, heightAfter}
+use Rattle.run.specs.inner.RowAnswers.{whetherWent, whetherDid, whetherMoved, heightAfter}
 use Rattle.run.specs.Machine.{Repeat, Step, step, stepAt, afterAction, goTo}
-use Rattle.run.specs.Buffers.{memoryOf, Sound, Does, Saves, TakesBack, SavesTurn, Clears, RoundSizes, TurnsRound}
-use Rattle.run.specs.RowWords.{sourceOf, AssignsWords}
-use Rattle.run.specs.Runnable.{Holds}
-use Rattle.run.specs.RowSteps.{buffersAt, stateAt, raised, following, actedBy, wentTo, didTo, valuesTo, turnsTo, isOfBlock, NoneStraight, ActedLeft, Acts, ActsBy, ActedSays, Blocked, StepsStraight, StraightRow}
-use Rattle.run.specs.RunsRows.{Cells, cellsOf, Suits}
+use Rattle.run.specs.inner.Buffers.{memoryOf, Sound, Does, Saves, TakesBack, SavesTurn, Clears, RoundSizes, TurnsRound}
+use Rattle.run.specs.inner.RowWords.{sourceOf, AssignsWords}
+use Rattle.run.specs.inner.Runnable.{Holds}
+use Rattle.run.specs.inner.RowSteps.{buffersAt, stateAt, raised, following, actedBy, wentTo, didTo, valuesTo, turnsTo, isOfBlock, NoneStraight, ActedLeft, Acts, ActsBy, ActedSays, Blocked, StepsStraight, StraightRow}
+use Rattle.run.specs.inner.RunsRows.{Cells, cellsOf, Suits}
 use Rattle.run.specs.declared.Place.{Place}
 use Rattle.run.specs.declared.Went.{Went}
 use Rattle.run.specs.declared.Went.the-variants as went-as

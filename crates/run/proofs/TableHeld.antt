@@ -17,7 +17,7 @@ use Rattle.table.specs.Sizes.{tableRows, mostTableRows}
 use Rattle.table.specs.Calls.{overwritten}
 use Rattle.table.proofs.TableLength.{table-words}
 use Rattle.table.proofs.TableBounds.{table-rows-bound, marked-rows}
-use Rattle.run.specs.Runnable.{placeOfRow, Holds}
+use Rattle.run.specs.inner.Runnable.{placeOfRow, Holds}
 
 row-behind : (word : ℕ) (words : List ℕ) (place : ℕ) → rowAt (word ∷ words) (suc place) ≡ rowAt words place
 unfolding rowAt

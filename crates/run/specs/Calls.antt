@@ -13,6 +13,7 @@ use Rattle.table.specs.TableRows.{Table, linesOf, tableWords}
 use Rattle.table.specs.Adjoint.{tableOf}
 use Rattle.table.specs.Sizes.{valuesNeeded, turnsNeeded}
 use Rattle.table.specs.Calls.{readFor, overwritten}
+use Rattle.table.specs.declared.Answer as declared
 use Rattle.run.specs.Actions.{Memory, Setting}
 use Rattle.run.specs.Machine.{State, Ending, finished, stoppedAt, gotStuck, outOfFuel, runFor, stepsOf}
 
@@ -125,3 +126,10 @@ module _ (A : Arithmetic) where
   unfoldable pub run : (words : List ℕ) → (starts seeds : List (A .Carrier)) → Lent → Ran
   unfolding readToRun ranOn
   run words starts seeds lent = ranOn (readToRun words starts seeds lent) starts seeds lent
+
+  -- what the call's answer and the buffers that it leaves say
+  abbrev pub lentOf : (table : List ℕ) → (values : List (A .Carrier)) → (turns : List ℕ) → (result : List (A .Carrier)) → Lent
+  lentOf table values turns result = record { table = table; values = values; turns = turns; result = result }
+
+  abbrev pub ranOf : declared.Answer → Lent → Ran
+  ranOf answer lent = record { number = answer .number; place = answer .place; lent = lent }

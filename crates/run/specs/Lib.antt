@@ -5,12 +5,4 @@ pub mod Machine
 pub mod InTheLarge
 pub mod RowReads
 pub mod Calls
-pub mod CallSteps
-pub mod Answers
-pub mod Buffers
-pub mod RowWords
-pub mod Runnable
-pub mod JumpsFound
-pub mod RowSteps
-pub mod RunsRows
-pub mod CallAnswers
+pub mod inner

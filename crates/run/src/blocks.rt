@@ -4,7 +4,7 @@ ghost use Prim.Native.Nat.{suc, _<_};
 ghost use Rattle.number.specs.Doubles.{doubles};
 ghost use Rattle.number.specs.Residues.{residues};
 ghost use Rattle.sheet.specs.Answers.{rowSaid};
-ghost use Rattle.run.specs.RowSteps.{moved, within, raised, JumpsTo, BranchesTo, TurnsTo, Opens, Closes, CrossesBy, CrossedLeft};
+ghost use Rattle.run.specs.inner.RowSteps.{moved, within, raised, JumpsTo, BranchesTo, TurnsTo, Opens, Closes, CrossesBy, CrossedLeft};
 use super::Branch;
 use super::Branched;
 use super::Crossed;

@@ -7,7 +7,7 @@ ghost use Rattle.number.specs.Doubles.{doubles};
 ghost use Rattle.number.specs.Residues.{residues};
 ghost use Rattle.sheet.specs.Rows.{isIndependent};
 ghost use Rattle.run.specs.Calls.{independentAdjoints};
-ghost use Rattle.run.specs.CallSteps.{filled, ResultFits, resultFrom};
+ghost use Rattle.run.specs.inner.CallSteps.{filled, ResultFits, resultFrom};
 use number::double;
 use sheet::is_independent;
 

@@ -3,7 +3,7 @@ ghost use Prim.Native.Nat.{_<_, _≤_};
 ghost use mathlib.Core.Path.{_≡_};
 ghost use lib.ListN.{length};
 ghost use Rattle.table.specs.Sizes.{mostTableRows};
-ghost use Rattle.run.specs.JumpsFound.{endsBranch, opensBranch, notedBefore, foundAt, JumpsOf};
+ghost use Rattle.run.specs.inner.JumpsFound.{endsBranch, opensBranch, notedBefore, foundAt, JumpsOf};
 use sheet::kinds;
 use table::MAX_TABLE_ROWS;
 

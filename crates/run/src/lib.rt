@@ -2,16 +2,16 @@
 // in both arithmetics. A row's contract says what its written meaning (specs/Actions.antt) makes of the buffers (specs/Buffers.antt), a run's
 // that it is the machine's (specs/RunsRows.antt), and a call's that it is `run` (specs/Calls.antt). No place is asked for: one that is not
 // there answers Stuck.
-pub mod blocks;
+mod blocks;
 mod buffers;
 mod calls_audit;
 mod calls_double;
-pub mod doubles;
+mod doubles;
 mod jumps;
-pub mod places;
+mod places;
 mod refusals;
-pub mod residues;
-pub mod turns;
+mod residues;
+mod turns;
 
 pub use calls_audit::run_audit;
 pub use calls_double::run_double;

@@ -1,6 +1,6 @@
 // The place that a straight row leads to, from what its code answered.
 ghost use mathlib.Core.Path.{_≡_};
-ghost use Rattle.run.specs.RowSteps.{wentTo, didTo, valuesTo, turnsTo, firstPlace, following, isOfBlock};
+ghost use Rattle.run.specs.inner.RowSteps.{wentTo, didTo, valuesTo, turnsTo, firstPlace, following, isOfBlock};
 use super::Acted;
 use super::Did;
 use super::Moved;

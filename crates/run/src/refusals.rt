@@ -6,7 +6,7 @@ ghost use lib.ListN.{length};
 ghost use Rattle.number.specs.Doubles.{doubles};
 ghost use Rattle.sheet.specs.Refusals.{numberOf, placeOf};
 ghost use Rattle.run.specs.Calls.{allAdmitted};
-ghost use Rattle.run.specs.CallSteps.{fitSaid, unfitRefusal, tableFits, stacksFit, lengthsFit, roomsFit};
+ghost use Rattle.run.specs.inner.CallSteps.{fitSaid, unfitRefusal, tableFits, stacksFit, lengthsFit, roomsFit};
 use super::Fit;
 use super::Unfit;
 use number::double;

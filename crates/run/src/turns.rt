@@ -1,7 +1,7 @@
 // The turn stack's rows, which no arithmetic has a part in.
 ghost use Rattle.number.specs.Doubles.{doubles};
 ghost use Rattle.number.specs.Residues.{residues};
-ghost use Rattle.run.specs.Buffers.{SavesTurn, TakesTurn};
+ghost use Rattle.run.specs.inner.Buffers.{SavesTurn, TakesTurn};
 use super::Branched;
 use super::Moved;
 

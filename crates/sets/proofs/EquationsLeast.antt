@@ -15,7 +15,7 @@ use lib.Pow.{pow-pos}
 use Rattle.sheet.proofs.RowsBack.{both}
 use Rattle.sets.specs.VariableSets.{VariableSet, empty, _∪_, _⊆_}
 use Rattle.sets.specs.Equations.{Equation, pointOf, rightSide, Satisfy, setAt, Least, round, same, settled, least}
-use Rattle.sets.specs.ProperEquations.{_∈_, Within, Proper}
+use Rattle.sets.specs.inner.ProperEquations.{_∈_, Within, Proper}
 use Rattle.sets.proofs.Truths.{T-of, of-T}
 use Rattle.sets.proofs.VariableSetLaws.{empty-within, union-left, union-right, union-least, ⊆-antisym}
 use Rattle.sets.proofs.VariableSetSizes.{union-below, count, count-most, count-grows}

@@ -11,7 +11,7 @@ use lib.Bits.{or-add-and, and-le-r}
 use lib.Dec.{eqb, eqb→eq, eqb-refl}
 use Rattle.sets.specs.VariableSets.{VariableSet, _∪_}
 use Rattle.sets.specs.Equations.{setAt}
-use Rattle.sets.specs.Growth.{sumOf, Grew, Grown}
+use Rattle.sets.specs.inner.Growth.{sumOf, Grew, Grown}
 use Rattle.sets.proofs.Truths.{T-of, of-T}
 
 sum-set : (sets : List VariableSet) (i s : ℕ) → i < length sets → sumOf (set sets i s) + setAt sets i ≡ sumOf sets + s

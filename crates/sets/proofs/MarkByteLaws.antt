@@ -13,10 +13,10 @@ use Rattle.sheet.specs.Tree.{basic, ifLine, elseLine, endIf, repeat, endRepeat}
 use Rattle.sheet.specs.Rows.{_≔_, less, SheetLine, Row, rowOfAssignment, sheetRowOf}
 use Rattle.sets.specs.VariableSets.{VariableSet, has}
 use Rattle.sets.specs.Equations.{setAt}
-use Rattle.sets.specs.RowWords.{Gives}
+use Rattle.sets.specs.inner.RowWords.{Gives}
 use Rattle.sets.specs.Transfers.{Activity, activityOf, recordedBy}
 use Rattle.sets.specs.Marks.{markBy}
-use Rattle.sets.specs.MarkBytes.{bit, byteBy, byteAt, written}
+use Rattle.sets.specs.inner.MarkBytes.{bit, byteBy, byteAt, written}
 use Rattle.sets.proofs.RightSides.{row-of-assignment}
 
 pub byte-of : (b : Bool) → (boolByte b ≡ bit b) × (boolByte b < 2)

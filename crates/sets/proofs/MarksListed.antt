@@ -10,7 +10,7 @@ use Rattle.sheet.specs.Reading.{Sheet}
 use Rattle.sheet.proofs.RowsCounted.{lines-counted}
 use Rattle.sets.specs.VariableSets.{VariableSet}
 use Rattle.sets.specs.Marks.{Marked, MarkedTest, varied, useful, required, numbered, markBy, marked}
-use Rattle.sets.specs.MarkBytes.{byteOf, byteAt, markBytes}
+use Rattle.sets.specs.inner.MarkBytes.{byteOf, byteAt, markBytes}
 use Rattle.sets.proofs.RowByRow.{LinesAt}
 
 -- a list's numbers are f's from p on

@@ -7,8 +7,8 @@ use lib.ListN.{length}
 use Rattle.sheet.specs.Bounds.{limit}
 use Rattle.sheet.specs.Rows.{SheetLine, Row, sheetRowOf}
 use Rattle.sheet.specs.Reading.{rowAt}
-use Rattle.sets.specs.Partners.{Found, FoundBy, foundAt, foundOver, PartnersFound}
-use Rattle.sets.specs.RowEquations.{lineIn, Readable}
+use Rattle.sets.specs.inner.Partners.{Found, FoundBy, foundAt, foundOver, PartnersFound}
+use Rattle.sets.specs.inner.RowEquations.{lineIn, Readable}
 
 -- what holds before a row of the pass
 pub record Finding (line : ℕ → SheetLine) (n : ℕ) (came₀ goes₀ came goes : List ℕ) (top row : ℕ) : Type 0 where

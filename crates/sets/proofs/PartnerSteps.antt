@@ -8,7 +8,7 @@ use lib.ListN.{getD, set}
 use lib.Dec.{eqb, eqb→eq}
 use Rattle.sheet.specs.Tree.{basic, ifLine, elseLine, endIf, repeat, endRepeat}
 use Rattle.sheet.specs.Rows.{_≔_, less, sheetRowOf}
-use Rattle.sets.specs.Partners.{Found, FoundBy, foundAt}
+use Rattle.sets.specs.inner.Partners.{Found, FoundBy, foundAt}
 use Rattle.sets.proofs.Truths.{T-of}
 use Rattle.sets.proofs.RightSides.{row-of-assignment}
 

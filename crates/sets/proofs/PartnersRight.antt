@@ -8,7 +8,7 @@ use lib.ListN.{length, getD, set, length-set}
 use lib.Seq.{getD-set-same, getD-set-other}
 use Rattle.sheet.specs.Tree.{Tree, done, one, fork, again, rows, basic, ifLine, elseLine, endIf, repeat, endRepeat}
 use Rattle.sheet.specs.Rows.{Assignment, Test, SheetLine}
-use Rattle.sets.specs.Partners.{CameFrom, GoesTo, Found, foundAt, foundOver}
+use Rattle.sets.specs.inner.Partners.{CameFrom, GoesTo, Found, foundAt, foundOver}
 use Rattle.sets.proofs.RowByRow.{LinesAt}
 
 -- ---- lists that differ from place lo up to hi at most

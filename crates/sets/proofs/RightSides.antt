@@ -14,8 +14,8 @@ use Rattle.sets.specs.declared.Which.{Which}
 use Rattle.sets.specs.declared.Which.the-variants.{Varied, Useful, Required}
 use Rattle.sets.specs.VariableSets.{VariableSet, _∪_}
 use Rattle.sets.specs.Equations.{setAt, rightSide, pointOf}
-use Rattle.sets.specs.RowWords.{Gives}
-use Rattle.sets.specs.RowEquations.{equationOf, forwardOf, backwardOf, turnOf, ownPoint, settledPoint, joinsBy, RightSide, Given, rowIn, activeIn, equationIn}
+use Rattle.sets.specs.inner.RowWords.{Gives}
+use Rattle.sets.specs.inner.RowEquations.{equationOf, forwardOf, backwardOf, turnOf, ownPoint, settledPoint, joinsBy, RightSide, Given, rowIn, activeIn, equationIn}
 
 -- an assignment's kind and target stand in its row
 pub row-of-assignment : (d : ℕ) (source : Source) → (rowOfAssignment (d ≔ source) .d ≡ d) × (rowOfAssignment (d ≔ source) .kind < 7)

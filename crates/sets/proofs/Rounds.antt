@@ -9,8 +9,8 @@ use Rattle.sets.specs.declared.Which.{Which}
 use Rattle.sets.specs.declared.Which.the-variants.{Varied, Useful, Required}
 use Rattle.sets.specs.VariableSets.{VariableSet, _∪_}
 use Rattle.sets.specs.Equations.{Equation, pointOf, rightSide, setAt, round}
-use Rattle.sets.specs.RowEquations.{Given, equationIn, listed, rowInTurn, startOf, rowEquations, allEquations}
-use Rattle.sets.specs.Growth.{Grew, Stepped}
+use Rattle.sets.specs.inner.RowEquations.{Given, equationIn, listed, rowInTurn, startOf, rowEquations, allEquations}
+use Rattle.sets.specs.inner.Growth.{Grew, Stepped}
 use Rattle.sets.proofs.GrowthLaws.{grew-then}
 
 round-more : (e : ℕ → Equation) (i m : ℕ) (sets : List VariableSet)

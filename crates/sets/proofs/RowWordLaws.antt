@@ -6,7 +6,7 @@ use mathlib.Core.Option.{Option, none, some}
 use Rattle.sheet.specs.Rows.{Source, copy, fixed, sum, difference, product, negation, _≔_, rowOfAssignment}
 use Rattle.sets.specs.VariableSets.{VariableSet, empty, has, single, hasSome, singleSome}
 use Rattle.sets.specs.Transfers.{anyRead, firstRead, secondRead, reads, Activity, adjointUse}
-use Rattle.sets.specs.RowWords.{Says, readsFirst, readsSecond, anyReadBy, readsBy, useBy}
+use Rattle.sets.specs.inner.RowWords.{Says, readsFirst, readsSecond, anyReadBy, readsBy, useBy}
 
 -- a variable, if it is read
 abbrev readIf : Bool → ℕ → Option ℕ

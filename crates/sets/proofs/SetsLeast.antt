@@ -19,7 +19,7 @@ use Rattle.sets.specs.Marks.{points, variedEquations, usefulEquations, r
 use Rattle.sets.proofs.VariableSetLaws.{⊆-refl, union-mono}
 use Rattle.sets.proofs.VariableSetSizes.{union-below, places-below}
 use Rattle.sets.proofs.TransferLaws.{Transfer, varied-transfer, useful-transfer, required-transfer}
-use Rattle.sets.specs.ProperEquations.{_∈_, Within, Proper}
+use Rattle.sets.specs.inner.ProperEquations.{_∈_, Within, Proper}
 use Rattle.sets.proofs.EquationsLeast.{equations-least, least-length, least-below}
 
 -- ---- each equation settles its own point

@@ -8,8 +8,8 @@ use mathlib.Core.Logic.{_⊎_, inl, inr}
 use lib.ListN.{replicate}
 use Rattle.sets.specs.VariableSets.{VariableSet, empty}
 use Rattle.sets.specs.Equations.{Equation, round, same, settled, least}
-use Rattle.sets.specs.ProperEquations.{Proper}
-use Rattle.sets.specs.Growth.{sumOf, Swept}
+use Rattle.sets.specs.inner.ProperEquations.{Proper}
+use Rattle.sets.specs.inner.Growth.{sumOf, Swept}
 use Rattle.sets.proofs.EquationsLeast.{Kept, round-kept, round-grows, start-kept, total, total-most, total-grows, settled-on, settled-rests, same-equal, same-refl}
 
 -- with this fuel the definition's rounds go on from here to the least sets

@@ -17,13 +17,13 @@ use Rattle.sets.specs.declared.Which.{Which}
 use Rattle.sets.specs.declared.Which.the-variants.{Varied, Useful, Required}
 use Rattle.sets.specs.VariableSets.{VariableSet, empty, places}
 use Rattle.sets.specs.Equations.{Equation, starts, least}
-use Rattle.sets.specs.ProperEquations.{Proper}
+use Rattle.sets.specs.inner.ProperEquations.{Proper}
 use Rattle.sets.specs.Transfers.{variedAfter, usefulBefore, requiredAfter, adjointUse, Activity}
 use Rattle.sets.specs.Marks.{points, varied, useful, required, variedEquations, usefulEquations, requiredEquations, activityAt, markBy}
-use Rattle.sets.specs.Partners.{CameFrom, GoesTo, Found, PartnersFound}
-use Rattle.sets.specs.RowEquations.{Given, lineIn, activeIn, turnOf, equationOf, equationIn, rowInTurn, rowEquations, startOf, allEquations, AllReadable, seedIn, Settles}
-use Rattle.sets.specs.MarkBytes.{byteAt, written}
-use Rattle.sets.specs.Laid.{Laid, MarksLeft, AllMarked}
+use Rattle.sets.specs.inner.Partners.{CameFrom, GoesTo, Found, PartnersFound}
+use Rattle.sets.specs.inner.RowEquations.{Given, lineIn, activeIn, turnOf, equationOf, equationIn, rowInTurn, rowEquations, startOf, allEquations, AllReadable, seedIn, Settles}
+use Rattle.sets.specs.inner.MarkBytes.{byteAt, written}
+use Rattle.sets.specs.inner.Laid.{Laid, MarksLeft, AllMarked}
 use Rattle.sets.proofs.RowByRow.{LinesAt, forward-listed, backward-listed}
 use Rattle.sets.proofs.SheetRows.{lines-at, rows-readable}
 use Rattle.sets.proofs.PartnersRight.{passed-over}

@@ -2,7 +2,7 @@
 ghost use mathlib.Core.Path.{_≡_};
 ghost use Prim.Native.Nat.{_<_};
 ghost use Rattle.sets.specs.Equations.{setAt};
-ghost use Rattle.sets.specs.RowEquations.{joinsBy, ownPoint, settledPoint, Small, RightSide};
+ghost use Rattle.sets.specs.inner.RowEquations.{joinsBy, ownPoint, settledPoint, Small, RightSide};
 use super::Which;
 use super::transfers;
 use sheet::RowNumber;

@@ -1,9 +1,9 @@
 // The sets: for an accepted sheet, `mark` finds the three least sets at every point and marks every row.
 // In reading order: masks, transfers, partners, equations, sweep, marks.
 ghost use lib.ListN.{length};
-ghost use Rattle.sets.specs.RowEquations.{lineIn};
-ghost use Rattle.sets.specs.Laid.{Laid, Room, AllMarked};
-ghost use Rattle.sets.specs.Partners.{PartnersFound};
+ghost use Rattle.sets.specs.inner.RowEquations.{lineIn};
+ghost use Rattle.sets.specs.inner.Laid.{Laid, Room, AllMarked};
+ghost use Rattle.sets.specs.inner.Partners.{PartnersFound};
 
 mod equations;
 mod marks;

@@ -2,8 +2,8 @@
 ghost use mathlib.Core.Path.{_≡_};
 ghost use Prim.Native.Nat.{_<_};
 ghost use lib.ListN.{getD, set};
-ghost use Rattle.sets.specs.RowEquations.{AllReadable, lineIn};
-ghost use Rattle.sets.specs.Partners.{Found, FoundBy, PartnersFound};
+ghost use Rattle.sets.specs.inner.RowEquations.{AllReadable, lineIn};
+ghost use Rattle.sets.specs.inner.Partners.{Found, FoundBy, PartnersFound};
 use super::Extent;
 use sheet::RowNumber;
 use sheet::kinds;

@@ -2,9 +2,9 @@
 ghost use mathlib.Core.Path.{_≡_};
 ghost use Prim.Native.Nat.{_<_};
 ghost use Rattle.sheet.specs.Rows.{_≔_};
-ghost use Rattle.sets.specs.RowWords.{Gives, GivesKnown, readsFirst, readsSecond, anyReadBy, readsBy, useBy};
+ghost use Rattle.sets.specs.inner.RowWords.{Gives, GivesKnown, readsFirst, readsSecond, anyReadBy, readsBy, useBy};
 ghost use Rattle.sets.specs.Transfers.{variedAfter, usefulBefore, activityOf, requiredAfter, recordedBy};
-ghost use Rattle.sets.specs.RowEquations.{turnOf};
+ghost use Rattle.sets.specs.inner.RowEquations.{turnOf};
 use super::Which;
 use super::masks;
 use sheet::Variable;

@@ -14,7 +14,7 @@ use Rattle.sheet.specs.Tree.{Tree, done, one, fork, again, basic, ifLine
 use Rattle.sheet.specs.Rows.{Assignment, Test, SheetLine, Row, Kind, kindOf, wordsFit}
 use Rattle.sheet.specs.LongestRun.{longestRun}
 use Rattle.sheet.specs.Reading.{Item, row, branches, repeated, Block, inFirst, inSecond, inRepeat, closed, Progress, unless, lineBy, lineOf, entered, splitAt, ifEndedAt, repeatEndedAt, taken}
-use Rattle.sheet.specs.Steps.{partOf, saturated, enterOf, splitOf, ifEndOf, repeatEndOf, stepOf, stepOr}
+use Rattle.sheet.specs.inner.Steps.{partOf, saturated, enterOf, splitOf, ifEndOf, repeatEndOf, stepOf, stepOr}
 use Rattle.sheet.specs.declared.Open.{Open}
 use Rattle.sheet.specs.declared.Open.the-variants as block
 use Rattle.sheet.specs.declared.Level.{Level}

@@ -10,7 +10,7 @@ use Rattle.sheet.specs.Refusals.{given}
 use Rattle.sheet.specs.Rows.{Slot, variable, constant, turns, unused, Row, Kind, kindOf, wordsFit}
 use Rattle.sheet.specs.Reading.{lineBy, lineOf, rowAt}
 use Rattle.sheet.specs.declared.Form.{Form}
-use Rattle.sheet.specs.Steps.{slotOf, slotSaid, formOf, forms, noForm, formFits, partOf, partFor, partIf}
+use Rattle.sheet.specs.inner.Steps.{slotOf, slotSaid, formOf, forms, noForm, formFits, partOf, partFor, partIf}
 use Rattle.sheet.specs.declared.Part.{Part}
 use Rattle.sheet.specs.declared.Part.the-variants as part
 use Rattle.sheet.proofs.RowsBack.{each-fits, turns-above-0}

@@ -11,7 +11,7 @@ use Rattle.sheet.specs.Refusals.{Refusal, Answer, refused, given, _>>=_,
 use Rattle.sheet.specs.Rows.{SheetLine, Row}
 use Rattle.sheet.specs.LongestRun.{longestRun}
 use Rattle.sheet.specs.Reading.{Item, Block, Progress, closed, rowAt, rowsAt, lineOf, taken, bodyOf}
-use Rattle.sheet.specs.Steps.{partOf, partIf, saturated, stepOf, stepOr, judgedBy, bodyRun}
+use Rattle.sheet.specs.inner.Steps.{partOf, partIf, saturated, stepOf, stepOr, judgedBy, bodyRun}
 use Rattle.sheet.specs.declared.Part.{Part}
 use Rattle.sheet.specs.declared.Level.{Level}
 use Rattle.sheet.specs.declared.Step.{Step}

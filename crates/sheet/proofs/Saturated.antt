@@ -5,7 +5,7 @@ use native.Mathlib.Decide.{decLe}
 use native.Mathlib.Omega.{arith}
 use native.Mathlib.Nat.{mul-le-mul, suc-mul, min-eq-left, min-eq-right}
 use Rattle.sheet.specs.Bounds.{limit}
-use Rattle.sheet.specs.Steps.{saturated}
+use Rattle.sheet.specs.inner.Steps.{saturated}
 
 -- two words multiplied stay far below 2^64
 pub product-small : (m n : ℕ) → m < 65536 → n < 65536 → m * (1 + n) ≤ 65536 * 65536

@@ -13,7 +13,7 @@ use Rattle.sheet.specs.Rows.{Assignment, Test}
 use Rattle.sheet.specs.LongestRun.{longestRun}
 use Rattle.sheet.specs.Reading.{countAt, rolesFit, rowsAt, bodyOf, read}
 use Rattle.sheet.specs.Answers.{said, shapeOf, shapeRead}
-use Rattle.sheet.specs.Steps.{saturated, bodyRun, finishOf}
+use Rattle.sheet.specs.inner.Steps.{saturated, bodyRun, finishOf}
 use Rattle.sheet.specs.declared.Shape.{Shape}
 use Rattle.sheet.proofs.ReadingParts.{bound, same-given}
 use Rattle.sheet.proofs.NamesPresent.{count-judged, section-length}

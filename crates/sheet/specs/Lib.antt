@@ -7,4 +7,4 @@ pub mod LongestRun
 pub mod Reading
 pub mod Names
 pub mod Answers
-pub mod Steps
+pub mod inner

@@ -9,7 +9,7 @@ ghost use Rattle.sheet.specs.Refusals.{numberOf, placeOf};
 ghost use Rattle.sheet.specs.Rows.{kinds, isIndependent, isDependent};
 ghost use Rattle.sheet.specs.Reading.{countAt, rolesFit, rowAt, lineOf, rowsAt};
 ghost use Rattle.sheet.specs.Answers.{refusalOf, said, shapeRead, rowSaid};
-ghost use Rattle.sheet.specs.Steps.{countSaid, rolesSaid, fitsSlot, forms, noForm, formFits, partFor, partOf, partIf, saturated, enterOf, splitOf, ifEndOf, repeatEndOf, stepOf, breaksBlock, judgedBy, bodySaid, bodyRun, finishOf};
+ghost use Rattle.sheet.specs.inner.Steps.{countSaid, rolesSaid, fitsSlot, forms, noForm, formFits, partFor, partOf, partIf, saturated, enterOf, splitOf, ifEndOf, repeatEndOf, stepOf, breaksBlock, judgedBy, bodySaid, bodyRun, finishOf};
 
 // Every bound on a sheet, once. They are the fields of `limit` in specs/Bounds.antt.
 pub const MAX_VARIABLES: usize = 32;

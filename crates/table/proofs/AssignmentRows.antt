@@ -8,7 +8,7 @@ use Rattle.sheet.specs.Tree.{flat, done, RowNumber}
 use Rattle.sheet.specs.Rows.{Row, kindOf, rowOf, rowOfAssignment, lineOfRow}
 use Rattle.table.specs.TableRows.{Table, Action, Operation, linesOf, tableRowOf, rowOfAction}
 use Rattle.table.specs.Adjoint.{put, putIf, partsOf, derivativeRows, backwardOf}
-use Rattle.table.specs.MarkedRows.{row4, rowIf, rowsIn, sourceOf, partRows, assignmentBack, bitOf}
+use Rattle.table.specs.inner.MarkedRows.{row4, rowIf, rowsIn, sourceOf, partRows, assignmentBack, bitOf}
 
 pub rows-of-put : (row : RowNumber) (operation : Operation) (action : Action) (rest : Table)
     → rowsIn (put row operation action rest) ≡ rowOfAction action ∷ rowsIn rest

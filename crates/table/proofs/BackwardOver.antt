@@ -3,7 +3,7 @@ use Prim.Native.Nat.{ℕ, zero, suc, _-_, _≤_, _<_}
 use mathlib.Core.Path.{_≡_, refl}
 use mathlib.Core.List.{[], _++_}
 use native.Mathlib.Omega.{arith}
-use Rattle.table.specs.MarkedRows.{Handed, backwardAt, wayBack, backwardRows, Visited, Walks}
+use Rattle.table.specs.inner.MarkedRows.{Handed, backwardAt, wayBack, backwardRows, Visited, Walks}
 
 turn : (given : Handed) (n end : ℕ) → backwardRows given (suc n) end ≡ backwardAt given (end - 1) ++ backwardRows given n (wayBack given (end - 1))
 unfolding backwardRows

@@ -12,7 +12,7 @@ use Rattle.sets.specs.Transfers.{Activity}
 use Rattle.sets.specs.Marks.{Marked, numbered}
 use Rattle.table.specs.TableRows.{Table, tableRowOf, rowOfAction, rowOfTableTest, onTurn, assign, clear, takeBack, t, u, adjointOf}
 use Rattle.table.specs.Adjoint.{addInto, subtractFrom, scaled, partsOf, derivativeRows, backwardOf, backwardPart}
-use Rattle.table.specs.MarkedRows.{row4, rowIf, rowsIn, backwardOfLine, stepBack, turnsBack, Handed, rowOfNumber, backwardAt, wayBack, backwardRows, MarkSays, Noted, anyRow, knownBy, savedBy}
+use Rattle.table.specs.inner.MarkedRows.{row4, rowIf, rowsIn, backwardOfLine, stepBack, turnsBack, Handed, rowOfNumber, backwardAt, wayBack, backwardRows, MarkSays, Noted, anyRow, knownBy, savedBy}
 use Rattle.table.proofs.AssignmentRows.{rows-of-put, rows-of-put-if, rows-of-done}
 use Rattle.sheet.proofs.RowsBack.{line-back}
 use Rattle.table.proofs.TreeRows.{StandsAt, tree-stands, stands-after, fork-before, again-before}

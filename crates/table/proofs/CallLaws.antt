@@ -18,7 +18,7 @@ use Rattle.table.specs.TableRows.{tableWords}
 use Rattle.table.specs.Adjoint.{tableOf}
 use Rattle.table.specs.Sizes.{tableRows}
 use Rattle.table.specs.Calls.{Checked, sizesIn, check, tableRoom, readFor, overwritten, tableIn, Written, write}
-use Rattle.table.specs.Plans.{PlanMade, PlanSays}
+use Rattle.table.specs.inner.Plans.{PlanMade, PlanSays}
 
 -- ---- by the case of the plan
 

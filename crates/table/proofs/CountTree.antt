@@ -12,7 +12,7 @@ use Rattle.sets.specs.Marks.{Marked, numbered}
 use Rattle.table.specs.TableRows.{Table, saveTurn, turning, onTurn, turnRound, ofTurningRound}
 use Rattle.table.specs.Adjoint.{put, forwardRow, forwardPart, backwardOf, backwardPart, adjointTable}
 use Rattle.table.specs.Sizes.{tableRows}
-use Rattle.table.specs.MarkedRows.{rowsIn, rowNumbered, forwardOfLine, backwardOfLine, countRows, MarkSays, Noted}
+use Rattle.table.specs.inner.MarkedRows.{rowsIn, rowNumbered, forwardOfLine, backwardOfLine, countRows, MarkSays, Noted}
 use Rattle.sheet.proofs.RowsBack.{line-back}
 use Rattle.table.proofs.TreeRows.{StandsAt, tree-stands, stands-after}
 use Rattle.table.proofs.ForwardTree.{marked-forward}

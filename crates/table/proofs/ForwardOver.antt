@@ -5,7 +5,7 @@ use mathlib.Core.Path.{_≡_}
 use mathlib.Core.List.{List, [], _++_}
 use lib.ListN.{getD}
 use native.Mathlib.Omega.{arith}
-use Rattle.table.specs.MarkedRows.{rowNumbered, forwardOfLine, forwardRows}
+use Rattle.table.specs.inner.MarkedRows.{rowNumbered, forwardOfLine, forwardRows}
 
 module _ (words : List ℕ) (first : ℕ) (marks : List ℕ) where
   pub forward-next : (p rows : ℕ) → p < rows

@@ -11,7 +11,7 @@ use Rattle.sheet.specs.Reading.{rowsAt}
 use Rattle.sets.specs.Marks.{Marked, numbered}
 use Rattle.table.specs.TableRows.{Table, tableRowOf, rowOfAction, rowOfTableTest, whether, saveTurn, turning}
 use Rattle.table.specs.Adjoint.{put, targetOf, forwardRow, forwardPart}
-use Rattle.table.specs.MarkedRows.{row4, rowIf, rowsIn, rowNumbered, forwardOfLine, forwardRows, MarkSays, Noted}
+use Rattle.table.specs.inner.MarkedRows.{row4, rowIf, rowsIn, rowNumbered, forwardOfLine, forwardRows, MarkSays, Noted}
 use Rattle.table.proofs.AssignmentRows.{rows-of-put, rows-of-put-if, rows-of-done}
 use Rattle.sheet.proofs.RowsBack.{line-back}
 use Rattle.table.proofs.TreeRows.{StandsAt, tree-stands, stands-after, fork-before, again-before}

@@ -8,7 +8,7 @@ use Rattle.sheet.specs.Tree.{basic, ifLine, elseLine, endIf, repeat, endRepeat}
 use Rattle.sheet.specs.Rows.{Row, SheetLine, less, kindOf, rowOf, sheetRowOf, _≔_, lineOfRow}
 use Rattle.table.specs.TableRows.{tableRowOf, rowOfAction, rowOfTableTest}
 use Rattle.table.specs.Adjoint.{forwardRow}
-use Rattle.table.specs.MarkedRows.{row4, rowIf, Says, sourceOf, assignmentBack, bitOf, forwardOfLine, backwardOfLine}
+use Rattle.table.specs.inner.MarkedRows.{row4, rowIf, Says, sourceOf, assignmentBack, bitOf, forwardOfLine, backwardOfLine}
 use Rattle.table.proofs.AssignmentRows.{rows-of-put, rows-of-put-if, rows-of-done}
 
 -- ---- the line that a row says

@@ -8,8 +8,8 @@ use borrow.Author.Tests.{lt-ltb, le-ltb}
 use lib.ListN.{length, getD, set, List·getD-eq-default}
 use lib.Seq.{getD-set-same, getD-set-other}
 use Rattle.sheet.specs.Rows.{sheetRowOf, rowOf, lineOfRow}
-use Rattle.table.specs.MarkedRows.{row4, savedBy, rowNumbered, Says}
-use Rattle.table.specs.Needs.{capped, ofSaved, ofBranch, needOfLine, blockEnd, afterRow, HoldsFrom, needAt, needsFrom, needOver}
+use Rattle.table.specs.inner.MarkedRows.{row4, savedBy, rowNumbered, Says}
+use Rattle.table.specs.inner.Needs.{capped, ofSaved, ofBranch, needOfLine, blockEnd, afterRow, HoldsFrom, needAt, needsFrom, needOver}
 use Rattle.table.specs.declared.needs.Stack.{Stack}
 use Rattle.table.proofs.LineRows.{if-line, else-line, end-if-line, repeat-line, assignment-line, end-repeat-line, some-kind}
 

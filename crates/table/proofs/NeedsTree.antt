@@ -13,8 +13,8 @@ use Rattle.sheet.specs.LongestRun.{longestRun}
 use Rattle.sets.specs.Marks.{Marked, MarkedTest, numbered}
 use Rattle.table.specs.Adjoint.{Body}
 use Rattle.table.specs.Sizes.{valuesNeeded, turnsNeeded}
-use Rattle.table.specs.MarkedRows.{rowNumbered, Noted}
-use Rattle.table.specs.Needs.{greatestWord, capped, ofSaved, ofBranch, needOfLine, blockEnd, afterRow, needAt, needsFrom, needOver}
+use Rattle.table.specs.inner.MarkedRows.{rowNumbered, Noted}
+use Rattle.table.specs.inner.Needs.{greatestWord, capped, ofSaved, ofBranch, needOfLine, blockEnd, afterRow, needAt, needsFrom, needOver}
 use Rattle.table.specs.declared.needs.Stack.{Stack}
 use Rattle.table.specs.declared.needs.Stack.the-variants as stack
 use Rattle.sheet.proofs.RowsBack.{line-back}

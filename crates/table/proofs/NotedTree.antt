@@ -14,16 +14,16 @@ use Rattle.sheet.proofs.ReadingParts.{same-given}
 use Rattle.sets.specs.VariableSets.{VariableSet}
 use Rattle.sets.specs.Transfers.{Activity}
 use Rattle.sets.specs.Marks.{markBy, varied, useful, required}
-use Rattle.sets.specs.MarkBytes.{byteBy, byteAt, markBytes}
-use Rattle.sets.specs.Partners.{CameFrom, GoesTo, PartnersFound}
-use Rattle.sets.specs.RowEquations.{lineIn}
-use Rattle.sets.specs.Laid.{Laid, AllMarked}
+use Rattle.sets.specs.inner.MarkBytes.{byteBy, byteAt, markBytes}
+use Rattle.sets.specs.inner.Partners.{CameFrom, GoesTo, PartnersFound}
+use Rattle.sets.specs.inner.RowEquations.{lineIn}
+use Rattle.sets.specs.inner.Laid.{Laid, AllMarked}
 use Rattle.sets.proofs.RowByRow.{LinesAt}
 use Rattle.sets.proofs.MarkByteLaws.{read-back, written-at}
 use Rattle.sets.proofs.MarksListed.{marks-listed}
 use Rattle.sets.proofs.SheetMarked.{facts, partners-right}
-use Rattle.table.specs.MarkedRows.{knownBy, savedBy, MarkSays, Noted}
-use Rattle.table.specs.Plans.{SheetNoted}
+use Rattle.table.specs.inner.MarkedRows.{knownBy, savedBy, MarkSays, Noted}
+use Rattle.table.specs.inner.Plans.{SheetNoted}
 use Rattle.table.proofs.WalkTree.{rows-of-tree}
 use Rattle.table.proofs.SheetLaid.{sheet-lies}
 

@@ -14,10 +14,10 @@ use Rattle.table.specs.TableRows.{tableWords}
 use Rattle.table.specs.Adjoint.{adjointTable, tableOf}
 use Rattle.table.specs.Sizes.{tableRows, valuesNeeded, turnsNeeded}
 use Rattle.table.specs.Calls.{tableRoom, overwritten}
-use Rattle.table.specs.MarkedRows.{rowsIn, Readable, Handed, handed, Walkable, Room, Wrote, wholeRows, countRows}
+use Rattle.table.specs.inner.MarkedRows.{rowsIn, Readable, Handed, handed, Walkable, Room, Wrote, wholeRows, countRows}
 use Rattle.table.specs.declared.needs.Stack.the-variants as stack
-use Rattle.table.specs.Needs.{needOver}
-use Rattle.table.specs.Plans.{SheetNoted, PlanMade}
+use Rattle.table.specs.inner.Needs.{needOver}
+use Rattle.table.specs.inner.Plans.{SheetNoted, PlanMade}
 use Rattle.table.proofs.TableBounds.{table-rows-bound, marked-rows}
 use Rattle.table.proofs.WalkTree.{rows-of-tree, tree-says, tree-walks}
 use Rattle.table.proofs.WholeTable.{whole-is-table, rows-counted, buffer-overwritten}

@@ -6,7 +6,7 @@ use mathlib.Core.List.{List}
 use lib.ListN.{length, length-append, getD}
 use native.Mathlib.Omega.{arith}
 use Rattle.sheet.specs.Rows.{Row, kindOf, lineOfRow}
-use Rattle.table.specs.MarkedRows.{row4, rowIf, bitOf, rowNumbered, Says, partRows, assignmentBack, forwardOfLine, backwardOfLine, countRows}
+use Rattle.table.specs.inner.MarkedRows.{row4, rowIf, bitOf, rowNumbered, Says, partRows, assignmentBack, forwardOfLine, backwardOfLine, countRows}
 use Rattle.table.proofs.AssignmentRows.{partsIf, product-rows, copy-rows, constant-rows, negation-rows, two-rows, assignment-rows}
 use Rattle.table.proofs.LineRows.{assignment-forward}
 

@@ -13,7 +13,7 @@ use Rattle.sheet.specs.Rows.{Assignment, Test, SheetLine, Slot, variable, const
 use Rattle.sheet.specs.Reading.{unless, Block, Item, lineBy, lineOf, taken, bodyOf, rowAt, rowsAt}
 use Rattle.sheet.proofs.ReadingParts.{bound, passed}
 use Rattle.sheet.proofs.RowsBack.{both, each-fits}
-use Rattle.table.specs.MarkedRows.{Small}
+use Rattle.table.specs.inner.MarkedRows.{Small}
 
 module _ (v k : ℕ) (few : v ≤ limit .variables) (constants : k ≤ limit .constants) where
   word-small : (slot : Slot) (word : ℕ) → fits v k slot word ≡ true → word ≤ limit .turns

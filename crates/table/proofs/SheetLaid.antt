@@ -18,8 +18,8 @@ use Rattle.sheet.proofs.ReadingExact.{reading-exact}
 use Rattle.sheet.proofs.NamesPresent.{counts}
 use Rattle.sheet.proofs.TreeInWords.{body-stands}
 use Rattle.sheet.proofs.ReaderLaws.{Shaped, accepted-shape}
-use Rattle.sets.specs.Laid.{Laid}
-use Rattle.table.specs.MarkedRows.{rowNumbered, Small}
+use Rattle.sets.specs.inner.Laid.{Laid}
+use Rattle.table.specs.inner.MarkedRows.{rowNumbered, Small}
 use Rattle.table.proofs.WalkTree.{rows-of-tree}
 use Rattle.table.proofs.RowsSmall.{rows-small}
 

@@ -7,7 +7,7 @@ use Rattle.sheet.specs.Tree.{Tree, done, one, fork, again, Line, elseLine, endI
 use Rattle.sheet.specs.Rows.{Assignment, Test, SheetLine, Row, rowOf, sheetRowOf, treeRows}
 use Rattle.sheet.specs.Reading.{rowAt, rowsAt}
 use Rattle.table.specs.TableRows.{Table, TableRow, TableLine, TableTest, linesOf, tableRowOf, rowOfAction, rowOfTableTest}
-use Rattle.table.specs.MarkedRows.{row4, rowsIn, rowNumbered}
+use Rattle.table.specs.inner.MarkedRows.{row4, rowsIn, rowNumbered}
 
 -- ---- the sheet's rows
 

@@ -9,7 +9,7 @@ use Rattle.sheet.specs.Rows.{Assignment, Test, less, SheetLine, Row, sheetRowOf
 use Rattle.sheet.specs.Reading.{rowsAt}
 use Rattle.sheet.proofs.RowsCounted.{lines-counted}
 use Rattle.sets.specs.Marks.{Marked}
-use Rattle.table.specs.MarkedRows.{rowNumbered, Says, stepBack, Handed, rowOfNumber, wayBack, Visited, Walks, Noted}
+use Rattle.table.specs.inner.MarkedRows.{rowNumbered, Says, stepBack, Handed, rowOfNumber, wayBack, Visited, Walks, Noted}
 use Rattle.sheet.proofs.RowsBack.{line-back}
 use Rattle.table.proofs.TreeRows.{StandsAt, tree-stands, stands-after}
 use Rattle.table.proofs.BackwardTree.{step-assignment, step-if}

@@ -14,7 +14,7 @@ use Rattle.sets.specs.Marks.{Marked, numbered}
 use Rattle.table.specs.TableRows.{Table, tableRowOf, linesOf, wordsOf, tableWords, rowOfAction, whether, turnRound, ofTurningRound, saveTurn, turning}
 use Rattle.table.specs.Adjoint.{Body, put, forwardPart, backwardPart, adjointTable}
 use Rattle.table.specs.Calls.{overwritten}
-use Rattle.table.specs.MarkedRows.{row4, Room, Wrote, rowsIn, Handed, wholeRows, Noted}
+use Rattle.table.specs.inner.MarkedRows.{row4, Room, Wrote, rowsIn, Handed, wholeRows, Noted}
 use Rattle.table.proofs.AssignmentRows.{rows-of-done}
 use Rattle.table.proofs.WritingLaws.{four-words-each}
 use Rattle.table.proofs.TreeRows.{rows-of-one, rows-of-fork, rows-of-again}

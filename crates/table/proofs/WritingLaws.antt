@@ -7,7 +7,7 @@ use lib.Seq.{sets, length-sets}
 use native.Mathlib.Omega.{arith}
 use Rattle.sheet.specs.Rows.{Row}
 use Rattle.table.specs.TableRows.{wordsOf}
-use Rattle.table.specs.MarkedRows.{Room, Wrote}
+use Rattle.table.specs.inner.MarkedRows.{Room, Wrote}
 
 pub four-stores : (l : List ℕ) (p k d a b : ℕ) → set (set (set (set l p k) (p + 1) d) (p + 2) a) (p + 3) b ≡ sets l p (k ∷ d ∷ a ∷ b ∷ [])
 four-stores l p k d a b =

@@ -2,7 +2,5 @@
 pub mod TableRows
 pub mod Adjoint
 pub mod Sizes
-pub mod MarkedRows
-pub mod Needs
-pub mod Plans
 pub mod Calls
+pub mod inner

@@ -5,7 +5,7 @@ ghost use mathlib.Core.Bool.{cond};
 ghost use Prim.Native.Nat.{ℕ, _+_, _*_, _≤_, _<_};
 ghost use lib.ListN.{length};
 ghost use Rattle.sheet.specs.Bounds.{limit};
-ghost use Rattle.table.specs.MarkedRows.{row4, Says, Readable, partRows, assignmentBack, forwardOfLine, backwardOfLine, countRows};
+ghost use Rattle.table.specs.inner.MarkedRows.{row4, Says, Readable, partRows, assignmentBack, forwardOfLine, backwardOfLine, countRows};
 use super::kinds;
 use super::rows;
 

@@ -6,13 +6,13 @@ ghost use Rattle.sheet.specs.Bounds.{limit};
 ghost use Rattle.sheet.specs.Refusals.{given};
 ghost use Rattle.sheet.specs.Reading.{Sheet, read};
 ghost use Rattle.sheet.specs.Answers.{shapeRead};
-ghost use Rattle.sets.specs.Laid.{Laid};
+ghost use Rattle.sets.specs.inner.Laid.{Laid};
 ghost use Rattle.table.specs.TableRows.{tableWords};
 ghost use Rattle.table.specs.Adjoint.{tableOf};
 ghost use Rattle.table.specs.Calls.{tableRoom, overwritten, checkedSaid, check, Written, write};
-ghost use Rattle.table.specs.MarkedRows.{Readable};
-ghost use Rattle.table.specs.Needs.{needOver};
-ghost use Rattle.table.specs.Plans.{SheetNoted, PlanMade, PlanSays};
+ghost use Rattle.table.specs.inner.MarkedRows.{Readable};
+ghost use Rattle.table.specs.inner.Needs.{needOver};
+ghost use Rattle.table.specs.inner.Plans.{SheetNoted, PlanMade, PlanSays};
 
 mod count;
 pub mod kinds;

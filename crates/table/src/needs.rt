@@ -4,8 +4,8 @@ ghost use Rattle.sheet.specs.Rows.{lineOfRow};
 ghost use Prim.Native.Nat.{ℕ, suc, _-_, _≤_, _<_, max};
 ghost use mathlib.Core.List.{List};
 ghost use lib.ListN.{length};
-ghost use Rattle.table.specs.MarkedRows.{row4, Says, Readable, savedBy};
-ghost use Rattle.table.specs.Needs.{capped, ofSaved, ofBranch, needOfLine, blockEnd, afterRow, HoldsFrom, NeedRoom, needOver};
+ghost use Rattle.table.specs.inner.MarkedRows.{row4, Says, Readable, savedBy};
+ghost use Rattle.table.specs.inner.Needs.{capped, ofSaved, ofBranch, needOfLine, blockEnd, afterRow, HoldsFrom, NeedRoom, needOver};
 use super::count;
 use super::rows;
 

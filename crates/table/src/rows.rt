@@ -4,7 +4,7 @@ ghost use Rattle.sheet.specs.Rows.{lineOfRow};
 ghost use Prim.Native.Nat.{_+_, _*_, _≤_, _<_};
 ghost use mathlib.Core.List.{[], _∷_};
 ghost use lib.ListN.{length};
-ghost use Rattle.table.specs.MarkedRows.{row4, Room, Wrote, rowIf, Small, bitOf, partRows, assignmentBack, Says, forwardOfLine, backwardOfLine};
+ghost use Rattle.table.specs.inner.MarkedRows.{row4, Room, Wrote, rowIf, Small, bitOf, partRows, assignmentBack, Says, forwardOfLine, backwardOfLine};
 use super::kinds;
 
 // One row of the table, its four words from place on. Answers the place after it.

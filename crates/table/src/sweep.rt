@@ -2,7 +2,7 @@
 ghost use mathlib.Core.Path.{_≡_};
 ghost use Prim.Native.Nat.{_+_, _*_, _≤_, _<_};
 ghost use lib.ListN.{length, getD, set};
-ghost use Rattle.table.specs.MarkedRows.{Room, Wrote, Readable, forwardRows, stepBack, turnsBack, handed, Walkable, backwardRows, wholeRows};
+ghost use Rattle.table.specs.inner.MarkedRows.{Room, Wrote, Readable, forwardRows, stepBack, turnsBack, handed, Walkable, backwardRows, wholeRows};
 use super::kinds;
 use super::rows;
 

@@ -2,9 +2,9 @@
 use borrow.Author.Needs.{needs}
 use mathlib.Core.Path.{ap, _∙_}
 use denote.Ref.{now}
-use Rattle.sets.specs.Partners.{CameFrom, GoesTo}
-use Rattle.sets.specs.MarkBytes.{written}
-use Rattle.sets.specs.Laid.{Laid}
+use Rattle.sets.specs.inner.Partners.{CameFrom, GoesTo}
+use Rattle.sets.specs.inner.MarkBytes.{written}
+use Rattle.sets.specs.inner.Laid.{Laid}
 use Rattle.sets.proofs.MarkByteLaws.{written-over}
 use Rattle.sets.proofs.SheetMarked.{facts, partners-right, settles-varied, settles-useful, settles-required, varied-settled, useful-settled, required-settled, all-marked}
 use Rattle.sets.proofs.mark.Statement.{statement}

@@ -1,7 +1,7 @@
 -- `sheet::capped` meets its contract.
 use borrow.Author.Needs.{needs}
 use native.Mathlib.Omega.{arith}
-use Rattle.sheet.specs.Steps.{saturated}
+use Rattle.sheet.specs.inner.Steps.{saturated}
 use Rattle.sheet.proofs.capped.Statement.{statement}
 use Rattle.sheet.proofs.capped.Tie as tie
 

@@ -1,6 +1,6 @@
 -- `sheet::end_if` meets its contract.
 use borrow.Author.Needs.{needs}
-use Rattle.sheet.specs.Steps.{ifEndOf}
+use Rattle.sheet.specs.inner.Steps.{ifEndOf}
 use Rattle.sheet.proofs.end_if.Statement.{statement}
 use Rattle.sheet.proofs.end_if.Tie as tie
 

@@ -2,7 +2,7 @@
 use Prim.Native.Nat.{_+_, _*_, _≤_}
 use borrow.Author.Needs.{needs}
 use native.Mathlib.Omega.{arith}
-use Rattle.sheet.specs.Steps.{repeatEndOf}
+use Rattle.sheet.specs.inner.Steps.{repeatEndOf}
 use Rattle.sheet.proofs.Saturated.{product-small}
 use Rattle.sheet.proofs.end_repeat.Statement.{statement}
 use Rattle.sheet.proofs.end_repeat.Tie as tie

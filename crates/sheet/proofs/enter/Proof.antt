@@ -1,6 +1,6 @@
 -- `sheet::enter` meets its contract.
 use borrow.Author.Tests.{lt-ltb, le-ltb}
-use Rattle.sheet.specs.Steps.{enterOf}
+use Rattle.sheet.specs.inner.Steps.{enterOf}
 use Rattle.sheet.proofs.enter.Statement.{statement}
 use Rattle.sheet.proofs.enter.Tie as tie
 

@@ -1,6 +1,6 @@
 -- `sheet::finish` meets its contract.
 use borrow.Author.Tests.{le-leb, lt-leb}
-use Rattle.sheet.specs.Steps.{finishOf}
+use Rattle.sheet.specs.inner.Steps.{finishOf}
 use Rattle.sheet.proofs.finish.Statement.{statement}
 use Rattle.sheet.proofs.finish.Tie as tie
 

@@ -1,6 +1,6 @@
 -- `sheet::follow` meets its contract.
 use borrow.Author.Needs.{needs}
-use Rattle.sheet.specs.Steps.{stepOf}
+use Rattle.sheet.specs.inner.Steps.{stepOf}
 use Rattle.sheet.proofs.follow.Statement.{statement}
 use Rattle.sheet.proofs.follow.Tie as tie
 

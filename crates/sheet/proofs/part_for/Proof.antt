@@ -1,6 +1,6 @@
 -- `sheet::part_for` meets its contract.
 use borrow.Author.Tests.{ne-eqb}
-use Rattle.sheet.specs.Steps.{partFor}
+use Rattle.sheet.specs.inner.Steps.{partFor}
 use Rattle.sheet.proofs.part_for.Statement.{statement}
 use Rattle.sheet.proofs.part_for.Tie as tie
 

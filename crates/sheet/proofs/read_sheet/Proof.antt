@@ -10,7 +10,7 @@ use Rattle.sheet.specs.Bounds.{limit}
 use Rattle.sheet.specs.Refusals.{Refusal, Answer, refused, given}
 use Rattle.sheet.specs.Reading.{countAt, rolesFit, rowsAt}
 use Rattle.sheet.specs.Answers.{said, shapeRead}
-use Rattle.sheet.specs.Steps.{countSaid, rolesSaid, bodySaid, bodyRun, finishOf}
+use Rattle.sheet.specs.inner.Steps.{countSaid, rolesSaid, bodySaid, bodyRun, finishOf}
 use Rattle.sheet.specs.declared.Shape.{Shape}
 use Rattle.sheet.proofs.ShapeRead.{variables-refused, roles-refused, constants-refused, rows-refused, body-refuses, finish-says}
 use Rattle.sheet.proofs.NamesPresent.{Counted, count-judged}

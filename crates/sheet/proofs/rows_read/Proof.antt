@@ -10,7 +10,7 @@ use native.Mathlib.Omega.{arith}
 use Rattle.sheet.specs.Bounds.{limit}
 use Rattle.sheet.specs.Refusals.{Refusal, Answer, refused}
 use Rattle.sheet.specs.Reading.{Progress, rowAt, rowsAt}
-use Rattle.sheet.specs.Steps.{partIf, judgedBy, bodyRun}
+use Rattle.sheet.specs.inner.Steps.{partIf, judgedBy, bodyRun}
 use Rattle.sheet.specs.declared.Step.the-variants as step
 use Rattle.sheet.specs.declared.Step.{Step}
 use Rattle.sheet.specs.declared.Level.{Level}

@@ -1,6 +1,6 @@
 -- `sheet::split` meets its contract.
 use borrow.Author.Needs.{needs}
-use Rattle.sheet.specs.Steps.{splitOf}
+use Rattle.sheet.specs.inner.Steps.{splitOf}
 use Rattle.sheet.proofs.split.Statement.{statement}
 use Rattle.sheet.proofs.split.Tie as tie
 

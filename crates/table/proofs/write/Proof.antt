@@ -1,7 +1,7 @@
 -- `table::write` meets its contract, by the case of the plan and by the buffer's room.
 use native.Mathlib.Omega.{arith}
 use borrow.Author.Needs.{needs}
-use Rattle.table.specs.Plans.{PlanMade}
+use Rattle.table.specs.inner.Plans.{PlanMade}
 use Rattle.table.proofs.CallLaws.{when-refused, when-made, write-refused, write-small, write-made}
 use Rattle.table.proofs.PlanLaws.{planned-few}
 use Rattle.table.proofs.write.Statement.{statement}

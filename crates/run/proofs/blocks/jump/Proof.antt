@@ -1,7 +1,7 @@
 -- `run::blocks::jump` meets its contract.
 use mathlib.Core.Path.{ap, _∙_}
 use Prim.Native.Nat.{ℕ}
-use Rattle.run.specs.RowSteps.{moved}
+use Rattle.run.specs.inner.RowSteps.{moved}
 use Rattle.run.proofs.CrossLaws.{jump-goes, jump-nowhere}
 use borrow.Author.Needs.{needs}
 use Rattle.run.proofs.blocks.jump.Statement.{statement}

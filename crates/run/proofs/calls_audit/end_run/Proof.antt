@@ -1,5 +1,5 @@
 -- `run::calls_audit::end_run` meets its contract.
-use Rattle.run.specs.CallAnswers.{endedAs}
+use Rattle.run.specs.inner.CallAnswers.{endedAs}
 use borrow.Author.Needs.{needs}
 use Rattle.run.proofs.calls_audit.end_run.Statement.{statement}
 use Rattle.run.proofs.calls_audit.end_run.Tie as tie

@@ -1,6 +1,6 @@
 -- `run::calls_audit::load` meets its contract.
 use mathlib.Core.Path.{ap, _∙_}
-use Rattle.run.specs.CallSteps.{filled}
+use Rattle.run.specs.inner.CallSteps.{filled}
 use borrow.Author.Needs.{needs}
 use Rattle.run.proofs.calls_audit.load.Statement.{statement}
 use Rattle.run.proofs.calls_audit.load.Tie as tie

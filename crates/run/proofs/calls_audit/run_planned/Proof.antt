@@ -1,7 +1,7 @@
 -- `run::calls_audit::run_planned` meets its contract.
 use mathlib.Core.Path.{sym, ap, _∙_}
 use Rattle.number.specs.Residues.{residues}
-use Rattle.run.specs.CallSteps.{fitSaid}
+use Rattle.run.specs.inner.CallSteps.{fitSaid}
 use Rattle.run.proofs.AdmittedLaws.{residues-admitted}
 use Rattle.run.proofs.CallsJudged.{refused-run, rooms-refuse, table-has-room, now-written, accepted-run}
 use borrow.Author.Needs.{needs}

@@ -1,7 +1,7 @@
 -- `run::calls_double::run_double` meets its contract.
 use mathlib.Core.Path.{subst}
 use Rattle.number.specs.Doubles.{doubles}
-use Rattle.table.specs.Plans.{PlanSays}
+use Rattle.table.specs.inner.Plans.{PlanSays}
 use Rattle.run.proofs.CallsJudged.{refused-run, unread}
 use borrow.Author.Needs.{needs}
 use Rattle.run.proofs.calls_double.run_double.Statement.{statement}

@@ -1,7 +1,7 @@
 -- `run::calls_double::run_planned` meets its contract.
 use mathlib.Core.Path.{sym, ap, _∙_}
 use Rattle.number.specs.Doubles.{doubles}
-use Rattle.run.specs.CallSteps.{fitSaid}
+use Rattle.run.specs.inner.CallSteps.{fitSaid}
 use Rattle.run.proofs.CallsJudged.{refused-run, rooms-refuse, numbers-refuse, table-has-room, now-written, accepted-run}
 use borrow.Author.Needs.{needs}
 use Rattle.run.proofs.calls_double.run_planned.Statement.{statement}

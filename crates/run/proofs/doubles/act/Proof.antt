@@ -1,8 +1,8 @@
 -- `run::doubles::act` meets its contract: a return for each kind.
 use Rattle.sheet.specs.Answers.{rowSaid}
 use Rattle.number.specs.Doubles.{doubles}
-use Rattle.run.specs.Answers.{whetherDid}
-use Rattle.run.specs.RowSteps.{didTo}
+use Rattle.run.specs.inner.RowAnswers.{whetherDid}
+use Rattle.run.specs.inner.RowSteps.{didTo}
 use Rattle.run.proofs.StraightLaws.{save-acts, take-back-acts, save-turn-acts, clear-acts, turn-round-acts, assign-acts, values-left, turns-left, went-left, did-left, did-answers}
 use borrow.Author.Needs.{needs}
 use Rattle.run.proofs.doubles.act.Statement.{statement}

@@ -1,6 +1,6 @@
 -- `run::doubles::assign_words` meets its contract: the right side, and then the assignment.
 use Rattle.number.specs.Doubles.{doubles}
-use Rattle.run.specs.Answers.{readDouble, whetherDid}
+use Rattle.run.specs.inner.RowAnswers.{readDouble, whetherDid}
 use Rattle.run.proofs.RowWordLaws.{words-assigned}
 use borrow.Author.Needs.{needs}
 use Rattle.run.proofs.doubles.assign_words.Statement.{statement}

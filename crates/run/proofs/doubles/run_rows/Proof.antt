@@ -7,7 +7,7 @@ use native.Mathlib.Omega.{arith}
 use borrow.Author.Needs.{needs}
 use Rattle.number.specs.Doubles.{doubles}
 use Rattle.run.specs.declared.Place.{Place}
-use Rattle.run.specs.RunsRows.{Cells, cellsOf}
+use Rattle.run.specs.inner.RunsRows.{Cells, cellsOf}
 use Rattle.run.proofs.RunLaws.{Task, Invariant, invariant-starts, straight-goes, straight-stops, straight-sticks, block-goes, block-ends, block-sticks}
 use Rattle.run.proofs.doubles.run_rows.Statement.{statement}
 use Rattle.run.proofs.doubles.run_rows.Tie as tie

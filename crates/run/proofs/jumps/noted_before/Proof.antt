@@ -4,7 +4,7 @@ use mathlib.Core.Path.{_≡_, ap, _∙_}
 use Prim.Native.Nat.{suc, _-_}
 use native.Mathlib.Omega.{arith}
 use denote.Ref.{now}
-use Rattle.run.specs.JumpsFound.{notedBefore}
+use Rattle.run.specs.inner.JumpsFound.{notedBefore}
 use Rattle.run.proofs.jumps.noted_before.Statement.{statement}
 use Rattle.run.proofs.jumps.noted_before.Tie as tie
 

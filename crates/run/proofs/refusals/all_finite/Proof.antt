@@ -3,7 +3,7 @@ use mathlib.Core.Path.{sym, ap, _∙_}
 use native.Mathlib.Nat.{zero-add}
 use lib.ListN.{length}
 use Rattle.number.specs.Doubles.{doubles}
-use Rattle.run.specs.CallSteps.{fitSaid}
+use Rattle.run.specs.inner.CallSteps.{fitSaid}
 use Rattle.run.proofs.AdmittedLaws.{admitted-append}
 use borrow.Author.Needs.{needs}
 use Rattle.run.proofs.refusals.all_finite.Statement.{statement}

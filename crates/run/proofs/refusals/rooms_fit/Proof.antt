@@ -1,6 +1,6 @@
 -- `run::refusals::rooms_fit` meets its contract.
 use mathlib.Core.Path.{sym, ap, _∙_}
-use Rattle.run.specs.CallSteps.{fitSaid}
+use Rattle.run.specs.inner.CallSteps.{fitSaid}
 use borrow.Author.Needs.{needs}
 use Rattle.run.proofs.refusals.rooms_fit.Statement.{statement}
 use Rattle.run.proofs.refusals.rooms_fit.Tie as tie

@@ -1,8 +1,8 @@
 -- `run::residues::act` meets its contract: a return for each kind.
 use Rattle.sheet.specs.Answers.{rowSaid}
 use Rattle.number.specs.Residues.{residues}
-use Rattle.run.specs.Answers.{whetherWent}
-use Rattle.run.specs.RowSteps.{wentTo}
+use Rattle.run.specs.inner.RowAnswers.{whetherWent}
+use Rattle.run.specs.inner.RowSteps.{wentTo}
 use Rattle.run.proofs.StraightLaws.{save-acts, take-back-acts, save-turn-acts, clear-acts, turn-round-acts, assign-acts, values-left, turns-left, went-left, went-answers}
 use borrow.Author.Needs.{needs}
 use Rattle.run.proofs.residues.act.Statement.{statement}

@@ -1,6 +1,6 @@
 -- `run::residues::assign_words` meets its contract: the right side, and then the assignment.
 use Rattle.number.specs.Residues.{residues}
-use Rattle.run.specs.Answers.{readResidue, whetherWent}
+use Rattle.run.specs.inner.RowAnswers.{readResidue, whetherWent}
 use Rattle.run.proofs.RowWordLaws.{words-assigned}
 use borrow.Author.Needs.{needs}
 use Rattle.run.proofs.residues.assign_words.Statement.{statement}

@@ -1,5 +1,5 @@
 -- `run::residues::evaluate` meets its contract: the kind that was tested for is the one that `sourceOf` goes by.
-use Rattle.run.specs.RowWords.{sourceOf}
+use Rattle.run.specs.inner.RowWords.{sourceOf}
 use Rattle.run.proofs.RowWordLaws.{no-source}
 use borrow.Author.Needs.{needs}
 use Rattle.run.proofs.residues.evaluate.Statement.{statement}

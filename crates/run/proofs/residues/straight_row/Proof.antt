@@ -5,7 +5,7 @@ use native.Mathlib.Omega.{arith}
 use Rattle.sheet.specs.Answers.{rowSaid}
 use Rattle.number.specs.Residues.{residues}
 use Rattle.run.specs.declared.Place.{Place}
-use Rattle.run.specs.RunsRows.{cellsOf}
+use Rattle.run.specs.inner.RunsRows.{cellsOf}
 use Rattle.run.proofs.StraightLaws.{straight-over, straight-block, straight-spent, straight-acts}
 use borrow.Author.Needs.{needs}
 use Rattle.run.proofs.residues.straight_row.Statement.{statement}

@@ -1,6 +1,6 @@
 -- `sets::equations::joins` meets its contract: by the set.
 use borrow.Author.Needs.{needs}
-use Rattle.sets.specs.RowEquations.{joinsBy}
+use Rattle.sets.specs.inner.RowEquations.{joinsBy}
 use Rattle.sets.proofs.equations.joins.Statement.{statement}
 use Rattle.sets.proofs.equations.joins.Tie as tie
 

@@ -1,6 +1,6 @@
 -- `sets::equations::own_point` meets its contract: by the set.
 use borrow.Author.Needs.{needs}
-use Rattle.sets.specs.RowEquations.{ownPoint}
+use Rattle.sets.specs.inner.RowEquations.{ownPoint}
 use Rattle.sets.proofs.equations.own_point.Statement.{statement}
 use Rattle.sets.proofs.equations.own_point.Tie as tie
 

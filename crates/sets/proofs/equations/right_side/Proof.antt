@@ -3,7 +3,7 @@ use borrow.Author.Needs.{needs}
 use mathlib.Core.Path.{_≡_, sym, ap, _∙_}
 use denote.Ref.{now}
 use Rattle.sets.specs.Equations.{setAt}
-use Rattle.sets.specs.RowEquations.{ownPoint}
+use Rattle.sets.specs.inner.RowEquations.{ownPoint}
 use Rattle.sets.proofs.RightSides.{assigned, at-else, in-block}
 use Rattle.sets.proofs.equations.right_side.Statement.{statement}
 use Rattle.sets.proofs.equations.right_side.Tie as tie

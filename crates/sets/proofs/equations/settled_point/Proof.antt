@@ -1,6 +1,6 @@
 -- `sets::equations::settled_point` meets its contract: by the set.
 use borrow.Author.Needs.{needs}
-use Rattle.sets.specs.RowEquations.{settledPoint}
+use Rattle.sets.specs.inner.RowEquations.{settledPoint}
 use Rattle.sets.proofs.equations.settled_point.Statement.{statement}
 use Rattle.sets.proofs.equations.settled_point.Tie as tie
 

@@ -3,7 +3,7 @@ use borrow.Author.Needs.{needs}
 use native.Mathlib.Omega.{arith}
 use mathlib.Core.Path.{sym, subst, _∙_}
 use denote.Ref.{now}
-use Rattle.sets.specs.RowEquations.{Small}
+use Rattle.sets.specs.inner.RowEquations.{Small}
 use Rattle.sets.proofs.MarkByteLaws.{no-byte, some-byte}
 use Rattle.sets.proofs.marks.byte_at.Statement.{statement}
 use Rattle.sets.proofs.marks.byte_at.Tie as tie

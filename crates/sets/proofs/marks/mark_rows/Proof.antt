@@ -4,8 +4,8 @@ use native.Mathlib.Omega.{arith}
 use mathlib.Core.Path.{_≡_, refl, sym, ap, _∙_}
 use denote.Ref.{now}
 use lib.ListN.{length}
-use Rattle.sets.specs.RowEquations.{lineIn}
-use Rattle.sets.specs.MarkBytes.{byteAt, written}
+use Rattle.sets.specs.inner.RowEquations.{lineIn}
+use Rattle.sets.specs.inner.MarkBytes.{byteAt, written}
 use Rattle.sets.proofs.MarkByteLaws.{written-length, written-next}
 use Rattle.sets.proofs.marks.mark_rows.Statement.{statement}
 use Rattle.sets.proofs.marks.mark_rows.Tie as tie

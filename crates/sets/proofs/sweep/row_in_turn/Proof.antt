@@ -1,7 +1,7 @@
 -- `sets::sweep::row_in_turn` meets its contract: by the set.
 use borrow.Author.Needs.{needs}
 use native.Mathlib.Omega.{arith}
-use Rattle.sets.specs.RowEquations.{rowInTurn}
+use Rattle.sets.specs.inner.RowEquations.{rowInTurn}
 use Rattle.sets.proofs.sweep.row_in_turn.Statement.{statement}
 use Rattle.sets.proofs.sweep.row_in_turn.Tie as tie
 

@@ -2,7 +2,7 @@
 use Prim.Native.Nat.{ℕ, _+_, _-_, _^_, _≤_, _<_}
 use mathlib.Core.Bool.{cond}
 use denote.Ref.{now}
-use Rattle.sets.specs.RowEquations.{hasRole}
+use Rattle.sets.specs.inner.RowEquations.{hasRole}
 use borrow.Author.Needs.{needs}
 use native.Mathlib.Omega.{arith}
 use mathlib.Core.Path.{_≡_, sym, ap, _∙_}

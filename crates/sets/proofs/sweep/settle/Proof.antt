@@ -6,8 +6,8 @@ use mathlib.Core.Path.{sym, ap, _∙_}
 use denote.Ref.{now}
 use lib.ListN.{replicate}
 use Rattle.sets.specs.VariableSets.{empty}
-use Rattle.sets.specs.ProperEquations.{Proper}
-use Rattle.sets.specs.RowEquations.{Given, allEquations}
+use Rattle.sets.specs.inner.ProperEquations.{Proper}
+use Rattle.sets.specs.inner.RowEquations.{Given, allEquations}
 use Rattle.sets.proofs.Settling.{Settling, roundsLeft, settling-starts, settling-on, rounds-fall}
 use Rattle.sets.proofs.sweep.settle.Statement.{statement}
 use Rattle.sets.proofs.sweep.settle.Tie as tie

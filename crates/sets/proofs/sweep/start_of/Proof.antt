@@ -1,6 +1,6 @@
 -- `sets::sweep::start_of` meets its contract: by the set.
 use borrow.Author.Needs.{needs}
-use Rattle.sets.specs.RowEquations.{startOf}
+use Rattle.sets.specs.inner.RowEquations.{startOf}
 use Rattle.sets.proofs.sweep.start_of.Statement.{statement}
 use Rattle.sets.proofs.sweep.start_of.Tie as tie
 

@@ -2,7 +2,7 @@
 use borrow.Author.Needs.{needs}
 use mathlib.Core.Path.{sym, subst, _∙_}
 use denote.Ref.{now}
-use Rattle.sets.specs.RowEquations.{Small, Given}
+use Rattle.sets.specs.inner.RowEquations.{Small, Given}
 use Rattle.sets.proofs.RightSides.{right-side-in, settled-in}
 use Rattle.sets.proofs.sweep.step.Statement.{statement}
 use Rattle.sets.proofs.sweep.step.Tie as tie

@@ -5,7 +5,7 @@ use borrow.Author.Needs.{needs}
 use native.Mathlib.Omega.{arith}
 use mathlib.Core.Path.{refl, sym, _∙_}
 use denote.Ref.{now}
-use Rattle.sets.specs.RowEquations.{Given, equationIn, rowInTurn}
+use Rattle.sets.specs.inner.RowEquations.{Given, equationIn, rowInTurn}
 use Rattle.sets.proofs.Rounds.{Going, going-on, went, round-from-start, row-in-turn-below}
 use Rattle.sets.proofs.sweep.sweep.Statement.{statement}
 use Rattle.sets.proofs.sweep.sweep.Tie as tie

@@ -1,7 +1,7 @@
 -- `sets::transfers::transfer` meets its contract: each set's own transfer.
 use borrow.Author.Needs.{needs}
 use mathlib.Core.Path.{refl}
-use Rattle.sets.specs.RowEquations.{turnOf}
+use Rattle.sets.specs.inner.RowEquations.{turnOf}
 use Rattle.sets.proofs.transfers.transfer.Statement.{statement}
 use Rattle.sets.proofs.transfers.transfer.Tie as tie
 

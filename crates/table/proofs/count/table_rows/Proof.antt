@@ -4,7 +4,7 @@ use mathlib.Core.Path.{_≡_, ap}
 use native.Mathlib.Omega.{arith}
 use lib.ListN.{getD}
 use Rattle.sheet.specs.Reading.{rowAt}
-use Rattle.table.specs.MarkedRows.{countRows}
+use Rattle.table.specs.inner.MarkedRows.{countRows}
 use Rattle.table.proofs.LineRows.{some-kind}
 use Rattle.table.proofs.RowCounts.{count-next, count-none}
 use Rattle.table.proofs.count.table_rows.Statement.{statement}

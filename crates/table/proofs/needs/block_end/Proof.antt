@@ -3,7 +3,7 @@ use native.Mathlib.Omega.{arith}
 use mathlib.Core.Path.{sym}
 use borrow.Author.Tests.{eq-eqb, ne-eqb}
 use lib.ListN.{getD, List·getD-eq-default}
-use Rattle.table.specs.Needs.{blockEnd}
+use Rattle.table.specs.inner.Needs.{blockEnd}
 use borrow.Author.Needs.{needs}
 use Rattle.table.proofs.needs.block_end.Statement.{statement}
 use Rattle.table.proofs.needs.block_end.Tie as tie

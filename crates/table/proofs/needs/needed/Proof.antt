@@ -6,7 +6,7 @@ use mathlib.Core.List.{List}
 use lib.ListN.{length, getD, length-set}
 use mathlib.Core.Path.{_≡_, refl}
 use Rattle.sheet.specs.Reading.{rowAt}
-use Rattle.table.specs.Needs.{HoldsFrom, needsFrom}
+use Rattle.table.specs.inner.Needs.{HoldsFrom, needsFrom}
 use Rattle.table.proofs.NeedRows.{needs-held-none, needs-held-more, needs-held-all}
 use Rattle.table.proofs.needs.needed.Statement.{statement}
 use Rattle.table.proofs.needs.needed.Tie as tie

@@ -2,7 +2,7 @@
 use Prim.Native.Nat.{_*_, _≤_}
 use native.Mathlib.Nat.{mul-le-mul}
 use native.Mathlib.Omega.{arith}
-use Rattle.table.specs.Needs.{greatestWord}
+use Rattle.table.specs.inner.Needs.{greatestWord}
 use Rattle.table.proofs.NeedRows.{assignment-need, if-need, repeat-need, closing-need}
 use borrow.Author.Needs.{needs}
 use Rattle.table.proofs.needs.of_row.Statement.{statement}

@@ -2,7 +2,7 @@
 use borrow.Author.Needs.{needs}
 use mathlib.Core.Path.{ap}
 use native.Mathlib.Omega.{arith}
-use Rattle.table.specs.MarkedRows.{partRows}
+use Rattle.table.specs.inner.MarkedRows.{partRows}
 use Rattle.table.proofs.WritingLaws.{wrote-none, wrote-then, room-first, room-after}
 use Rattle.table.proofs.AssignmentRows.{copy-rows, constant-rows, negation-rows, two-rows}
 use Rattle.table.proofs.rows.parts.Statement.{statement}

@@ -5,7 +5,7 @@ use native.Mathlib.Omega.{arith}
 use mathlib.Core.Path.{refl}
 use lib.ListN.{length}
 use Rattle.sheet.specs.Reading.{rowAt}
-use Rattle.table.specs.MarkedRows.{handed, backwardRows, Walks}
+use Rattle.table.specs.inner.MarkedRows.{handed, backwardRows, Walks}
 use Rattle.table.proofs.WritingLaws.{Underway, underway-start, underway-room, underway-next, underway-end, underway-length, room-first}
 use Rattle.table.proofs.BackwardOver.{backward-next, backward-none, visit-now, walk-on}
 use Rattle.table.proofs.sweep.backward_part.Statement.{statement}

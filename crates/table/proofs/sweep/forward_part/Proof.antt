@@ -3,7 +3,7 @@ use Prim.Native.Nat.{_≤_, _-_}
 use mathlib.Core.Path.{ap}
 use native.Mathlib.Omega.{arith}
 use Rattle.sheet.specs.Reading.{rowAt}
-use Rattle.table.specs.MarkedRows.{forwardRows}
+use Rattle.table.specs.inner.MarkedRows.{forwardRows}
 use Rattle.table.proofs.WritingLaws.{Underway, underway-start, underway-room, underway-next, underway-end, underway-length, room-first}
 use Rattle.table.proofs.ForwardOver.{forward-next, forward-none}
 use Rattle.table.proofs.sweep.forward_part.Statement.{statement}

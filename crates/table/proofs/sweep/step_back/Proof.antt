@@ -3,7 +3,7 @@ use borrow.Author.Needs.{needs}
 use borrow.Author.Tests.{eq-eqb, ne-eqb}
 use native.Mathlib.Omega.{arith}
 use lib.ListN.{getD}
-use Rattle.table.specs.MarkedRows.{stepBack}
+use Rattle.table.specs.inner.MarkedRows.{stepBack}
 use Rattle.table.proofs.sweep.step_back.Statement.{statement}
 use Rattle.table.proofs.sweep.step_back.Tie as tie
 

@@ -3,7 +3,7 @@ use borrow.Author.Needs.{needs}
 use borrow.Author.Tests.{eq-eqb, ne-eqb}
 use native.Mathlib.Omega.{arith}
 use Rattle.sheet.specs.Reading.{rowAt}
-use Rattle.table.specs.MarkedRows.{turnsBack}
+use Rattle.table.specs.inner.MarkedRows.{turnsBack}
 use Rattle.table.proofs.sweep.turns_back.Statement.{statement}
 use Rattle.table.proofs.sweep.turns_back.Tie as tie
 

@@ -3,7 +3,7 @@ use borrow.Author.Needs.{needs}
 use mathlib.Core.Path.{_∙_}
 use native.Mathlib.Omega.{arith}
 use lib.ListN.{set, length-set}
-use Rattle.table.specs.MarkedRows.{Room, handed, wholeRows}
+use Rattle.table.specs.inner.MarkedRows.{Room, handed, wholeRows}
 use Rattle.table.proofs.WritingLaws.{wrote-length, wrote-then, room-first, room-after}
 use Rattle.table.proofs.sweep.write_table.Statement.{statement}
 use Rattle.table.proofs.sweep.write_table.Tie as tie

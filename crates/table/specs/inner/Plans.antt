@@ -10,7 +10,7 @@ use Rattle.table.specs.declared.Plan.{Plan}
 use Rattle.table.specs.declared.Planned.{Planned}
 use Rattle.table.specs.declared.Planned.the-variants as planned
 use Rattle.table.specs.Sizes.{tableRows, valuesNeeded, turnsNeeded}
-use Rattle.table.specs.MarkedRows.{Noted}
+use Rattle.table.specs.inner.MarkedRows.{Noted}
 
 -- the sheet's own marks and partners are noted
 abbrev pub SheetNoted : (sheet : Sheet) (marks came goes : List ℕ) → Type 0

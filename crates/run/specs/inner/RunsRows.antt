@@ -8,8 +8,8 @@ use Rattle.number.specs.Arithmetic.{Arithmetic}
 use Rattle.table.specs.TableRows.{TableLine, Origin}
 use Rattle.run.specs.Actions.{Memory, Setting}
 use Rattle.run.specs.Machine.{Ending, finished, stoppedAt, gotStuck, outOfFuel, runFor}
-use Rattle.run.specs.Buffers.{memoryOf, Sound, RoundSizes}
-use Rattle.run.specs.Runnable.{Holds, Jumps, Shallow}
+use Rattle.run.specs.inner.Buffers.{memoryOf, Sound, RoundSizes}
+use Rattle.run.specs.inner.Runnable.{Holds, Jumps, Shallow}
 use Rattle.run.specs.declared.Ended.{Ended}
 use Rattle.run.specs.declared.Ended.the-variants as ended-as
 

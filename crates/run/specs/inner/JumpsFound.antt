@@ -7,7 +7,7 @@ use lib.ListN.{getD, set}
 use lib.Dec.{eqb}
 use Rattle.sheet.specs.Tree.{rows}
 use Rattle.table.specs.TableRows.{Table, TableLine, tableRowOf, linesOf}
-use Rattle.run.specs.Runnable.{Holds, Jumps}
+use Rattle.run.specs.inner.Runnable.{Holds, Jumps}
 
 -- The row after the nearest "else" or "end if" that ends the branch at hand, and what has been noted at each row passed: at an "if" the row
 -- after its "else", at an "else" the row after its "end if", at an "end if" the row after the mark that ends the branch around its block.

@@ -14,8 +14,8 @@ use Rattle.table.specs.TableRows.{TableLine, TableRow, Origin, Action, rowOfAct
 use Rattle.run.specs.Attempts.{Attempt, through, halted, stuck}
 use Rattle.run.specs.Actions.{Setting, Try}
 use Rattle.run.specs.Machine.{Repeat, State, Step, goesOn, ended, stops, sticks, stepAt, step}
-use Rattle.run.specs.Buffers.{Buffers, memoryOf, Sound, Does, RoundSizes}
-use Rattle.run.specs.Runnable.{Holds, Jumps}
+use Rattle.run.specs.inner.Buffers.{Buffers, memoryOf, Sound, Does, RoundSizes}
+use Rattle.run.specs.inner.Runnable.{Holds, Jumps}
 use Rattle.run.specs.declared.Place.{Place}
 use Rattle.run.specs.declared.Went.{Went}
 use Rattle.run.specs.declared.Went.the-variants as went-as
@@ -31,7 +31,7 @@ use Rattle.run.specs.declared.Acted.{Acted}
 use Rattle.run.specs.declared.Acted.the-variants as acted
 use Rattle.run.specs.declared.Crossed.{Crossed}
 use Rattle.run.specs.declared.Crossed.the-variants as crossed
-use Rattle.run.specs.RunsRows.{Cells, cellsOf, Suits}
+use Rattle.run.specs.inner.RunsRows.{Cells, cellsOf, Suits}
 
 -- the open repeats, nearest first: where the body of each starts, and the turns of it still to come
 unfoldable pub Nested : (depth : ℕ) → (bodies toCome : List ℕ) → List Repeat → Type 0

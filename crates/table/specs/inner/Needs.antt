@@ -8,7 +8,7 @@ use lib.Dec.{eqb, ltb}
 use Rattle.sheet.specs.Tree.{basic, ifLine, elseLine, endIf, repeat, endRepeat}
 use Rattle.sheet.specs.Rows.{SheetLine, lineOfRow}
 use Rattle.sheet.specs.Reading.{rowAt}
-use Rattle.table.specs.MarkedRows.{savedBy, rowNumbered}
+use Rattle.table.specs.inner.MarkedRows.{savedBy, rowNumbered}
 use Rattle.table.specs.declared.needs.Stack.{Stack}
 use Rattle.table.specs.declared.needs.Stack.the-variants as stack
 

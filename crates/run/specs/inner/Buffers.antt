@@ -10,7 +10,7 @@ use Rattle.sheet.specs.Rows.{Source, fixed, _≔_, less}
 use Rattle.table.specs.TableRows.{Action, assign, save, takeBack, saveTurn, clear, turnRound, TableTest, whether, onTurn, turnWord}
 use Rattle.run.specs.Attempts.{through, stuck, _>>=_}
 use Rattle.run.specs.Actions.{Memory, Setting, Try, evaluated, acted, tested, verdictOn}
-use Rattle.run.specs.Answers.{whetherMoved, heightAfter, turnOf, heightBranched}
+use Rattle.run.specs.inner.RowAnswers.{whetherMoved, heightAfter, turnOf, heightBranched}
 use Rattle.run.specs.declared.Moved.{Moved}
 use Rattle.run.specs.declared.Branched.{Branched}
 

@@ -10,7 +10,7 @@ use Rattle.sheet.specs.Rows.{Source, copy, fixed, sum, difference, product, neg
 use Rattle.table.specs.TableRows.{assign}
 use Rattle.run.specs.Attempts.{stuck, _>>=_, present}
 use Rattle.run.specs.Actions.{Setting, Try, evaluated}
-use Rattle.run.specs.Buffers.{Stores}
+use Rattle.run.specs.inner.Buffers.{Stores}
 
 unfoldable pub sourceOf : (kind a b : ℕ) → Option Source
 sourceOf kind a b =

@@ -16,20 +16,14 @@ use Rattle.table.specs.Calls.{tableRoom, overwritten}
 use Rattle.table.specs.declared.Answer.{Answer}
 use Rattle.table.specs.declared.Plan.{Plan}
 use Rattle.run.specs.Machine.{Ending, stepsOf}
-use Rattle.run.specs.Calls.{Lent, Ran, stuckNumber, settingOf, startOf, runOf, ranTo}
-use Rattle.run.specs.Runnable.{Holds, Jumps}
-use Rattle.run.specs.RunsRows.{Cells, cellsOf, RunsRows}
-use Rattle.run.specs.CallSteps.{resultFrom}
+use Rattle.run.specs.Calls.{stuckNumber, settingOf, startOf, runOf, ranTo, lentOf, ranOf}
+use Rattle.run.specs.inner.Runnable.{Holds, Jumps}
+use Rattle.run.specs.inner.RunsRows.{Cells, cellsOf, RunsRows}
+use Rattle.run.specs.inner.CallSteps.{resultFrom}
 use Rattle.run.specs.declared.Ended.{Ended}
 use Rattle.run.specs.declared.Ended.the-variants as ended
 
 module _ (A : Arithmetic) where
-  abbrev pub lentOf : (table : List ℕ) → (values : List (A .Carrier)) → (turns : List ℕ) → (result : List (A .Carrier)) → Lent A
-  lentOf table values turns result = record { table = table; values = values; turns = turns; result = result }
-
-  abbrev pub ranOf : Answer → Lent A → Ran A
-  ranOf answer lent = record { number = answer .number; place = answer .place; lent = lent }
-
   -- ---- a run's end
 
   pub record AtTheEnd : Type 0 where
@@ -102,5 +96,5 @@ module _ (A : Arithmetic) where
   abbrev pub RanTo : Sheet → (buffer : List ℕ) → (starts seeds : List (A .Carrier)) → (before : List (A .Carrier)) → (turnsBefore : List ℕ)
       → (resultBefore : List (A .Carrier)) → (answer : Answer) → (after : List (A .Carrier)) → (turnsAfter : List ℕ) → (resultAfter : List (A .Carrier)) → Type 0
   RanTo sheet buffer starts seeds before turnsBefore resultBefore answer after turnsAfter resultAfter =
-      ranOf answer (lentOf (overwritten (tableWords (tableOf sheet)) buffer) after turnsAfter resultAfter)
-      ≡ ranTo A sheet (lentOf buffer before turnsBefore resultBefore) (sheetRun sheet starts seeds (length before) (length turnsBefore))
+      ranOf A answer (lentOf A (overwritten (tableWords (tableOf sheet)) buffer) after turnsAfter resultAfter)
+      ≡ ranTo A sheet (lentOf A buffer before turnsBefore resultBefore) (sheetRun sheet starts seeds (length before) (length turnsBefore))
