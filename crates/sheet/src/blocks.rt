@@ -1,0 +1,217 @@
+// The rows into blocks: what each row does to the blocks that are open, known by their W alone, and W of all rows.
+ghost use mathlib.Core.Path.{_≡_};
+ghost use Prim.Native.Nat.{_+_, _*_, _≤_, max};
+ghost use mathlib.Core.List.{[]};
+ghost use lib.ListN.{length};
+ghost use Rattle.sheet.specs.Bounds.{limit};
+ghost use Rattle.sheet.specs.Reading.{rowAt, rowsAt};
+ghost use Rattle.sheet.specs.inner.Steps.{partFor, saturated, enterOf, splitOf, ifEndOf, repeatEndOf, stepOf, breaksBlock, judgedBy, bodySaid, bodyRun};
+use super::Body;
+use super::Level;
+use super::MAX_DEPTH;
+use super::MAX_LONGEST;
+use super::No;
+use super::Open;
+use super::Part;
+use super::ROW_WORDS;
+use super::Step;
+use super::kinds;
+use super::rows;
+use super::wide;
+
+const OUTERMOST: Level = Level {
+    block: Open::Outermost,
+    longest: 0,
+};
+
+// What a row is to the blocks, by its kind alone: a row of no kind opens and closes none.
+fn part_for(kind: u16, a: u16) -> Part
+    ensures { λ r. ⌜ r ≡ partFor kind a ⌝ }
+{
+    match kind {
+        kinds::IF => Part::If,
+        kinds::ELSE => Part::Else,
+        kinds::END_IF => Part::EndIf,
+        kinds::REPEAT => Part::Repeat(a),
+        kinds::END_REPEAT => Part::EndRepeat,
+        _ => Part::Assignment,
+    }
+}
+
+fn part_at(words: &[u16], place: usize) -> Part
+    requires { ⌜ place + limit .rowWords ≤ length (now words) ⌝ }
+    ensures { λ r. ⌜ r ≡ partFor (rowAt (now (words .entry)) place .kind) (rowAt (now (words .entry)) place .a) ⌝ }
+{
+    part_for(words[place], words[place + 2])
+}
+
+// W, or one above its bound: eight nested repeats of 1000 go beyond any integer.
+fn capped(longest: usize) -> u16
+    ensures { λ r. ⌜ r ≡ saturated longest ⌝ }
+{
+    if MAX_LONGEST < longest {
+        return (MAX_LONGEST + 1) as u16;
+    }
+    longest as u16
+}
+
+fn larger(first: u16, second: u16) -> u16
+    ensures { λ r. ⌜ r ≡ max first second ⌝ }
+{
+    if first < second { second } else { first }
+}
+
+// "if" and "repeat": a ninth level is refused.
+fn enter(depth: usize, block: Open) -> Step
+    ensures { λ r. ⌜ r ≡ enterOf depth block ⌝ }
+{
+    if depth < MAX_DEPTH {
+        return Step::Enter(Level { block, longest: 0 });
+    }
+    Step::BadBlock
+}
+
+// "else": only in a first branch.
+fn split(block: Open, longest: u16) -> Step
+    ensures { λ r. ⌜ r ≡ splitOf block longest ⌝ }
+{
+    match block {
+        Open::Outermost => Step::BadBlock,
+        Open::First => Step::Stay(Level {
+            block: Open::Second(longest),
+            longest: 0,
+        }),
+        Open::Second(_) => Step::BadBlock,
+        Open::Turns(_) => Step::BadBlock,
+    }
+}
+
+// "end if": only in a second branch; the block counts 1 + the larger branch.
+fn end_if(block: Open, longest: u16, outer: Level) -> Step
+    ensures { λ r. ⌜ r ≡ ifEndOf block longest outer ⌝ }
+{
+    match block {
+        Open::Outermost => Step::BadBlock,
+        Open::First => Step::BadBlock,
+        Open::Second(first) => {
+            let around = outer.block;
+            let sum = wide(outer.longest) + (1 + wide(larger(first, longest)));
+            Step::Leave(Level {
+                block: around,
+                longest: capped(sum),
+            })
+        }
+        Open::Turns(_) => Step::BadBlock,
+    }
+}
+
+// "end repeat": only in a repeat; the block counts 1 + turns × (1 + its body).
+fn end_repeat(block: Open, longest: u16, outer: Level) -> Step
+    ensures { λ r. ⌜ r ≡ repeatEndOf block longest outer ⌝ }
+{
+    match block {
+        Open::Outermost => Step::BadBlock,
+        Open::First => Step::BadBlock,
+        Open::Second(_) => Step::BadBlock,
+        Open::Turns(turns) => {
+            let around = outer.block;
+            let sum = wide(outer.longest) + (1 + wide(turns) * (1 + wide(longest)));
+            Step::Leave(Level {
+                block: around,
+                longest: capped(sum),
+            })
+        }
+    }
+}
+
+// What a row does to the block that is being read, `depth` levels deep, and to the one outside it.
+fn follow(part: Part, depth: usize, inner: Level, outer: Level) -> Step
+    ensures { λ r. ⌜ r ≡ stepOf part depth inner outer ⌝ }
+{
+    let block = inner.block;
+    let longest = inner.longest;
+    match part {
+        Part::Assignment => Step::Stay(Level {
+            block,
+            longest: capped(wide(longest) + 1),
+        }),
+        Part::If => enter(depth, Open::First),
+        Part::Else => split(block, longest),
+        Part::EndIf => end_if(block, longest, outer),
+        Part::Repeat(turns) => enter(depth, Open::Turns(turns)),
+        Part::EndRepeat => end_repeat(block, longest, outer),
+    }
+}
+
+fn breaks_block(step: Step) -> bool
+    ensures { λ r. ⌜ r ≡ breaksBlock step ⌝ }
+{
+    match step {
+        Step::BadRow => false,
+        Step::BadBlock => true,
+        Step::Stay(_) => false,
+        Step::Enter(_) => false,
+        Step::Leave(_) => false,
+    }
+}
+
+// A row's two refusals in their order: 5 comes before 6.
+fn judged(fit: bool, step: Step) -> Step
+    ensures { λ r. ⌜ r ≡ judgedBy fit step ⌝ }
+{
+    let broken = breaks_block(step);
+    if !fit {
+        return Step::BadRow;
+    }
+    if broken {
+        return Step::BadBlock;
+    }
+    step
+}
+
+// The rows, each judged as it is followed: the W of what they are.
+pub fn rows_read(
+    words: &[u16],
+    first: usize,
+    count: usize,
+    variables: usize,
+    constants: usize,
+) -> Body
+    requires { ⌜ first + count * limit .rowWords ≤ length (now words) ⌝ }
+    ensures { λ r. ⌜ bodySaid r ≡ bodyRun variables constants (rowsAt (now (words .entry)) first count) first [] [] ⌝ }
+{
+    // Entry n, from 1 on, is the level outside the block n deep, as it was when that block was opened.
+    let mut levels = [OUTERMOST; MAX_DEPTH + 1];
+    let mut depth: usize = 0;
+    let mut inner = OUTERMOST;
+    let mut place = first;
+    let mut left = count;
+    while 0 < left {
+        let fit = rows::row_fits(words, place, variables, constants);
+        let part = part_at(words, place);
+        let outer = levels[depth];
+        let step = judged(fit, follow(part, depth, inner, outer));
+        let next = place + ROW_WORDS;
+        let fewer = left - 1;
+        match step {
+            Step::BadRow => return Body::Refused(No::BadRow(place)),
+            Step::BadBlock => return Body::Refused(No::BadBlock(place)),
+            Step::Stay(level) => inner = level,
+            Step::Enter(level) => {
+                depth = depth + 1;
+                levels[depth] = inner;
+                inner = level;
+            }
+            Step::Leave(level) => {
+                depth = depth - 1;
+                inner = level;
+            }
+        }
+        place = next;
+        left = fewer;
+    }
+    if depth == 0 {
+        return Body::Longest(inner.longest);
+    }
+    Body::Refused(No::BadBlock(place))
+}
