@@ -1,6 +1,7 @@
 -- What is proved of reading, of the definitions first.
 pub mod TreeOnly
 pub mod RowsCounted
+pub mod EachKind
 pub mod RowsBack
 pub mod Judgements
 pub mod RefusalsApart
@@ -14,6 +15,7 @@ pub mod CountsJudged
 pub mod RolesJudged
 pub mod PartsRead
 pub mod Saturated
+pub mod BlocksApart
 pub mod Levels
 pub mod RowsFollowed
 pub mod ShapeRead

@@ -1,19 +1,23 @@
--- A row as the blocks see it: by its kind's form in the table, and by its kind.
-use Prim.Native.Nat.{ℕ, zero, suc, _+_, _-_, _≤_, _<_}
-use mathlib.Core.Path.{_≡_, refl, ap, subst}
+-- A row by the code's table of forms, and as the blocks see it.
+use Prim.Native.Nat.{ℕ, zero, suc, _-_, _≤_, _<_}
+use mathlib.Core.Path.{_≡_, refl, sym, ap}
 use mathlib.Core.Bool.{Bool, true, false}
-use mathlib.Core.List.{List}
+use mathlib.Core.List.{List, [], _∷_, map}
 use mathlib.Core.Option.{Option, none, some}
-use lib.ListN.{getD}
+use lib.ListN.{length, getD, getElem?}
+use native.Mathlib.Numerals.{sub-one}
 use native.Mathlib.Omega.{arith}
 use Rattle.sheet.specs.Refusals.{given}
-use Rattle.sheet.specs.Rows.{Slot, variable, constant, turns, unused, Row, Kind, kindOf, wordsFit}
-use Rattle.sheet.specs.Reading.{lineBy, lineOf, rowAt}
+use Rattle.sheet.specs.Rows.{Slot, variable, constant, turns, unused, Row, Kind, kinds, kindOf, wordsFit}
+use Rattle.sheet.specs.Reading.{lineBy, lineOf}
+use Rattle.sheet.specs.inner.Steps.{slotOf, slotSaid, formOf, forms, noForm, formFits, fitsKind, rowFits, partOf, partFor, partIf}
 use Rattle.sheet.specs.declared.Form.{Form}
-use Rattle.sheet.specs.inner.Steps.{slotOf, slotSaid, formOf, forms, noForm, formFits, partOf, partFor, partIf}
 use Rattle.sheet.specs.declared.Part.{Part}
 use Rattle.sheet.specs.declared.Part.the-variants as part
+use Rattle.sheet.proofs.EachKind.{each-kind, _then_, end}
 use Rattle.sheet.proofs.RowsBack.{each-fits, turns-above-0}
+
+-- ---- the table of forms
 
 slot-back : (s : Slot) → slotSaid (slotOf s) ≡ s
 slot-back variable = refl
@@ -21,78 +25,93 @@ slot-back constant = refl
 slot-back turns = refl
 slot-back unused = refl
 
-no-kind : (n : ℕ) → 11 < n → kindOf n ≡ none
-unfolding kindOf
-no-kind n l =
-    let is : suc (suc (suc (suc (suc (suc (suc (suc (suc (suc (suc (suc (n - 12)))))))))))) ≡ n = omega arith in
-    subst (λ m. kindOf m ≡ none) is refl
+form-same : (v k : ℕ) (kind : Kind) (r : Row) → formFits v k (formOf kind) r ≡ wordsFit v k kind r
+unfolding wordsFit
+form-same v k kind r = rw (slot-back (kind .d), slot-back (kind .a), slot-back (kind .b))
 
-module _ (v k : ℕ) where
-  form-same : (kind : Kind) (r : Row) → wordsFit v k kind r ≡ formFits v k (formOf kind) (r .d) (r .a) (r .b)
-  unfolding wordsFit
-  form-same kind r = rw (slot-back (kind .d), slot-back (kind .a), slot-back (kind .b))
+-- a kind of a table, and its form in the table of forms
+record Entry (table : List Kind) (i : ℕ) : Type 0 where
+  kind : Kind
+  is : getElem? table i ≡ some kind
+  form : getD (map formOf table) i noForm ≡ formOf kind
+
+entry : (table : List Kind) (i : ℕ) → i < length table → Entry table i
+entry [] i l = absurd (omega arith)
+entry (kind ∷ table) zero l = record { kind = kind; is = refl; form = refl }
+entry (kind ∷ table) (suc i) l = let e = entry table i (omega arith) in record { kind = e .kind; is = e .is; form = e .form }
+
+no-entry : (table : List Kind) (i : ℕ) → length table ≤ i → getElem? table i ≡ none
+no-entry [] i l = refl
+no-entry (kind ∷ table) zero l = absurd (omega arith)
+no-entry (kind ∷ table) (suc i) l = no-entry table i (omega arith)
+
+module _ (v k : ℕ) (r : Row) where
+  -- whether a row fits, by its kind's place in the table
+  by-table : (n : ℕ) → 1 ≤ n → n ≤ length kinds → formFits v k (getD forms (n - 1) noForm) r ≡ fitsKind v k (kindOf n) r
+  unfolding kindOf
+  by-table zero l m = absurd (omega arith)
+  by-table (suc i) l m = let e = entry kinds i (omega arith) in rw (sub-one, e .form, e .is) (form-same v k (e .kind) r)
+
+  above-table : (n : ℕ) → length kinds < n → fitsKind v k (kindOf n) r ≡ false
+  unfolding kindOf
+  above-table zero l = absurd (omega arith)
+  above-table (suc i) l = rw (no-entry kinds i (omega arith))
+
+  module _ (kind : ℕ) (is : kind ≡ r .kind) where
+    pub below-all-kinds : kind < 1 → false ≡ rowFits v k r
+    unfolding rowFits kindOf
+    below-all-kinds l = let none : r .kind ≡ 0 = omega arith in rw none
+
+    pub above-all-kinds : length kinds < kind → false ≡ rowFits v k r
+    unfolding rowFits
+    above-all-kinds l = sym (above-table (r .kind) (omega arith))
+
+    pub of-a-kind : (form : Form) (fit : Bool) → 1 ≤ kind → kind ≤ length kinds → form ≡ getD forms (kind - 1) noForm → fit ≡ formFits v k form r
+        → fit ≡ rowFits v k r
+    unfolding rowFits
+    of-a-kind form fit l m isForm isFit = rw (isFit, isForm, is) (by-table (r .kind) (omega arith) (omega arith))
+
+-- ---- as the blocks see it
+
+module _ (v k place d a b : ℕ) where
+  abbrev rowOfKind : ℕ → Row
+  rowOfKind n = record { kind = n; d = d; a = a; b = b }
+
+  abbrev Seen : ℕ → Option Kind → Type 0
+  Seen n o = partOf (lineBy v k o (rowOfKind n) place) ≡ partIf (fitsKind v k o (rowOfKind n)) (partFor n a)
 
   -- a row of a kind, once its words are judged
-  part-judged : (place : ℕ) (kind : Kind) (r : Row) (p : Part) (fit : Bool) → wordsFit v k kind r ≡ fit
-      → (wordsFit v k kind r ≡ true → partOf (given (kind .means (r .d) (r .a) (r .b))) ≡ some p)
-      → partOf (lineBy v k (some kind) r place) ≡ partIf fit p
+  seen : (n : ℕ) {kind : Kind} → kindOf n ≡ some kind
+      → (wordsFit v k kind (rowOfKind n) ≡ true → partOf (given (kind .means d a b)) ≡ some (partFor n a)) → Seen n (some kind)
   unfolding lineBy
-  part-judged place kind r p true e means = rw e (means e)
-  part-judged place kind r p false e means = rw e
+  seen n {kind} is means = by (wordsFit v k kind (rowOfKind n)) refl
+    where
+      by : (fit : Bool) → wordsFit v k kind (rowOfKind n) ≡ fit → Seen n (some kind)
+      by true e = rw e (means e)
+      by false e = rw e
 
-  module _ (place d a b : ℕ) where
-    abbrev rowOfKind : ℕ → Row
-    rowOfKind n = record { kind = n; d = d; a = a; b = b }
+  not-seen : (n : ℕ) → Seen n none
+  unfolding lineBy
+  not-seen n = refl
 
-    known : (kind : Kind) (n : ℕ) → kindOf n ≡ some kind → (wordsFit v k kind (rowOfKind n) ≡ true → partOf (given (kind .means d a b)) ≡ some (partFor n a))
-        → partOf (lineOf v k (rowOfKind n) place) ≡ partIf (formFits v k (formOf kind) d a b) (partFor n a)
-    unfolding lineOf
-    known kind n e means = rw e (part-judged place kind (rowOfKind n) (partFor n a) _ (form-same kind (rowOfKind n)) means)
+  -- a repeat's count is not 0, so that it comes back from its line
+  seen-by-kind : (n : ℕ) → Seen n (kindOf n)
+  unfolding kindOf partFor
+  seen-by-kind =
+      each-kind Seen not-seen
+      (seen 1 refl (λ fit. refl)
+      then seen 2 refl (λ fit. refl)
+      then seen 3 refl (λ fit. refl)
+      then seen 4 refl (λ fit. refl)
+      then seen 5 refl (λ fit. refl)
+      then seen 6 refl (λ fit. refl)
+      then seen 7 refl (λ fit. refl)
+      then seen 8 refl (λ fit. refl)
+      then seen 9 refl (λ fit. refl)
+      then seen 10 refl (λ fit. ap (λ m. some (part.Repeat m)) (turns-above-0 v k a (each-fits v k _ _ fit .1)))
+      then seen 11 refl (λ fit. refl)
+      then end)
 
-    pub part-known : (n : ℕ) → 1 ≤ n → n ≤ 11
-        → partOf (lineOf v k (rowOfKind n) place) ≡ partIf (formFits v k (getD forms (n - 1) noForm) d a b) (partFor n a)
-    unfolding kindOf partFor
-    part-known zero l m = absurd (omega arith)
-    part-known (suc zero) l m = known _ 1 refl (λ fit. refl)
-    part-known (suc (suc zero)) l m = known _ 2 refl (λ fit. refl)
-    part-known (suc (suc (suc zero))) l m = known _ 3 refl (λ fit. refl)
-    part-known (suc (suc (suc (suc zero)))) l m = known _ 4 refl (λ fit. refl)
-    part-known (suc (suc (suc (suc (suc zero))))) l m = known _ 5 refl (λ fit. refl)
-    part-known (suc (suc (suc (suc (suc (suc zero)))))) l m = known _ 6 refl (λ fit. refl)
-    part-known (suc (suc (suc (suc (suc (suc (suc zero))))))) l m = known _ 7 refl (λ fit. refl)
-    part-known (suc (suc (suc (suc (suc (suc (suc (suc zero)))))))) l m = known _ 8 refl (λ fit. refl)
-    part-known (suc (suc (suc (suc (suc (suc (suc (suc (suc zero))))))))) l m = known _ 9 refl (λ fit. refl)
-    part-known (suc (suc (suc (suc (suc (suc (suc (suc (suc (suc zero)))))))))) l m =
-        known _ 10 refl (λ fit. ap (λ m. some (part.Repeat m)) (turns-above-0 v k a (each-fits v k _ _ fit .1)))
-    part-known (suc (suc (suc (suc (suc (suc (suc (suc (suc (suc (suc zero))))))))))) l m = known _ 11 refl (λ fit. refl)
-    part-known (suc (suc (suc (suc (suc (suc (suc (suc (suc (suc (suc (suc n)))))))))))) l m = absurd (omega arith)
-
-    pub part-below : (n : ℕ) → n < 1 → partOf (lineOf v k (rowOfKind n) place) ≡ none
-    unfolding lineOf lineBy kindOf
-    part-below zero l = refl
-    part-below (suc n) l = absurd (omega arith)
-
-    pub part-above : (n : ℕ) → 11 < n → partOf (lineOf v k (rowOfKind n) place) ≡ none
-    unfolding lineOf lineBy
-    part-above n l = rw (no-kind n l)
-
--- ---- the row at a place
-
-module _ (v k : ℕ) (words : List ℕ) (place kind : ℕ) (is : kind ≡ getD words place 0) where
-  abbrev partHere : Option Part
-  partHere = partOf (lineOf v k (rowAt words place) place)
-
-  pub part-at-below : kind < 1 → partHere ≡ none
-  unfolding rowAt
-  part-at-below l = rw (← is) (part-below v k place _ _ _ kind l)
-
-  pub part-at-above : 11 < kind → partHere ≡ none
-  unfolding rowAt
-  part-at-above l = rw (← is) (part-above v k place _ _ _ kind l)
-
-  pub part-at-known : (d a b : ℕ) (form : Form) (fit : Bool) → 1 ≤ kind → kind ≤ 11
-      → d ≡ getD words (place + 1) 0 → a ≡ getD words (place + 2) 0 → b ≡ getD words (place + 3) 0
-      → form ≡ getD forms (kind - 1) noForm → fit ≡ formFits v k form d a b → partHere ≡ partIf fit (partFor (rowAt words place .kind) (rowAt words place .a))
-  unfolding rowAt
-  part-at-known d a b form fit l m isD isA isB isForm isFit =
-      rw (← is, ← isD, ← isA, ← isB, isFit, isForm) (part-known v k place d a b kind l m)
+pub part-seen : (v k : ℕ) (r : Row) (place : ℕ) → partOf (lineOf v k r place) ≡ partIf (rowFits v k r) (partFor (r .kind) (r .a))
+unfolding lineOf rowFits
+part-seen v k r place = seen-by-kind v k place (r .d) (r .a) (r .b) (r .kind)

@@ -3,18 +3,20 @@ use Prim.Native.Nat.{ℕ, zero, suc, _+_, _*_, _-_, _≤_, _<_}
 use mathlib.Core.Path.{_≡_, refl, sym, _∙_}
 use mathlib.Core.Bool.{Bool, true, false}
 use mathlib.Core.List.{List, [], _∷_}
-use lib.ListN.{length, getD}
+use lib.ListN.{length, getD, set, length-set}
 use native.Mathlib.Omega.{arith}
-use native.Mathlib.Numerals.{sub-one}
+use native.Mathlib.Numerals.{add-one, sub-one}
 use Rattle.sheet.specs.Bounds.{limit}
 use Rattle.sheet.specs.Refusals.{Refusal, Answer, refused, given, _>>=_, badBlock}
 use Rattle.sheet.specs.Rows.{SheetLine, Row}
 use Rattle.sheet.specs.LongestRun.{longestRun}
 use Rattle.sheet.specs.Reading.{Item, Block, Progress, closed, rowAt, rowsAt, lineOf, taken, bodyOf}
-use Rattle.sheet.specs.inner.Steps.{partOf, partIf, saturated, stepOf, stepOr, judgedBy, bodyRun}
+use Rattle.sheet.specs.inner.Steps.{rowFits, partOf, partFor, partIf, saturated, stepOf, stepOr, judgedBy, rowStep, bodyRun}
 use Rattle.sheet.specs.declared.Part.{Part}
 use Rattle.sheet.specs.declared.Level.{Level}
 use Rattle.sheet.specs.declared.Step.{Step}
+use Rattle.sheet.specs.declared.Step.the-variants as step
+use Rattle.sheet.proofs.PartsRead.{part-seen}
 use Rattle.sheet.proofs.Levels.{levelOf, bottom, Stand, Next, Follows, itemsRun, closed-done, row-follows}
 
 bind-assoc : {A B C : Type 0} (m : Answer A) (f : A → Answer B) (g : B → Answer C) → ((m >>= f) >>= g) ≡ (m >>= λ a. (f a >>= g))
@@ -25,6 +27,12 @@ judged-step : (fit : Bool) (part : Part) (depth : ℕ) (inner outer : Level)
     → judgedBy fit (stepOf part depth inner outer) ≡ stepOr (partIf fit part) depth inner outer
 judged-step true part depth inner outer = refl
 judged-step false part depth inner outer = refl
+
+-- a row's step is that of its line
+row-step : (v k : ℕ) (r : Row) (place depth : ℕ) (inner outer : Level)
+    → rowStep v k r depth inner outer ≡ stepOr (partOf (lineOf v k r place)) depth inner outer
+unfolding rowStep
+row-step v k r place depth inner outer = rw (part-seen v k r place) (judged-step (rowFits v k r) (partFor (r .kind) (r .a)) depth inner outer)
 
 module _ (v k : ℕ) where
   -- the answer of one row
@@ -72,55 +80,61 @@ no-rows words place (suc n) h = absurd (omega arith)
 
 -- ---- where the reading stands
 
-module _ (words : List ℕ) (first count v k : ℕ) where
-  abbrev whole : Answer ℕ
-  whole = bodyRun v k (rowsAt words first count) first [] []
+abbrev wholeRun : (words : List ℕ) (first count v k : ℕ) → Answer ℕ
+wholeRun words first count v k = bodyRun v k (rowsAt words first count) first [] []
 
-  -- the blocks and items that the levels stand for, and that the rows that are left come to what all rows do
-  pub record Going (levels : List Level) (depth : ℕ) (inner : Level) (place left : ℕ) : Type 0 where
-    pub blocks : List Block
-    pub items : List Item
-    pub deep : length blocks ≡ depth
-    pub within : depth ≤ limit .depth
-    pub room : length levels ≡ suc (limit .depth)
-    pub here : inner ≡ levelOf blocks items
-    pub stands : Stand levels blocks
-    pub there : place + left * 4 ≤ length words
-    pub same : bodyRun v k (rowsAt words place left) place blocks items ≡ whole
+-- the blocks and items that the levels stand for, and that the rows that are left come to what all rows do
+pub record Going (words : List ℕ) (first count v k : ℕ) (levels : List Level) (depth : ℕ) (inner : Level) (place left : ℕ) : Type 0 where
+  pub blocks : List Block
+  pub items : List Item
+  pub deep : length blocks ≡ depth
+  pub within : depth ≤ limit .depth
+  pub room : length levels ≡ suc (limit .depth)
+  pub here : inner ≡ levelOf blocks items
+  pub stands : Stand levels blocks
+  pub there : place + left * limit .rowWords ≤ length words
+  pub same : bodyRun v k (rowsAt words place left) place blocks items ≡ wholeRun words first count v k
 
-  pub going-starts : (levels : List Level) → length levels ≡ suc (limit .depth) → first + count * 4 ≤ length words → Going levels 0 bottom first count
-  unfolding saturated
-  going-starts levels room there =
-      record {
-        blocks = [];
-        items = [];
-        deep = refl;
-        within = omega arith;
-        room = room;
-        here = refl;
-        stands = tt;
-        there = there;
-        same = refl;
-      }
+pub going-starts : (words : List ℕ) (first count v k : ℕ) (levels : List Level) → length levels ≡ suc (limit .depth)
+    → first + count * limit .rowWords ≤ length words → Going words first count v k levels 0 bottom first count
+unfolding saturated
+going-starts words first count v k levels room there =
+    record {
+      blocks = [];
+      items = [];
+      deep = refl;
+      within = omega arith;
+      room = room;
+      here = refl;
+      stands = tt;
+      there = there;
+      same = refl;
+    }
 
-  module _ (levels : List Level) (depth : ℕ) (inner : Level) (place left : ℕ) (going : Going levels depth inner place left) (some : 0 < left) where
-    abbrev rowHere : Answer Progress
-    rowHere = rowTaken v k (rowAt words place) place (going .blocks) (going .items)
+module _ {words : List ℕ} {first count v k : ℕ} {levels : List Level} {depth : ℕ} {inner : Level} {place left : ℕ}
+    (going : Going words first count v k levels depth inner place left) where
+  -- the answer of the row that is next
+  abbrev pub rowHere : Answer Progress
+  rowHere = rowTaken v k (rowAt words place) place (going .blocks) (going .items)
 
-    pub step-follows : (fit : Bool) (part : Part) (outer : Level) (s : Step) → partOf (lineOf v k (rowAt words place) place) ≡ partIf fit part
-        → outer ≡ getD levels depth bottom → s ≡ judgedBy fit (stepOf part depth inner outer) → Follows place depth levels inner s rowHere
-    step-follows fit part outer s isPart isOuter is =
-        rw (is, judged-step fit part depth inner outer, ← isPart, isOuter, going .here, ← going .deep)
-        (row-follows v k place levels (going .blocks) (going .items) (going .stands) (rowAt words place))
+  pub step-follows : (row : Row) (s : Step) → row ≡ rowAt words place → s ≡ rowStep v k row depth inner (getD levels depth bottom)
+      → Follows place depth levels inner s rowHere
+  step-follows row s isRow is =
+      rw (is, isRow, row-step v k (rowAt words place) place, going .here, ← going .deep)
+      (row-follows v k place levels (going .blocks) (going .items) (going .stands) (rowAt words place))
 
-    from-here : whole ≡ (rowHere >>= restRun v k (rowsAt words (place + limit .rowWords) (left - 1)) place)
+  module _ (some : 0 < left) where
+    from-here : wholeRun words first count v k ≡ (rowHere >>= restRun v k (rowsAt words (place + limit .rowWords) (left - 1)) place)
     from-here = sym (going .same) ∙ first-row v k words place left (going .blocks) (going .items) some
 
-    pub row-ends : (why : Refusal) → rowHere ≡ refused why → refused why ≡ whole
+    pub row-ends : (why : Refusal) → rowHere ≡ refused why → refused why ≡ wholeRun words first count v k
     row-ends why e = sym (from-here ∙ rw e)
 
-    pub going-on : (levels′ : List Level) (depth′ : ℕ) (l : Level) → depth′ ≤ limit .depth → length levels′ ≡ suc (limit .depth)
-        → Next rowHere depth′ l (Stand levels′) → Going levels′ depth′ l (place + 4) (left - 1)
+    abbrev GoingOn : List Level → ℕ → Level → Type 0
+    GoingOn levels′ depth′ l = Going words first count v k levels′ depth′ l (place + limit .rowWords) (left - 1)
+
+    going-on : (levels′ : List Level) (depth′ : ℕ) (l : Level) → depth′ ≤ limit .depth → length levels′ ≡ suc (limit .depth)
+        → Next rowHere depth′ l (Stand levels′) → GoingOn levels′ depth′ l
     going-on levels′ depth′ l within room after =
         record {
           blocks = after .next .blocks;
@@ -134,14 +148,24 @@ module _ (words : List ℕ) (first count v k : ℕ) where
           same = sym (from-here ∙ rw (after .is));
         }
 
+    pub stays : (l : Level) → Follows place depth levels inner (step.Stay l) rowHere → GoingOn levels depth l
+    stays l after = going-on levels depth l (going .within) (going .room) after
+
+    pub enters : (l : Level) → Follows place depth levels inner (step.Enter l) rowHere → GoingOn (set levels (depth + 1) inner) (depth + 1) l
+    enters l (below, after) =
+        going-on _ (depth + 1) l (omega arith) (simp length-set (going .room)) (after (depth + 1) (add-one depth) (omega (arith, going .room)))
+
+    pub leaves : (l : Level) → Follows place depth levels inner (step.Leave l) rowHere → GoingOn levels (depth - 1) l
+    leaves l (above, after) = going-on levels (depth - 1) l (omega (arith, going .within)) (going .room) after
+
   -- after the last row
-  module _ (levels : List Level) (depth : ℕ) (inner : Level) (place left : ℕ) (going : Going levels depth inner place left) (none : left ≤ 0) where
-    pub all-closed : depth ≡ 0 → given (inner .longest) ≡ whole
+  module _ (none : left ≤ 0) where
+    pub all-closed : depth ≡ 0 → given (inner .longest) ≡ wholeRun words first count v k
     all-closed e =
         rw (going .here, ← going .same, no-rows words place left none)
         (sym (closed-run-given v k place (going .blocks) (going .items) (going .deep ∙ e)))
 
-    pub never-closed : ¬ (depth ≡ 0) → refused (badBlock place) ≡ whole
+    pub never-closed : ¬ (depth ≡ 0) → refused (badBlock place) ≡ wholeRun words first count v k
     never-closed e =
         rw (← going .same, no-rows words place left none)
         (sym (open-refused v k place (going .blocks) (going .items) (λ closed. e (sym (going .deep) ∙ closed))))

@@ -1,11 +1,12 @@
 // The rows into blocks: what each row does to the blocks that are open, known by their W alone, and W of all rows.
 ghost use mathlib.Core.Path.{_≡_};
-ghost use Prim.Native.Nat.{_+_, _*_, _≤_, max};
+ghost use Prim.Native.Nat.{_+_, _*_, _≤_, _^_, max};
 ghost use mathlib.Core.List.{[]};
 ghost use lib.ListN.{length};
 ghost use Rattle.sheet.specs.Bounds.{limit};
-ghost use Rattle.sheet.specs.Reading.{rowAt, rowsAt};
-ghost use Rattle.sheet.specs.inner.Steps.{partFor, saturated, enterOf, splitOf, ifEndOf, repeatEndOf, stepOf, breaksBlock, judgedBy, bodySaid, bodyRun};
+ghost use Rattle.sheet.specs.Reading.{rowsAt};
+ghost use Rattle.sheet.specs.Answers.{rowSaid};
+ghost use Rattle.sheet.specs.inner.Steps.{partFor, saturated, counted, enterOf, splitOf, ifEndOf, repeatEndOf, stepOf, breaksBlock, judgedBy, rowStep, bodySaid, bodyRun};
 use super::Body;
 use super::Level;
 use super::MAX_DEPTH;
@@ -14,8 +15,10 @@ use super::No;
 use super::Open;
 use super::Part;
 use super::ROW_WORDS;
+use super::RowWords;
 use super::Step;
 use super::kinds;
+use super::row_at;
 use super::rows;
 use super::wide;
 
@@ -36,13 +39,6 @@ fn part_for(kind: u16, a: u16) -> Part
         kinds::END_REPEAT => Part::EndRepeat,
         _ => Part::Assignment,
     }
-}
-
-fn part_at(words: &[u16], place: usize) -> Part
-    requires { ⌜ place + limit .rowWords ≤ length (now words) ⌝ }
-    ensures { λ r. ⌜ r ≡ partFor (rowAt (now (words .entry)) place .kind) (rowAt (now (words .entry)) place .a) ⌝ }
-{
-    part_for(words[place], words[place + 2])
 }
 
 // W, or one above its bound: eight nested repeats of 1000 go beyond any integer.
@@ -75,53 +71,45 @@ fn enter(depth: usize, block: Open) -> Step
 fn split(block: Open, longest: u16) -> Step
     ensures { λ r. ⌜ r ≡ splitOf block longest ⌝ }
 {
-    match block {
-        Open::Outermost => Step::BadBlock,
-        Open::First => Step::Stay(Level {
-            block: Open::Second(longest),
-            longest: 0,
-        }),
-        Open::Second(_) => Step::BadBlock,
-        Open::Turns(_) => Step::BadBlock,
-    }
+    let Open::First = block else {
+        return Step::BadBlock;
+    };
+    Step::Stay(Level {
+        block: Open::Second(longest),
+        longest: 0,
+    })
+}
+
+// A level with more read in it.
+fn counted(level: Level, more: usize) -> Level
+    requires { ⌜ more ≤ 2 ^ 33 ⌝ }
+    ensures { λ r. ⌜ r ≡ counted level more ⌝ }
+{
+    let block = level.block;
+    let longest = capped(wide(level.longest) + more);
+    Level { block, longest }
 }
 
 // "end if": only in a second branch; the block counts 1 + the larger branch.
 fn end_if(block: Open, longest: u16, outer: Level) -> Step
     ensures { λ r. ⌜ r ≡ ifEndOf block longest outer ⌝ }
 {
-    match block {
-        Open::Outermost => Step::BadBlock,
-        Open::First => Step::BadBlock,
-        Open::Second(first) => {
-            let around = outer.block;
-            let sum = wide(outer.longest) + (1 + wide(larger(first, longest)));
-            Step::Leave(Level {
-                block: around,
-                longest: capped(sum),
-            })
-        }
-        Open::Turns(_) => Step::BadBlock,
-    }
+    let Open::Second(first) = block else {
+        return Step::BadBlock;
+    };
+    let run = 1 + wide(larger(first, longest));
+    Step::Leave(counted(outer, run))
 }
 
 // "end repeat": only in a repeat; the block counts 1 + turns × (1 + its body).
 fn end_repeat(block: Open, longest: u16, outer: Level) -> Step
     ensures { λ r. ⌜ r ≡ repeatEndOf block longest outer ⌝ }
 {
-    match block {
-        Open::Outermost => Step::BadBlock,
-        Open::First => Step::BadBlock,
-        Open::Second(_) => Step::BadBlock,
-        Open::Turns(turns) => {
-            let around = outer.block;
-            let sum = wide(outer.longest) + (1 + wide(turns) * (1 + wide(longest)));
-            Step::Leave(Level {
-                block: around,
-                longest: capped(sum),
-            })
-        }
-    }
+    let Open::Turns(turns) = block else {
+        return Step::BadBlock;
+    };
+    let run = 1 + wide(turns) * (1 + wide(longest));
+    Step::Leave(counted(outer, run))
 }
 
 // What a row does to the block that is being read, `depth` levels deep, and to the one outside it.
@@ -131,10 +119,7 @@ fn follow(part: Part, depth: usize, inner: Level, outer: Level) -> Step
     let block = inner.block;
     let longest = inner.longest;
     match part {
-        Part::Assignment => Step::Stay(Level {
-            block,
-            longest: capped(wide(longest) + 1),
-        }),
+        Part::Assignment => Step::Stay(counted(inner, 1)),
         Part::If => enter(depth, Open::First),
         Part::Else => split(block, longest),
         Part::EndIf => end_if(block, longest, outer),
@@ -169,6 +154,21 @@ fn judged(fit: bool, step: Step) -> Step
     step
 }
 
+fn row_step(
+    row: RowWords,
+    variables: usize,
+    constants: usize,
+    depth: usize,
+    inner: Level,
+    outer: Level,
+) -> Step
+    ensures { λ r. ⌜ r ≡ rowStep variables constants (rowSaid row) depth inner outer ⌝ }
+{
+    let fit = rows::row_fits(row, variables, constants);
+    let part = part_for(row.kind, row.a);
+    judged(fit, follow(part, depth, inner, outer))
+}
+
 // The rows, each judged as it is followed: the W of what they are.
 pub fn rows_read(
     words: &[u16],
@@ -187,10 +187,9 @@ pub fn rows_read(
     let mut place = first;
     let mut left = count;
     while 0 < left {
-        let fit = rows::row_fits(words, place, variables, constants);
-        let part = part_at(words, place);
+        let row = row_at(words, place);
         let outer = levels[depth];
-        let step = judged(fit, follow(part, depth, inner, outer));
+        let step = row_step(row, variables, constants, depth, inner, outer);
         let next = place + ROW_WORDS;
         let fewer = left - 1;
         match step {

@@ -1,8 +1,8 @@
 // The reader: any words in; out comes a checked sheet's shape, or the first refusal with its place.
 // In reading order: sections, rows, blocks.
 ghost use mathlib.Core.Path.{_≡_};
-ghost use Prim.Native.Nat.{_+_, _*_, _<_};
-ghost use lib.ListN.{getD};
+ghost use Prim.Native.Nat.{_+_, _*_, _≤_, _<_};
+ghost use lib.ListN.{length, getD};
 ghost use Rattle.sheet.specs.Bounds.{limit};
 ghost use Rattle.sheet.specs.Refusals.{numberOf, placeOf};
 ghost use Rattle.sheet.specs.Rows.{isIndependent, isDependent};
@@ -90,7 +90,15 @@ pub struct RowWords {
     pub b: u16,
 }
 
-// What a judged count, the roles and the rows come to.
+// What stands where there are no words.
+const NO_ROW: RowWords = RowWords {
+    kind: 0,
+    d: 0,
+    a: 0,
+    b: 0,
+};
+
+// What a judged count, the roles, all counts and the rows come to.
 enum Count {
     Refused(No),
     Is(usize),
@@ -101,12 +109,23 @@ enum Roles {
     Fit,
 }
 
+struct Counts {
+    pub variables: usize,
+    pub constants: usize,
+    pub rows: usize,
+}
+
+enum Counting {
+    Refused(No),
+    Done(Counts),
+}
+
 enum Body {
     Refused(No),
     Longest(u16),
 }
 
-// What a word of a row may be, and what the three words after the kind may be.
+// What a word of a row may be, and what the three words after the kind may be: d, a and b.
 enum Slot {
     Variable,
     Constant,
@@ -114,11 +133,7 @@ enum Slot {
     Unused,
 }
 
-struct Form {
-    pub d: Slot,
-    pub a: Slot,
-    pub b: Slot,
-}
+struct Form(pub Slot, pub Slot, pub Slot);
 
 // A row as the blocks see it.
 enum Part {
@@ -177,35 +192,24 @@ fn finish(shape: Shape, after: usize, length: usize) -> Reading
 pub fn read_sheet(words: &[u16]) -> Reading
     ensures { λ r. ⌜ said r ≡ shapeRead (now (words .entry)) ⌝ }
 {
-    let variables = match sections::count_at(words, 0, 1, MAX_VARIABLES, 1) {
-        Count::Refused(why) => return Reading::Refused(why),
-        Count::Is(count) => count,
+    let counts = match sections::counts_read(words) {
+        Counting::Refused(why) => return Reading::Refused(why),
+        Counting::Done(counts) => counts,
     };
-    if let Roles::Refused(why) = sections::roles_fit(words, variables) {
-        return Reading::Refused(why);
-    }
-    let constant_count = 1 + variables;
-    let constants = match sections::count_at(words, constant_count, 0, MAX_CONSTANTS, 1) {
-        Count::Refused(why) => return Reading::Refused(why),
-        Count::Is(count) => count,
-    };
-    let row_count = constant_count + 1 + constants;
-    let rows = match sections::count_at(words, row_count, 0, MAX_ROWS, ROW_WORDS) {
-        Count::Refused(why) => return Reading::Refused(why),
-        Count::Is(count) => count,
-    };
-    let first_row = row_count + 1;
+    let variables = counts.variables;
+    let constants = counts.constants;
+    let rows = counts.rows;
+    let first_row = 3 + variables + constants;
     let longest = match blocks::rows_read(words, first_row, rows, variables, constants) {
         Body::Refused(why) => return Reading::Refused(why),
         Body::Longest(longest) => wide(longest),
     };
     let after = first_row + rows * ROW_WORDS;
-    let first_constant = constant_count + 1;
     let shape = Shape {
         variables,
         constants,
         rows,
-        first_constant,
+        first_constant: 2 + variables,
         first_row,
         longest,
     };
@@ -252,31 +256,28 @@ pub fn word_at(words: &[u16], place: usize) -> u16
     0
 }
 
-// A row, by its number among the rows that start at `first`. Words that are missing count as 0.
-pub fn row_words(words: &[u16], first: usize, row: RowNumber) -> RowWords
-    ensures { λ r. ⌜ rowSaid r ≡ rowAt (now (words .entry)) (first + row .0 * limit .rowWords) ⌝ }
+// The row at a place. Words that are missing count as 0.
+fn row_at(words: &[u16], place: usize) -> RowWords
+    requires { ⌜ place ≤ length (now words) * limit .rowWords ⌝ }
+    ensures { λ r. ⌜ rowSaid r ≡ rowAt (now (words .entry)) place ⌝ }
 {
-    let number = row.0;
-    if words.len() <= first {
-        return RowWords {
-            kind: 0,
-            d: 0,
-            a: 0,
-            b: 0,
-        };
-    }
-    if words.len() - first <= number {
-        return RowWords {
-            kind: 0,
-            d: 0,
-            a: 0,
-            b: 0,
-        };
-    }
-    let place = first + number * ROW_WORDS;
     let kind = word_at(words, place);
     let d = word_at(words, place + 1);
     let a = word_at(words, place + 2);
     let b = word_at(words, place + 3);
     RowWords { kind, d, a, b }
+}
+
+// A row, by its number among the rows that start at `first`.
+pub fn row_words(words: &[u16], first: usize, row: RowNumber) -> RowWords
+    ensures { λ r. ⌜ rowSaid r ≡ rowAt (now (words .entry)) (first + row .0 * limit .rowWords) ⌝ }
+{
+    let number = row.0;
+    if words.len() <= first {
+        return NO_ROW;
+    }
+    if words.len() - first <= number {
+        return NO_ROW;
+    }
+    row_at(words, first + number * ROW_WORDS)
 }

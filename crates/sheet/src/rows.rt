@@ -1,14 +1,14 @@
 // A row by itself: whether it is of a kind and each of its words is what the kind asks for.
 ghost use mathlib.Core.Path.{_≡_};
-ghost use Prim.Native.Nat.{_+_, _-_, _≤_};
+ghost use Prim.Native.Nat.{_-_, _≤_};
 ghost use lib.ListN.{length, getD};
 ghost use lib.Dec.{ltb};
-ghost use Rattle.sheet.specs.Bounds.{limit};
 ghost use Rattle.sheet.specs.Rows.{kinds};
-ghost use Rattle.sheet.specs.Reading.{rowAt, lineOf};
-ghost use Rattle.sheet.specs.inner.Steps.{fitsSlot, forms, noForm, formFits, partFor, partOf, partIf};
+ghost use Rattle.sheet.specs.Answers.{rowSaid};
+ghost use Rattle.sheet.specs.inner.Steps.{fitsSlot, forms, noForm, formFits, rowFits};
 use super::Form;
 use super::MAX_TURNS;
+use super::RowWords;
 use super::Slot;
 use super::Variable;
 use super::wide;
@@ -18,61 +18,17 @@ const KINDS: usize = 11;
 
 // One fixed table: for each kind, from 1 on, which of its three words name a variable, and what the others are.
 const FORMS: [Form; KINDS] = [
-    Form {
-        d: Slot::Variable,
-        a: Slot::Variable,
-        b: Slot::Unused,
-    },
-    Form {
-        d: Slot::Variable,
-        a: Slot::Constant,
-        b: Slot::Unused,
-    },
-    Form {
-        d: Slot::Variable,
-        a: Slot::Variable,
-        b: Slot::Variable,
-    },
-    Form {
-        d: Slot::Variable,
-        a: Slot::Variable,
-        b: Slot::Variable,
-    },
-    Form {
-        d: Slot::Variable,
-        a: Slot::Variable,
-        b: Slot::Variable,
-    },
-    Form {
-        d: Slot::Variable,
-        a: Slot::Variable,
-        b: Slot::Unused,
-    },
-    Form {
-        d: Slot::Unused,
-        a: Slot::Variable,
-        b: Slot::Variable,
-    },
-    Form {
-        d: Slot::Unused,
-        a: Slot::Unused,
-        b: Slot::Unused,
-    },
-    Form {
-        d: Slot::Unused,
-        a: Slot::Unused,
-        b: Slot::Unused,
-    },
-    Form {
-        d: Slot::Unused,
-        a: Slot::Turns,
-        b: Slot::Unused,
-    },
-    Form {
-        d: Slot::Unused,
-        a: Slot::Unused,
-        b: Slot::Unused,
-    },
+    Form(Slot::Variable, Slot::Variable, Slot::Unused),
+    Form(Slot::Variable, Slot::Constant, Slot::Unused),
+    Form(Slot::Variable, Slot::Variable, Slot::Variable),
+    Form(Slot::Variable, Slot::Variable, Slot::Variable),
+    Form(Slot::Variable, Slot::Variable, Slot::Variable),
+    Form(Slot::Variable, Slot::Variable, Slot::Unused),
+    Form(Slot::Unused, Slot::Variable, Slot::Variable),
+    Form(Slot::Unused, Slot::Unused, Slot::Unused),
+    Form(Slot::Unused, Slot::Unused, Slot::Unused),
+    Form(Slot::Unused, Slot::Turns, Slot::Unused),
+    Form(Slot::Unused, Slot::Unused, Slot::Unused),
 ];
 
 // A variable that is there.
@@ -83,14 +39,15 @@ fn present(variable: Variable, variables: usize) -> bool
 }
 
 // A word that is what its slot asks for.
-fn fits(slot: Slot, word: usize, variables: usize, constants: usize) -> bool
+fn fits(slot: Slot, word: u16, variables: usize, constants: usize) -> bool
     ensures { λ r. ⌜ r ≡ fitsSlot variables constants slot word ⌝ }
 {
+    let number = wide(word);
     match slot {
-        Slot::Variable => present(Variable(word), variables),
-        Slot::Constant => word < constants,
-        Slot::Turns => (1 <= word) & (word <= MAX_TURNS),
-        Slot::Unused => word == 0,
+        Slot::Variable => present(Variable(number), variables),
+        Slot::Constant => number < constants,
+        Slot::Turns => (1 <= number) & (number <= MAX_TURNS),
+        Slot::Unused => number == 0,
     }
 }
 
@@ -101,32 +58,26 @@ fn form_of(kind: usize) -> Form
     FORMS[kind - 1]
 }
 
-fn words_fit(form: Form, d: usize, a: usize, b: usize, variables: usize, constants: usize) -> bool
-    ensures { λ r. ⌜ r ≡ formFits variables constants form d a b ⌝ }
+fn words_fit(form: Form, row: RowWords, variables: usize, constants: usize) -> bool
+    ensures { λ r. ⌜ r ≡ formFits variables constants form (rowSaid row) ⌝ }
 {
-    let first = form.d;
-    let second = form.a;
-    let third = form.b;
-    fits(first, d, variables, constants)
-        & fits(second, a, variables, constants)
-        & fits(third, b, variables, constants)
+    let of_d = form.0;
+    let of_a = form.1;
+    let of_b = form.2;
+    fits(of_d, row.d, variables, constants)
+        & fits(of_a, row.a, variables, constants)
+        & fits(of_b, row.b, variables, constants)
 }
 
-// Whether the row at a place is of a kind and each of its words fits.
-pub fn row_fits(words: &[u16], place: usize, variables: usize, constants: usize) -> bool
-    requires { ⌜ place + limit .rowWords ≤ length (now words) ⌝ }
-    ensures { λ r. ⌜ partOf (lineOf variables constants (rowAt (now (words .entry)) place) place)
-        ≡ partIf r (partFor (rowAt (now (words .entry)) place .kind) (rowAt (now (words .entry)) place .a)) ⌝ }
+pub fn row_fits(row: RowWords, variables: usize, constants: usize) -> bool
+    ensures { λ r. ⌜ r ≡ rowFits variables constants (rowSaid row) ⌝ }
 {
-    let kind = wide(words[place]);
+    let kind = wide(row.kind);
     if kind < 1 {
         return false;
     }
     if KINDS < kind {
         return false;
     }
-    let d = wide(words[place + 1]);
-    let a = wide(words[place + 2]);
-    let b = wide(words[place + 3]);
-    words_fit(form_of(kind), d, a, b, variables, constants)
+    words_fit(form_of(kind), row, variables, constants)
 }

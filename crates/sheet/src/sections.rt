@@ -1,18 +1,24 @@
-// A sheet's sections: a count with its range and its items' room, and the roles.
+// The three counts of a sheet, each judged with its section before the next.
 ghost use mathlib.Core.Path.{_≡_};
 ghost use Prim.Native.Nat.{_+_, _≤_};
 ghost use lib.ListN.{length, take, drop};
 ghost use Rattle.sheet.specs.Bounds.{limit};
 ghost use Rattle.sheet.specs.Reading.{countAt, rolesFit};
-ghost use Rattle.sheet.specs.inner.Steps.{countSaid, rolesSaid};
+ghost use Rattle.sheet.specs.inner.Steps.{countSaid, rolesSaid, CountsSaid};
 use super::Count;
+use super::Counting;
+use super::Counts;
+use super::MAX_CONSTANTS;
 use super::MAX_ROLE;
+use super::MAX_ROWS;
+use super::MAX_VARIABLES;
 use super::No;
+use super::ROW_WORDS;
 use super::Roles;
 use super::wide;
 
 // The count at a place, from low to high, of items of so many words each.
-pub fn count_at(words: &[u16], place: usize, low: usize, high: usize, width: usize) -> Count
+fn count_at(words: &[u16], place: usize, low: usize, high: usize, width: usize) -> Count
     requires { ⌜ width ≤ limit .rowWords ⌝ }
     ensures { λ r. ⌜ countSaid r ≡ countAt (now (words .entry)) place low high width ⌝ }
 {
@@ -35,7 +41,7 @@ pub fn count_at(words: &[u16], place: usize, low: usize, high: usize, width: usi
 }
 
 // The V roles, from word 1 on.
-pub fn roles_fit(words: &[u16], count: usize) -> Roles
+fn roles_fit(words: &[u16], count: usize) -> Roles
     requires { ⌜ 1 + count ≤ length (now words) ⌝ }
     ensures { λ r. ⌜ rolesSaid r ≡ rolesFit (take count (drop 1 (now (words .entry)))) 1 ⌝ }
 {
@@ -50,4 +56,30 @@ pub fn roles_fit(words: &[u16], count: usize) -> Roles
         left = left - 1;
     }
     Roles::Fit
+}
+
+pub fn counts_read(words: &[u16]) -> Counting
+    ensures { λ r. ⌜ CountsSaid (now (words .entry)) r ⌝ }
+{
+    let variables = match count_at(words, 0, 1, MAX_VARIABLES, 1) {
+        Count::Refused(why) => return Counting::Refused(why),
+        Count::Is(count) => count,
+    };
+    if let Roles::Refused(why) = roles_fit(words, variables) {
+        return Counting::Refused(why);
+    }
+    let constant_count = 1 + variables;
+    let constants = match count_at(words, constant_count, 0, MAX_CONSTANTS, 1) {
+        Count::Refused(why) => return Counting::Refused(why),
+        Count::Is(count) => count,
+    };
+    let row_count = constant_count + 1 + constants;
+    match count_at(words, row_count, 0, MAX_ROWS, ROW_WORDS) {
+        Count::Refused(why) => Counting::Refused(why),
+        Count::Is(rows) => Counting::Done(Counts {
+            variables,
+            constants,
+            rows,
+        }),
+    }
 }

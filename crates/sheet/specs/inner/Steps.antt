@@ -1,19 +1,20 @@
 -- What the reader's inner functions answer: counts and roles, a row as the blocks see it, the open blocks by their W alone, and W kept from
 -- growing beyond its bound. Nothing here needs to be believed: the contract of `read_sheet` cites none of it.
 use Prim.Native.Nat.{ℕ, suc, _+_, _*_, min, max}
+use mathlib.Core.Path.{_≡_}
 use mathlib.Core.Bool.{Bool, true, false, _&&_}
 use mathlib.Core.List.{List, map}
 use mathlib.Core.Option.{Option, none, some}
-use lib.ListN.{length}
+use lib.ListN.{length, take, drop}
 use lib.Dec.{leb, ltb, eqb}
 use Rattle.sheet.specs.Bounds.{limit}
 use Rattle.sheet.specs.Refusals.{Answer, refused, given, _>>=_}
 use Rattle.sheet.specs.Tree.{basic, ifLine, elseLine, endIf, repeat, endRepeat}
-use Rattle.sheet.specs.Rows.{SheetLine, Row, fits, Kind, kinds}
+use Rattle.sheet.specs.Rows.{SheetLine, Row, fits, Kind, kinds, kindOf, wordsFit}
 use Rattle.sheet.specs.Rows as rows
 use Rattle.sheet.specs.LongestRun.{longestRun}
-use Rattle.sheet.specs.Reading.{Block, Item, bodyOf}
-use Rattle.sheet.specs.Answers.{refusalOf}
+use Rattle.sheet.specs.Reading.{countAt, rolesFit, Block, Item, bodyOf}
+use Rattle.sheet.specs.Answers.{refusalOf, shapeRead}
 use Rattle.sheet.specs.declared.No.the-variants.{WordsLeft, TooLong}
 use Rattle.sheet.specs.declared.Shape.{Shape}
 use Rattle.sheet.specs.declared.Reading.{Reading}
@@ -22,6 +23,9 @@ use Rattle.sheet.specs.declared.Count.{Count}
 use Rattle.sheet.specs.declared.Count.the-variants as count
 use Rattle.sheet.specs.declared.Roles.{Roles}
 use Rattle.sheet.specs.declared.Roles.the-variants as roles
+use Rattle.sheet.specs.declared.Counts.{Counts}
+use Rattle.sheet.specs.declared.Counting.{Counting}
+use Rattle.sheet.specs.declared.Counting.the-variants as counting
 use Rattle.sheet.specs.declared.Slot.{Slot}
 use Rattle.sheet.specs.declared.Slot.the-variants as slot
 use Rattle.sheet.specs.declared.Form.{Form}
@@ -49,6 +53,18 @@ abbrev pub rolesSaid : Roles → Answer (Unit {0})
 rolesSaid (roles.Refused why) = refused (refusalOf why)
 rolesSaid roles.Fit = given tt
 
+-- each judgement on V, K and N was passed
+pub record CountsJudged (words : List ℕ) (counts : Counts) : Type 0 where
+  pub variables : countAt words 0 1 (limit .variables) 1 ≡ given (counts .variables)
+  pub roles : rolesFit (take (counts .variables) (drop 1 words)) 1 ≡ given tt
+  pub constants : countAt words (1 + counts .variables) 0 (limit .constants) 1 ≡ given (counts .constants)
+  pub rows : countAt words (1 + counts .variables + 1 + counts .constants) 0 (limit .rows) (limit .rowWords) ≡ given (counts .rows)
+
+-- the counts refuse the words as a whole, or are judged
+abbrev pub CountsSaid : List ℕ → Counting → Type 0
+CountsSaid words (counting.Refused why) = refused (refusalOf why) ≡ shapeRead words
+CountsSaid words (counting.Done counts) = CountsJudged words counts
+
 -- ---- the table of kinds
 
 -- a slot as the code names it
@@ -69,7 +85,7 @@ abbrev pub fitsSlot : (variables constants : ℕ) → Slot → ℕ → Bool
 fitsSlot v k slot word = fits v k (slotSaid slot) word
 
 abbrev pub formOf : Kind → Form
-formOf kind = record { d = slotOf (kind .d); a = slotOf (kind .a); b = slotOf (kind .b) }
+formOf kind = record { 0 = slotOf (kind .d); 1 = slotOf (kind .a); 2 = slotOf (kind .b) }
 
 -- the form of each kind, from kind 1 on
 abbrev pub forms : List Form
@@ -77,11 +93,20 @@ forms = map formOf kinds
 
 -- what the logic reads beyond the table; the code never looks there
 abbrev pub noForm : Form
-noForm = record { d = slot.Variable; a = slot.Variable; b = slot.Variable }
+noForm = record { 0 = slot.Variable; 1 = slot.Variable; 2 = slot.Variable }
 
 -- each of a row's three words fits its slot
-abbrev pub formFits : (variables constants : ℕ) → Form → (d a b : ℕ) → Bool
-formFits v k form d a b = fitsSlot v k (form .d) d && fitsSlot v k (form .a) a && fitsSlot v k (form .b) b
+abbrev pub formFits : (variables constants : ℕ) → Form → Row → Bool
+formFits v k form r = fitsSlot v k (form .0) (r .d) && fitsSlot v k (form .1) (r .a) && fitsSlot v k (form .2) (r .b)
+
+-- a row is of a kind, and its words fit that
+abbrev pub fitsKind : (variables constants : ℕ) → Option Kind → Row → Bool
+fitsKind v k none r = false
+fitsKind v k (some kind) r = wordsFit v k kind r
+
+unfoldable pub rowFits : (variables constants : ℕ) → Row → Bool
+unfolding kindOf
+rowFits v k r = fitsKind v k (kindOf (r .kind)) r
 
 -- ---- a row as the blocks see it
 
@@ -115,6 +140,10 @@ partIf false p = none
 unfoldable pub saturated : ℕ → ℕ
 saturated n = min n (suc (limit .longestRun))
 
+-- a level with more read in it
+abbrev pub counted : Level → ℕ → Level
+counted level more = record { block = level .block; longest = saturated (level .longest + more) }
+
 unfoldable pub enterOf : ℕ → Open → Step
 enterOf depth block = pick (ltb depth (limit .depth)) (step.Enter (record { block = block; longest = 0 })) step.BadBlock
 
@@ -128,8 +157,7 @@ unfoldable pub ifEndOf : Open → ℕ → Level → Step
 unfolding saturated
 ifEndOf block.Outermost longest outer = step.BadBlock
 ifEndOf block.First longest outer = step.BadBlock
-ifEndOf (block.Second first) longest outer =
-    step.Leave (record { block = outer .block; longest = saturated (outer .longest + (1 + max first longest)) })
+ifEndOf (block.Second first) longest outer = step.Leave (counted outer (1 + max first longest))
 ifEndOf (block.Turns m) longest outer = step.BadBlock
 
 unfoldable pub repeatEndOf : Open → ℕ → Level → Step
@@ -137,12 +165,11 @@ unfolding saturated
 repeatEndOf block.Outermost longest outer = step.BadBlock
 repeatEndOf block.First longest outer = step.BadBlock
 repeatEndOf (block.Second first) longest outer = step.BadBlock
-repeatEndOf (block.Turns m) longest outer =
-    step.Leave (record { block = outer .block; longest = saturated (outer .longest + (1 + m * (1 + longest))) })
+repeatEndOf (block.Turns m) longest outer = step.Leave (counted outer (1 + m * (1 + longest)))
 
 unfoldable pub stepOf : Part → (depth : ℕ) → (inner outer : Level) → Step
 unfolding saturated enterOf splitOf ifEndOf repeatEndOf
-stepOf part.Assignment depth inner outer = step.Stay (record { block = inner .block; longest = saturated (inner .longest + 1) })
+stepOf part.Assignment depth inner outer = step.Stay (counted inner 1)
 stepOf part.If depth inner outer = enterOf depth block.First
 stepOf part.Else depth inner outer = splitOf (inner .block) (inner .longest)
 stepOf part.EndIf depth inner outer = ifEndOf (inner .block) (inner .longest) outer
@@ -165,6 +192,10 @@ breaksBlock (step.Leave l) = false
 abbrev pub judgedBy : Bool → Step → Step
 judgedBy true s = s
 judgedBy false s = step.BadRow
+
+unfoldable pub rowStep : (variables constants : ℕ) → Row → (depth : ℕ) → (inner outer : Level) → Step
+unfolding rowFits partFor stepOf
+rowStep v k r depth inner outer = judgedBy (rowFits v k r) (stepOf (partFor (r .kind) (r .a)) depth inner outer)
 
 -- ---- all rows
 

@@ -1,20 +1,14 @@
 -- `sheet::blocks::follow` meets its contract.
-use borrow.Author.Needs.{needs}
 use Rattle.sheet.specs.inner.Steps.{stepOf}
+use borrow.Author.Needs.{needs}
 use Rattle.sheet.proofs.blocks.follow.Statement.{statement}
 use Rattle.sheet.proofs.blocks.follow.Tie as tie
 
 enum-told : tie.Need-enum-told
 enum-told c = search needs
 
-wide-requires : tie.Need-wide-requires
-wide-requires c κs = search needs
-
-add-capped : tie.Need-add-capped
-add-capped c = search needs
-
-capped-requires : tie.Need-capped-requires
-capped-requires c κs = search needs
+counted-requires : tie.Need-counted-requires
+counted-requires c κs = search needs
 
 enum-told-2 : tie.Need-enum-told-2
 enum-told-2 c = search needs
@@ -48,7 +42,7 @@ end-repeat-requires c κs = search needs
 
 returns : tie.Need-returns
 unfolding stepOf
-returns c = rw (c .before .before .enum-told .given .1, c .capped .ensures, c .before .wide .ensures .0)
+returns c = rw (c .before .enum-told .given .1, c .counted .ensures)
 
 returns-2 : tie.Need-returns-2
 unfolding stepOf
@@ -75,9 +69,7 @@ follow-spec =
     tie.close
     (tie.spec
     enum-told
-    wide-requires
-    add-capped
-    capped-requires
+    counted-requires
     enum-told-2
     enter-requires
     enum-told-3

@@ -1,38 +1,19 @@
 -- `sheet::blocks::split` meets its contract.
-use borrow.Author.Needs.{needs}
 use Rattle.sheet.specs.inner.Steps.{splitOf}
+use Rattle.sheet.proofs.BlocksApart.{not-first}
+use borrow.Author.Needs.{needs}
 use Rattle.sheet.proofs.blocks.split.Statement.{statement}
 use Rattle.sheet.proofs.blocks.split.Tie as tie
 
 enum-told : tie.Need-enum-told
 enum-told c = search needs
 
-enum-told-2 : tie.Need-enum-told-2
-enum-told-2 c = search needs
-
-enum-told-3 : tie.Need-enum-told-3
-enum-told-3 c = search needs
-
-enum-told-4 : tie.Need-enum-told-4
-enum-told-4 c = search needs
-
 returns : tie.Need-returns
-unfolding splitOf
-returns c = rw (c .enum-told .given .1)
+returns c = not-first (c .before .args .block) _ (c .match .keys2)
 
 returns-2 : tie.Need-returns-2
 unfolding splitOf
-returns-2 c = rw (c .enum-told2 .given .1)
-
-returns-3 : tie.Need-returns-3
-unfolding splitOf
-returns-3 c = rw (c .enum-told3 .given .1)
-
-returns-4 : tie.Need-returns-4
-unfolding splitOf
-returns-4 c = rw (c .enum-told4 .given .1)
+returns-2 c = rw (c .enum-told .given .1)
 
 pub split-spec : {M : Type 1} → statement M
-split-spec =
-    tie.close
-    (tie.spec enum-told enum-told-2 enum-told-3 enum-told-4 returns returns-2 returns-3 returns-4)
+split-spec = tie.close (tie.spec enum-told returns returns-2)
