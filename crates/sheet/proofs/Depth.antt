@@ -1,16 +1,17 @@
 -- "blocks nest at most 8 deep": so does an accepted sheet's tree, since no block is entered inside eight others.
 use Prim.Native.Nat.{ℕ, suc, _+_, _≤_, max}
-use mathlib.Core.Path.{_≡_, sym, subst}
+use mathlib.Core.Path.{_≡_, subst}
 use mathlib.Core.List.{List, [], _∷_}
 use lib.ListN.{length}
-use lib.Dec.{T, ltb, ltb→lt}
 use native.Mathlib.Omega.{arith}
 use Rattle.sheet.specs.Bounds.{limit}
-use Rattle.sheet.specs.Refusals.{given, badBlock}
-use Rattle.sheet.specs.Tree.{Tree, done, one, fork, again, basic, ifLine, elseLine, endIf, repeat, endRepeat}
+use Rattle.sheet.specs.Refusals.{given}
+use Rattle.sheet.specs.Tree.{Tree, done, one, fork, again}
 use Rattle.sheet.specs.Rows.{Assignment, Test, SheetLine, Row}
-use Rattle.sheet.specs.Reading.{Sheet, unless, Item, row, branches, repeated, Block, inFirst, inSecond, inRepeat, closed, Progress, lineOf, entered, splitAt, ifEndedAt, repeatEndedAt, taken, bodyOf, read}
-use Rattle.sheet.proofs.ReadingParts.{bound, passed, same-given, accepted}
+use Rattle.sheet.specs.Reading.{Item, row, branches, repeated, Block, inFirst, inSecond, inRepeat, closed, Progress}
+use Rattle.sheet.specs.Reading.{Sheet, lineOf, taken, bodyOf, read}
+use Rattle.sheet.proofs.ReadingParts.{not-given, bound, same-given, accepted}
+use Rattle.sheet.proofs.LinesTaken.{Takes, adds, opensIf, splits, endsIf, opensRepeat, endsRepeat, takes}
 
 unfoldable pub deep : {B F : Type 0} → Tree B F → ℕ
 deep done = 0
@@ -49,50 +50,15 @@ record Fits (next : Progress) : Type 0 where
 
 -- ---- one row more
 
-enters-fits : (block : Block) (place : ℕ) (blocks : List Block) (next : Progress) → BlocksFit (block ∷ blocks) → entered block place blocks ≡ given next
-    → Fits next
-unfolding entered itemsDeep
-enters-fits block place blocks next h e =
-    let c = bound (unless (ltb (length blocks) (limit .depth)) (badBlock place)) _ next e in
-    let room = ltb→lt (length blocks) (limit .depth) (subst T (sym (passed (ltb (length blocks) (limit .depth)) (badBlock place) (c .1))) tt) in
-    subst Fits (same-given (c .2)) (record { blocks = h; items = omega arith })
-
-split-fits : (place : ℕ) (blocks : List Block) (items : List Item) (next : Progress) → BlocksFit blocks → Inside blocks (itemsDeep items)
-    → splitAt place blocks items ≡ given next → Fits next
-unfolding splitAt BlocksFit itemsDeep deep
-split-fits place [] items next hb hi e = let z : _≡_ {A = ℕ} 0 1 = cc in absurd (omega arith)
-split-fits place (inFirst f outer ∷ blocks) items next hb hi e =
-    subst Fits (same-given e) (record { blocks = (hb .0, omega (arith, closed-deep items done), hb .1); items = omega arith })
-split-fits place (inSecond f a outer ∷ blocks) items next hb hi e = let z : _≡_ {A = ℕ} 0 1 = cc in absurd (omega arith)
-split-fits place (inRepeat m outer ∷ blocks) items next hb hi e = let z : _≡_ {A = ℕ} 0 1 = cc in absurd (omega arith)
-
-if-ended-fits : (place : ℕ) (blocks : List Block) (items : List Item) (next : Progress) → BlocksFit blocks → Inside blocks (itemsDeep items)
-    → ifEndedAt place blocks items ≡ given next → Fits next
-unfolding ifEndedAt BlocksFit itemsDeep deep
-if-ended-fits place [] items next hb hi e = let z : _≡_ {A = ℕ} 0 1 = cc in absurd (omega arith)
-if-ended-fits place (inFirst f outer ∷ blocks) items next hb hi e = let z : _≡_ {A = ℕ} 0 1 = cc in absurd (omega arith)
-if-ended-fits place (inSecond f a outer ∷ blocks) items next hb hi e =
-    subst Fits (same-given e) (record { blocks = hb .2; items = omega (arith, hb .0, hb .1, closed-deep items done) })
-if-ended-fits place (inRepeat m outer ∷ blocks) items next hb hi e = let z : _≡_ {A = ℕ} 0 1 = cc in absurd (omega arith)
-
-repeat-ended-fits : (place : ℕ) (blocks : List Block) (items : List Item) (next : Progress) → BlocksFit blocks → Inside blocks (itemsDeep items)
-    → repeatEndedAt place blocks items ≡ given next → Fits next
-unfolding repeatEndedAt BlocksFit itemsDeep deep
-repeat-ended-fits place [] items next hb hi e = let z : _≡_ {A = ℕ} 0 1 = cc in absurd (omega arith)
-repeat-ended-fits place (inFirst f outer ∷ blocks) items next hb hi e = let z : _≡_ {A = ℕ} 0 1 = cc in absurd (omega arith)
-repeat-ended-fits place (inSecond f a outer ∷ blocks) items next hb hi e = let z : _≡_ {A = ℕ} 0 1 = cc in absurd (omega arith)
-repeat-ended-fits place (inRepeat m outer ∷ blocks) items next hb hi e =
-    subst Fits (same-given e) (record { blocks = hb .1; items = omega (arith, hb .0, closed-deep items done) })
-
-taken-fits : (l : SheetLine) (place : ℕ) (blocks : List Block) (items : List Item) (next : Progress) → BlocksFit blocks
-    → Inside blocks (itemsDeep items) → taken l place blocks items ≡ given next → Fits next
-unfolding taken BlocksFit itemsDeep
-taken-fits (basic b) place blocks items next hb hi e = subst Fits (same-given e) (record { blocks = hb; items = hi })
-taken-fits (ifLine f) place blocks items next hb hi e = enters-fits (inFirst f items) place blocks next (hi, hb) e
-taken-fits elseLine place blocks items next hb hi e = split-fits place blocks items next hb hi e
-taken-fits endIf place blocks items next hb hi e = if-ended-fits place blocks items next hb hi e
-taken-fits (repeat m) place blocks items next hb hi e = enters-fits (inRepeat m items) place blocks next (hi, hb) e
-taken-fits endRepeat place blocks items next hb hi e = repeat-ended-fits place blocks items next hb hi e
+taken-fits : {l : SheetLine} {blocks : List Block} {items : List Item} {next : Progress} → Takes l blocks items next → BlocksFit blocks
+    → Inside blocks (itemsDeep items) → Fits next
+unfolding BlocksFit itemsDeep deep
+taken-fits adds hb hi = record { blocks = hb; items = hi }
+taken-fits (opensIf room) hb hi = record { blocks = (hi, hb); items = omega arith }
+taken-fits {items = items} splits hb hi = record { blocks = (hb .0, omega (arith, closed-deep items done), hb .1); items = omega arith }
+taken-fits {items = items} endsIf hb hi = record { blocks = hb .2; items = omega (arith, hb .0, hb .1, closed-deep items done) }
+taken-fits (opensRepeat room) hb hi = record { blocks = (hi, hb); items = omega arith }
+taken-fits {items = items} endsRepeat hb hi = record { blocks = hb .1; items = omega (arith, hb .0, closed-deep items done) }
 
 -- ---- all rows
 
@@ -101,12 +67,12 @@ read-fits : (v k : ℕ) (rs : List Row) (place : ℕ) (blocks : List Block) (ite
 unfolding bodyOf deep
 read-fits v k [] place [] items t hb hi e =
     subst (λ body. deep body ≤ limit .depth) (same-given e) (omega (arith, hi, closed-deep items done))
-read-fits v k [] place (block ∷ blocks) items t hb hi e = let z : _≡_ {A = ℕ} 0 1 = cc in absurd (omega arith)
+read-fits v k [] place (block ∷ blocks) items t hb hi e = not-given e
 read-fits v k (r ∷ rs) place blocks items t hb hi e =
     let line = bound (lineOf v k r place) _ t e in
     let took = bound (taken (line .0) place blocks items) _ t (line .2) in
     let next = took .0 in
-    let fits = taken-fits (line .0) place blocks items next hb hi (took .1) in
+    let fits = taken-fits (takes (line .0) place blocks items next (took .1)) hb hi in
     read-fits v k rs (place + limit .rowWords) (next .blocks) (next .items) t (fits .blocks) (fits .items) (took .2)
 
 pub sheet-deep : (words : List ℕ) (sheet : Sheet) → read words ≡ given sheet → deep (sheet .body) ≤ limit .depth

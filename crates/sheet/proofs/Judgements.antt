@@ -1,9 +1,9 @@
 -- One judgement after another: what a met or an unmet test comes to, and what then follows.
-use Prim.Native.Nat.{ℕ, _≤_}
+use Prim.Native.Nat.{ℕ, _≤_, _<_}
 use mathlib.Core.Path.{_≡_, refl, subst}
 use mathlib.Core.Bool.{Bool, true, false, _&&_}
 use mathlib.Core.Logic.{_↔_, _⊎_, inl, inr}
-use lib.Dec.{T, leb, eqb, leb→le, le→leb, eqb→eq, eqb-refl}
+use lib.Dec.{T, leb, ltb, eqb, leb→le, le→leb, ltb→lt, lt→ltb, eqb→eq, eqb-refl}
 use native.Mathlib.Omega.{arith}
 use Rattle.sheet.specs.Refusals.{Refusal, Answer, refused, given, _>>=_}
 use Rattle.sheet.specs.Reading.{unless}
@@ -23,6 +23,9 @@ of-T false t = absurd t
 
 pub leb-tells : (a b : ℕ) → Tells (leb a b) (a ≤ b)
 leb-tells a b = (λ e. leb→le a b (T-of e), λ h. of-T (leb a b) (le→leb a b h))
+
+pub ltb-tells : (a b : ℕ) → Tells (ltb a b) (a < b)
+ltb-tells a b = (λ e. ltb→lt a b (T-of e), λ h. of-T (ltb a b) (lt→ltb a b h))
 
 pub eqb-tells : (a b : ℕ) → Tells (eqb a b) (a ≡ b)
 eqb-tells a b = (λ e. eqb→eq a b (T-of e), λ h. of-T (eqb a b) (subst (λ n. T (eqb a n)) h (eqb-refl a)))

@@ -1,25 +1,28 @@
 -- The blocks that are open, by their W alone: what the reader keeps of them, and that a row does to that what it does to the blocks.
 use Prim.Native.Nat.{ℕ, suc, _+_, _*_, _-_, _<_, max}
-use mathlib.Core.Path.{_≡_, refl, sym, ap, subst, _∙_}
+use mathlib.Core.Path.{_≡_, refl, sym, ap, _∙_}
 use mathlib.Core.Bool.{Bool, true, false}
 use mathlib.Core.List.{List, [], _∷_}
 use mathlib.Core.Option.{Option, none, some}
 use lib.ListN.{length, getD, set}
 use lib.Seq.{getD-set-same, getD-set-other}
-use lib.Dec.{T, ltb, ltb→lt}
+use lib.Dec.{ltb}
 use native.Mathlib.Omega.{arith}
 use Rattle.sheet.specs.Bounds.{limit}
 use Rattle.sheet.specs.Refusals.{Refusal, Answer, refused, given, _>>=_, badRow, badBlock}
 use Rattle.sheet.specs.Tree.{Tree, done, one, fork, again, basic, ifLine, elseLine, endIf, repeat, endRepeat}
 use Rattle.sheet.specs.Rows.{Assignment, Test, SheetLine, Row, Kind, kindOf, wordsFit}
 use Rattle.sheet.specs.LongestRun.{longestRun}
-use Rattle.sheet.specs.Reading.{Item, row, branches, repeated, Block, inFirst, inSecond, inRepeat, closed, Progress, unless, lineBy, lineOf, entered, splitAt, ifEndedAt, repeatEndedAt, taken}
+use Rattle.sheet.specs.Reading.{Item, row, branches, repeated, Block, inFirst, inSecond, inRepeat, closed, Progress}
+use Rattle.sheet.specs.Reading.{unless, lineBy, lineOf, entered, splitAt, ifEndedAt, repeatEndedAt, taken}
 use Rattle.sheet.specs.inner.Steps.{partOf, saturated, enterOf, splitOf, ifEndOf, repeatEndOf, stepOf, stepOr}
 use Rattle.sheet.specs.declared.Open.{Open}
 use Rattle.sheet.specs.declared.Open.the-variants as block
 use Rattle.sheet.specs.declared.Level.{Level}
 use Rattle.sheet.specs.declared.Step.{Step}
 use Rattle.sheet.specs.declared.Step.the-variants as step
+use Rattle.sheet.proofs.Judgements.{ltb-tells}
+use Rattle.sheet.proofs.ReadingParts.{not-given}
 use Rattle.sheet.proofs.Saturated.{saturated-sum, saturated-larger, saturated-product}
 
 -- ---- what is kept
@@ -100,7 +103,7 @@ module _ (place : ℕ) (levels : List Level) where
     unfolding entered enterOf saturated
     entered-follows b open′ o before true e =
         rw e (
-          ltb→lt _ _ (subst T (sym e) tt),
+          ltb-tells _ _ .0 e,
           λ i is room.
               record {
                 next = record { blocks = b ∷ blocks; items = [] };
@@ -198,7 +201,7 @@ module _ (place : ℕ) (levels : List Level) where
 
 -- a row is refused by 5 alone
 only-refusal : {A : Type 0} (test : Bool) (why r : Refusal) (a : A) → (unless test why >>= λ _. given a) ≡ refused r → r ≡ why
-only-refusal true why r a e = let z : _≡_ {A = ℕ} 0 1 = cc in absurd (omega arith)
+only-refusal true why r a e = not-given (sym e)
 only-refusal false why r a e = cc
 
 row-refused : (v k : ℕ) (o : Option Kind) (r : Row) (place : ℕ) (why : Refusal) → lineBy v k o r place ≡ refused why → why ≡ badRow place

@@ -1,12 +1,13 @@
 -- What is proved of reading, of the definitions first.
 pub mod TreeOnly
 pub mod RowsCounted
+pub mod Judgements
 pub mod EachKind
 pub mod RowsBack
-pub mod Judgements
 pub mod RefusalsApart
 pub mod Settled
 pub mod ReadingParts
+pub mod LinesTaken
 pub mod ReadingExact
 pub mod NamesPresent
 pub mod Depth

@@ -1,20 +1,24 @@
 -- Every variable and every constant that an accepted sheet names is there: each accepted line names what is there, and the reading
 -- only puts such lines together. Also: how many variables an accepted sheet has.
-use Prim.Native.Nat.{ℕ, zero, suc, _+_, _*_, _≤_, _<_}
-use mathlib.Core.Path.{_≡_, sym, ap, subst, _∙_}
+use Prim.Native.Nat.{ℕ, suc, _+_, _*_, _≤_, _<_}
+use mathlib.Core.Path.{_≡_, ap, subst, _∙_}
 use mathlib.Core.Bool.{true, _&&_}
 use mathlib.Core.List.{List, [], _∷_}
 use mathlib.Core.Option.{Option, none, some}
 use lib.ListN.{length, getD, take, drop, length-take, length-drop}
-use lib.Dec.{T, leb, ltb, leb→le, ltb→lt}
+use lib.Dec.{leb, ltb}
 use native.Mathlib.Omega.{arith}
 use Rattle.sheet.specs.Bounds.{limit}
-use Rattle.sheet.specs.Refusals.{given, wordsEnd, countBeyond, badRow, badBlock}
+use Rattle.sheet.specs.Refusals.{given, wordsEnd, countBeyond, badRow}
 use Rattle.sheet.specs.Tree.{Tree, done, one, fork, again, basic, ifLine, elseLine, endIf, repeat, endRepeat}
 use Rattle.sheet.specs.Rows.{Assignment, Test, SheetLine, Row, variable, constant, fits, Kind, kindOf, wordsFit}
 use Rattle.sheet.specs.Names.{SourcePresent, AssignmentPresent, TestPresent, Present}
-use Rattle.sheet.specs.Reading.{Sheet, unless, countAt, Item, row, branches, repeated, Block, inFirst, inSecond, inRepeat, closed, Progress, lineBy, lineOf, entered, splitAt, ifEndedAt, repeatEndedAt, taken, bodyOf, read}
-use Rattle.sheet.proofs.ReadingParts.{bound, passed, same-given, Accepted, accepted}
+use Rattle.sheet.specs.Reading.{Sheet, unless, countAt, lineBy, lineOf, taken, bodyOf, read}
+use Rattle.sheet.specs.Reading.{Item, row, branches, repeated, Block, inFirst, inSecond, inRepeat, closed, Progress}
+use Rattle.sheet.proofs.Judgements.{leb-tells, ltb-tells}
+use Rattle.sheet.proofs.EachKind.{each-kind, _then_, end}
+use Rattle.sheet.proofs.ReadingParts.{not-given, bound, passed, same-given, Accepted, accepted}
+use Rattle.sheet.proofs.LinesTaken.{Takes, adds, opensIf, splits, endsIf, opensRepeat, endsRepeat, takes}
 use Rattle.sheet.proofs.RowsBack.{both, each-fits}
 
 abbrev Body : Type 0
@@ -58,11 +62,11 @@ module _ (v k : ℕ) where
 
   variable-there : (word : ℕ) → fits v k variable word ≡ true → word < v
   unfolding fits
-  variable-there word e = ltb→lt word v (subst T (sym e) tt)
+  variable-there word e = ltb-tells word v .0 e
 
   constant-there : (word : ℕ) → fits v k constant word ≡ true → word < k
   unfolding fits
-  constant-there word e = ltb→lt word k (subst T (sym e) tt)
+  constant-there word e = ltb-tells word k .0 e
 
   -- what a kind's words have to name, if they fit
   abbrev Names : Option Kind → (d a b : ℕ) → Type 0
@@ -70,25 +74,27 @@ module _ (v k : ℕ) where
   Names (some kind) d a b =
       fits v k (kind .d) d ≡ true → fits v k (kind .a) a ≡ true → fits v k (kind .b) b ≡ true → LinePresent (kind .means d a b)
 
-  names : (n d a b : ℕ) → Names (kindOf n) d a b
-  unfolding kindOf LinePresent AssignmentPresent TestPresent SourcePresent
-  names zero d a b = tt
-  names (suc zero) d a b = λ p q r. (variable-there d p, variable-there a q)
-  names (suc (suc zero)) d a b = λ p q r. (variable-there d p, constant-there a q)
-  names (suc (suc (suc zero))) d a b = λ p q r. (variable-there d p, (variable-there a q, variable-there b r))
-  names (suc (suc (suc (suc zero)))) d a b = λ p q r. (variable-there d p, (variable-there a q, variable-there b r))
-  names (suc (suc (suc (suc (suc zero))))) d a b = λ p q r. (variable-there d p, (variable-there a q, variable-there b r))
-  names (suc (suc (suc (suc (suc (suc zero)))))) d a b = λ p q r. (variable-there d p, variable-there a q)
-  names (suc (suc (suc (suc (suc (suc (suc zero))))))) d a b = λ p q r. (variable-there a q, variable-there b r)
-  names (suc (suc (suc (suc (suc (suc (suc (suc zero)))))))) d a b = λ p q r. tt
-  names (suc (suc (suc (suc (suc (suc (suc (suc (suc zero))))))))) d a b = λ p q r. tt
-  names (suc (suc (suc (suc (suc (suc (suc (suc (suc (suc zero)))))))))) d a b = λ p q r. tt
-  names (suc (suc (suc (suc (suc (suc (suc (suc (suc (suc (suc zero))))))))))) d a b = λ p q r. tt
-  names (suc (suc (suc (suc (suc (suc (suc (suc (suc (suc (suc (suc n)))))))))))) d a b = tt
+  names : (d a b n : ℕ) → Names (kindOf n) d a b
+  unfolding LinePresent AssignmentPresent TestPresent SourcePresent
+  names d a b =
+      each-kind (λ n o. Names o d a b) (λ n. tt)
+      ((λ p q r. (variable-there d p, variable-there a q))
+      then (λ p q r. (variable-there d p, constant-there a q))
+      then (λ p q r. (variable-there d p, (variable-there a q, variable-there b r)))
+      then (λ p q r. (variable-there d p, (variable-there a q, variable-there b r)))
+      then (λ p q r. (variable-there d p, (variable-there a q, variable-there b r)))
+      then (λ p q r. (variable-there d p, variable-there a q))
+      then (λ p q r. (variable-there a q, variable-there b r))
+      then (λ p q r. tt)
+      then (λ p q r. tt)
+      then (λ p q r. tt)
+      then (λ p q r. tt)
+      then end)
 
-  line-by-present : (r : Row) (place : ℕ) (l : SheetLine) (o : Option Kind) → Names o (r .d) (r .a) (r .b) → lineBy v k o r place ≡ given l → LinePresent l
+  line-by-present : (r : Row) (place : ℕ) (l : SheetLine) (o : Option Kind) → Names o (r .d) (r .a) (r .b)
+      → lineBy v k o r place ≡ given l → LinePresent l
   unfolding lineBy
-  line-by-present r place l none p e = let z : _≡_ {A = ℕ} 0 1 = cc in absurd (omega arith)
+  line-by-present r place l none p e = not-given e
   line-by-present r place l (some kind) p e =
       let h = bound (unless (wordsFit v k kind r) (badRow place)) _ l e in
       let fit = each-fits v k kind r (passed (wordsFit v k kind r) (badRow place) (h .1)) in
@@ -96,50 +102,17 @@ module _ (v k : ℕ) where
 
   line-present : (r : Row) (place : ℕ) (l : SheetLine) → lineOf v k r place ≡ given l → LinePresent l
   unfolding lineOf
-  line-present r place l e = line-by-present r place l (kindOf (r .kind)) (names (r .kind) (r .d) (r .a) (r .b)) e
+  line-present r place l e = line-by-present r place l (kindOf (r .kind)) (names (r .d) (r .a) (r .b) (r .kind)) e
 
-  enters-present : (block : Block) (place : ℕ) (blocks : List Block) (next : Progress) → BlocksPresent (block ∷ blocks)
-      → entered block place blocks ≡ given next → ReadPresent next
-  unfolding entered ItemsPresent
-  enters-present block place blocks next h e =
-      subst ReadPresent (same-given (bound (unless (ltb (length blocks) (limit .depth)) (badBlock place)) _ next e .2)) (record { blocks = h; items = tt })
-
-  split-present : (place : ℕ) (blocks : List Block) (items : List Item) (next : Progress) → BlocksPresent blocks → ItemsPresent items
-      → splitAt place blocks items ≡ given next → ReadPresent next
-  unfolding splitAt BlocksPresent ItemsPresent Present
-  split-present place [] items next hb hi e = let z : _≡_ {A = ℕ} 0 1 = cc in absurd (omega arith)
-  split-present place (inFirst f outer ∷ blocks) items next hb hi e =
-      subst ReadPresent (same-given e) (record { blocks = (hb .0, closed-present items done hi tt, hb .1, hb .2); items = tt })
-  split-present place (inSecond f a outer ∷ blocks) items next hb hi e = let z : _≡_ {A = ℕ} 0 1 = cc in absurd (omega arith)
-  split-present place (inRepeat m outer ∷ blocks) items next hb hi e = let z : _≡_ {A = ℕ} 0 1 = cc in absurd (omega arith)
-
-  if-ended-present : (place : ℕ) (blocks : List Block) (items : List Item) (next : Progress) → BlocksPresent blocks → ItemsPresent items
-      → ifEndedAt place blocks items ≡ given next → ReadPresent next
-  unfolding ifEndedAt BlocksPresent ItemsPresent Present
-  if-ended-present place [] items next hb hi e = let z : _≡_ {A = ℕ} 0 1 = cc in absurd (omega arith)
-  if-ended-present place (inFirst f outer ∷ blocks) items next hb hi e = let z : _≡_ {A = ℕ} 0 1 = cc in absurd (omega arith)
-  if-ended-present place (inSecond f a outer ∷ blocks) items next hb hi e =
-      subst ReadPresent (same-given e) (record { blocks = hb .3; items = (hb .0, hb .1, closed-present items done hi tt, hb .2) })
-  if-ended-present place (inRepeat m outer ∷ blocks) items next hb hi e = let z : _≡_ {A = ℕ} 0 1 = cc in absurd (omega arith)
-
-  repeat-ended-present : (place : ℕ) (blocks : List Block) (items : List Item) (next : Progress) → BlocksPresent blocks → ItemsPresent items
-      → repeatEndedAt place blocks items ≡ given next → ReadPresent next
-  unfolding repeatEndedAt BlocksPresent ItemsPresent Present
-  repeat-ended-present place [] items next hb hi e = let z : _≡_ {A = ℕ} 0 1 = cc in absurd (omega arith)
-  repeat-ended-present place (inFirst f outer ∷ blocks) items next hb hi e = let z : _≡_ {A = ℕ} 0 1 = cc in absurd (omega arith)
-  repeat-ended-present place (inSecond f a outer ∷ blocks) items next hb hi e = let z : _≡_ {A = ℕ} 0 1 = cc in absurd (omega arith)
-  repeat-ended-present place (inRepeat m outer ∷ blocks) items next hb hi e =
-      subst ReadPresent (same-given e) (record { blocks = hb .1; items = (closed-present items done hi tt, hb .0) })
-
-  taken-present : (l : SheetLine) (place : ℕ) (blocks : List Block) (items : List Item) (next : Progress) → LinePresent l → BlocksPresent blocks
-      → ItemsPresent items → taken l place blocks items ≡ given next → ReadPresent next
-  unfolding taken LinePresent BlocksPresent ItemsPresent
-  taken-present (basic b) place blocks items next hl hb hi e = subst ReadPresent (same-given e) (record { blocks = hb; items = (hl, hi) })
-  taken-present (ifLine f) place blocks items next hl hb hi e = enters-present (inFirst f items) place blocks next (hl, hi, hb) e
-  taken-present elseLine place blocks items next hl hb hi e = split-present place blocks items next hb hi e
-  taken-present endIf place blocks items next hl hb hi e = if-ended-present place blocks items next hb hi e
-  taken-present (repeat m) place blocks items next hl hb hi e = enters-present (inRepeat m items) place blocks next (hi, hb) e
-  taken-present endRepeat place blocks items next hl hb hi e = repeat-ended-present place blocks items next hb hi e
+  taken-present : {l : SheetLine} {blocks : List Block} {items : List Item} {next : Progress} → Takes l blocks items next → LinePresent l
+      → BlocksPresent blocks → ItemsPresent items → ReadPresent next
+  unfolding LinePresent BlocksPresent ItemsPresent Present
+  taken-present adds hl hb hi = record { blocks = hb; items = (hl, hi) }
+  taken-present (opensIf room) hl hb hi = record { blocks = (hl, hi, hb); items = tt }
+  taken-present {items = items} splits hl hb hi = record { blocks = (hb .0, closed-present items done hi tt, hb .1, hb .2); items = tt }
+  taken-present {items = items} endsIf hl hb hi = record { blocks = hb .3; items = (hb .0, hb .1, closed-present items done hi tt, hb .2) }
+  taken-present (opensRepeat room) hl hb hi = record { blocks = (hi, hb); items = tt }
+  taken-present {items = items} endsRepeat hl hb hi = record { blocks = hb .1; items = (closed-present items done hi tt, hb .0) }
 
   -- ---- all rows
 
@@ -147,12 +120,12 @@ module _ (v k : ℕ) where
       → bodyOf v k rs place blocks items ≡ given t → Present v k t
   unfolding bodyOf Present
   read-present [] place [] items t hb hi e = subst (Present v k) (same-given e) (closed-present items done hi tt)
-  read-present [] place (block ∷ blocks) items t hb hi e = let z : _≡_ {A = ℕ} 0 1 = cc in absurd (omega arith)
+  read-present [] place (block ∷ blocks) items t hb hi e = not-given e
   read-present (r ∷ rs) place blocks items t hb hi e =
       let line = bound (lineOf v k r place) _ t e in
       let took = bound (taken (line .0) place blocks items) _ t (line .2) in
       let next = took .0 in
-      let present = taken-present (line .0) place blocks items next (line-present r place (line .0) (line .1)) hb hi (took .1) in
+      let present = taken-present (takes (line .0) place blocks items next (took .1)) (line-present r place (line .0) (line .1)) hb hi in
       read-present rs (place + limit .rowWords) (next .blocks) (next .items) t (present .blocks) (present .items) (took .2)
 
   pub body-present : (rs : List Row) (place : ℕ) (t : Body) → bodyOf v k rs place [] [] ≡ given t → Present v k t
@@ -167,9 +140,6 @@ pub record Counted (words : List ℕ) (place low high width count : ℕ) : Type 
   pub most : count ≤ high
   pub there : suc place + count * width ≤ length words
 
-at-most : (a b : ℕ) → leb a b ≡ true → a ≤ b
-at-most a b e = leb→le a b (subst T (sym e) tt)
-
 pub count-judged : (words : List ℕ) (place low high width count : ℕ) → countAt words place low high width ≡ given count
     → Counted words place low high width count
 unfolding countAt
@@ -181,9 +151,9 @@ count-judged words place low high width count e =
     let range = both (leb low read) (leb read high) (passed (leb low read && leb read high) (countBeyond place) (c₂ .1)) in
     subst (Counted words place low high width) (same-given (c₃ .2))
     (record {
-      least = at-most low read (range .0);
-      most = at-most read high (range .1);
-      there = at-most _ _ (passed (leb (suc place + read * width) (length words)) (wordsEnd (suc place)) (c₃ .1));
+      least = leb-tells low read .0 (range .0);
+      most = leb-tells read high .0 (range .1);
+      there = leb-tells _ _ .0 (passed (leb (suc place + read * width) (length words)) (wordsEnd (suc place)) (c₃ .1));
     })
 
 -- a section of one-word items that are there is as long as its count
@@ -211,8 +181,3 @@ names-present words sheet e =
     let parts = accepted words sheet e in
     let counted = counts words sheet parts in
     rw (counted .variables, counted .constants) (body-present (parts .v) (parts .k) (sheet .rows) _ (sheet .body) (parts .body))
-
--- "V, 1 to 32"
-pub variables-read : (words : List ℕ) (sheet : Sheet) → read words ≡ given sheet
-    → (1 ≤ length (sheet .roles)) × (length (sheet .roles) ≤ limit .variables)
-variables-read words sheet e = let counted = counts words sheet (accepted words sheet e) in (counted .someVariable, counted .notTooMany)

@@ -12,7 +12,6 @@ use Rattle.sheet.specs.Rows.{Slot, variable, constant, turns, unused, Ro
 use Rattle.sheet.specs.Reading.{lineBy, lineOf}
 use Rattle.sheet.specs.inner.Steps.{slotOf, slotSaid, formOf, forms, noForm, formFits, fitsKind, rowFits, partOf, partFor, partIf}
 use Rattle.sheet.specs.declared.Form.{Form}
-use Rattle.sheet.specs.declared.Part.{Part}
 use Rattle.sheet.specs.declared.Part.the-variants as part
 use Rattle.sheet.proofs.EachKind.{each-kind, _then_, end}
 use Rattle.sheet.proofs.RowsBack.{each-fits, turns-above-0}

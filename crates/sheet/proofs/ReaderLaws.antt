@@ -7,7 +7,8 @@ use mathlib.Core.Option.{Option, none, some}
 use lib.ListN.{length, length-map}
 use native.Mathlib.Omega.{arith}
 use Rattle.sheet.specs.Bounds.{limit}
-use Rattle.sheet.specs.Refusals.{Refusal, given, wordsEnd, wordsLeft, countBeyond, roleAbove, badRow, badBlock, tooLong, smallTable, smallValueStack, smallTurnStack, wrongStarts, wrongSeeds, wrongResult, notFiniteGiven, notFiniteResult}
+use Rattle.sheet.specs.Refusals.{Refusal, given, wordsEnd, wordsLeft, countBeyond, roleAbove, badRow, badBlock, tooLong, smallTable}
+use Rattle.sheet.specs.Refusals.{smallValueStack, smallTurnStack, wrongStarts, wrongSeeds, wrongResult, notFiniteGiven, notFiniteResult}
 use Rattle.sheet.specs.Tree.{flat, rows}
 use Rattle.sheet.specs.Rows.{sheetRowOf, treeRows}
 use Rattle.sheet.specs.LongestRun.{longestRun}
@@ -21,8 +22,7 @@ use Rattle.sheet.specs.declared.Reading.{Reading}
 use Rattle.sheet.specs.declared.Reading.the-variants as reading
 use Rattle.sheet.proofs.ReadingParts.{bound, same-given, Accepted, accepted}
 use Rattle.sheet.proofs.NamesPresent.{count-judged, counts, names-present}
-use Rattle.sheet.proofs.RowsCounted.{lines-counted}
-use Rattle.sheet.proofs.ShapeRead.{rows-counted}
+use Rattle.sheet.proofs.RowsCounted.{lines-counted, rows-counted}
 use Rattle.sheet.proofs.ReadingExact.{reading-exact}
 
 -- ---- one answer only

@@ -1,17 +1,16 @@
 -- An accepted sheet's rows are exactly its tree's rows, and no other tree has them.
 use Prim.Native.Nat.{ℕ, _+_}
-use mathlib.Core.Path.{_≡_, refl, sym, ap, subst, _∙_}
+use mathlib.Core.Path.{_≡_, refl, sym, ap, _∙_}
 use mathlib.Core.List.{List, [], _∷_, map}
 use mathlib.Core.Option.{Option, none, some}
-use lib.ListN.{length}
-use lib.Dec.{ltb}
-use native.Mathlib.Omega.{arith}
 use Rattle.sheet.specs.Bounds.{limit}
-use Rattle.sheet.specs.Refusals.{given, badRow, badBlock}
+use Rattle.sheet.specs.Refusals.{given, badRow}
 use Rattle.sheet.specs.Tree.{Tree, done, one, fork, again, basic, ifLine, elseLine, endIf, repeat, endRepeat, flat}
 use Rattle.sheet.specs.Rows.{Assignment, Test, SheetLine, Row, Kind, kindOf, wordsFit, sheetRowOf, treeRows}
-use Rattle.sheet.specs.Reading.{Sheet, unless, Item, row, branches, repeated, Block, inFirst, inSecond, inRepeat, closed, Progress, lineBy, lineOf, entered, splitAt, ifEndedAt, repeatEndedAt, taken, bodyOf, read}
-use Rattle.sheet.proofs.ReadingParts.{bound, passed, same-given, accepted}
+use Rattle.sheet.specs.Reading.{Sheet, unless, lineBy, lineOf, taken, bodyOf, read}
+use Rattle.sheet.specs.Reading.{Item, row, branches, repeated, Block, inFirst, inSecond, inRepeat, closed, Progress}
+use Rattle.sheet.proofs.ReadingParts.{not-given, bound, passed, same-given, accepted}
+use Rattle.sheet.proofs.LinesTaken.{Takes, adds, opensIf, splits, endsIf, opensRepeat, endsRepeat, takes}
 use Rattle.sheet.proofs.TreeOnly.{only-tree}
 use Rattle.sheet.proofs.RowsBack.{only-lines, row-back}
 
@@ -46,9 +45,10 @@ closed-lines (repeated m a ∷ items) k rest = closed-lines items (again m a k) 
 -- ---- one row more
 
 -- the line of an accepted row says that row
-line-by-says : (v k : ℕ) (r : Row) (place : ℕ) (l : SheetLine) (o : Option Kind) → kindOf (r .kind) ≡ o → lineBy v k o r place ≡ given l → sheetRowOf l ≡ r
+line-by-says : (v k : ℕ) (r : Row) (place : ℕ) (l : SheetLine) (o : Option Kind) → kindOf (r .kind) ≡ o
+    → lineBy v k o r place ≡ given l → sheetRowOf l ≡ r
 unfolding lineBy
-line-by-says v k r place l none p e = let z : _≡_ {A = ℕ} 0 1 = cc in absurd (omega arith)
+line-by-says v k r place l none p e = not-given e
 line-by-says v k r place l (some kind) p e =
     let h = bound (unless (wordsFit v k kind r) (badRow place)) _ l e in
     let fit = passed (wordsFit v k kind r) (badRow place) (h .1) in
@@ -62,50 +62,14 @@ line-says v k r place l e = line-by-says v k r place l (kindOf (r .kind)) refl e
 abbrev Adds : List Block → List Item → SheetLine → Progress → Type 0
 Adds blocks items l next = (rest : List SheetLine) → readLines (next .blocks) (next .items) rest ≡ readLines blocks items (l ∷ rest)
 
-enters : (block : Block) (place : ℕ) (blocks : List Block) (next : Progress) → entered block place blocks ≡ given next
-    → record { blocks = block ∷ blocks; items = [] } ≡ next
-unfolding entered
-enters block place blocks next e = same-given (bound (unless (ltb (length blocks) (limit .depth)) (badBlock place)) _ next e .2)
-
-split-adds : (place : ℕ) (blocks : List Block) (items : List Item) (next : Progress) → splitAt place blocks items ≡ given next
-    → Adds blocks items elseLine next
-unfolding splitAt readLines blockLines itemLines flat
-split-adds place [] items next e = let z : _≡_ {A = ℕ} 0 1 = cc in absurd (omega arith)
-split-adds place (inFirst f outer ∷ blocks) items next e =
-    subst (Adds (inFirst f outer ∷ blocks) items elseLine) (same-given e)
-    (λ rest. ap (λ ls. blockLines blocks (itemLines outer (ifLine f ∷ ls))) (closed-lines items done (elseLine ∷ rest)))
-split-adds place (inSecond f a outer ∷ blocks) items next e = let z : _≡_ {A = ℕ} 0 1 = cc in absurd (omega arith)
-split-adds place (inRepeat m outer ∷ blocks) items next e = let z : _≡_ {A = ℕ} 0 1 = cc in absurd (omega arith)
-
-if-ended-adds : (place : ℕ) (blocks : List Block) (items : List Item) (next : Progress) → ifEndedAt place blocks items ≡ given next
-    → Adds blocks items endIf next
-unfolding ifEndedAt readLines blockLines itemLines flat
-if-ended-adds place [] items next e = let z : _≡_ {A = ℕ} 0 1 = cc in absurd (omega arith)
-if-ended-adds place (inFirst f outer ∷ blocks) items next e = let z : _≡_ {A = ℕ} 0 1 = cc in absurd (omega arith)
-if-ended-adds place (inSecond f a outer ∷ blocks) items next e =
-    subst (Adds (inSecond f a outer ∷ blocks) items endIf) (same-given e)
-    (λ rest. ap (λ ls. blockLines blocks (itemLines outer (ifLine f ∷ flat a (elseLine ∷ ls)))) (closed-lines items done (endIf ∷ rest)))
-if-ended-adds place (inRepeat m outer ∷ blocks) items next e = let z : _≡_ {A = ℕ} 0 1 = cc in absurd (omega arith)
-
-repeat-ended-adds : (place : ℕ) (blocks : List Block) (items : List Item) (next : Progress) → repeatEndedAt place blocks items ≡ given next
-    → Adds blocks items endRepeat next
-unfolding repeatEndedAt readLines blockLines itemLines flat
-repeat-ended-adds place [] items next e = let z : _≡_ {A = ℕ} 0 1 = cc in absurd (omega arith)
-repeat-ended-adds place (inFirst f outer ∷ blocks) items next e = let z : _≡_ {A = ℕ} 0 1 = cc in absurd (omega arith)
-repeat-ended-adds place (inSecond f a outer ∷ blocks) items next e = let z : _≡_ {A = ℕ} 0 1 = cc in absurd (omega arith)
-repeat-ended-adds place (inRepeat m outer ∷ blocks) items next e =
-    subst (Adds (inRepeat m outer ∷ blocks) items endRepeat) (same-given e)
-    (λ rest. ap (λ ls. blockLines blocks (itemLines outer (repeat m ∷ ls))) (closed-lines items done (endRepeat ∷ rest)))
-
-taken-adds : (l : SheetLine) (place : ℕ) (blocks : List Block) (items : List Item) (next : Progress) → taken l place blocks items ≡ given next
-    → Adds blocks items l next
-unfolding taken readLines blockLines itemLines
-taken-adds (basic b) place blocks items next e = subst (Adds blocks items (basic b)) (same-given e) (λ rest. refl)
-taken-adds (ifLine f) place blocks items next e = subst (Adds blocks items (ifLine f)) (enters (inFirst f items) place blocks next e) (λ rest. refl)
-taken-adds elseLine place blocks items next e = split-adds place blocks items next e
-taken-adds endIf place blocks items next e = if-ended-adds place blocks items next e
-taken-adds (repeat m) place blocks items next e = subst (Adds blocks items (repeat m)) (enters (inRepeat m items) place blocks next e) (λ rest. refl)
-taken-adds endRepeat place blocks items next e = repeat-ended-adds place blocks items next e
+taken-adds : {l : SheetLine} {blocks : List Block} {items : List Item} {next : Progress} → Takes l blocks items next → Adds blocks items l next
+unfolding readLines blockLines itemLines flat
+taken-adds adds = λ rest. refl
+taken-adds (opensIf room) = λ rest. refl
+taken-adds {items = items} splits = λ rest. rw (closed-lines items done (elseLine ∷ rest))
+taken-adds {items = items} endsIf = λ rest. rw (closed-lines items done (endIf ∷ rest))
+taken-adds (opensRepeat room) = λ rest. refl
+taken-adds {items = items} endsRepeat = λ rest. rw (closed-lines items done (endRepeat ∷ rest))
 
 -- ---- all rows
 
@@ -120,7 +84,7 @@ body-lines : (v k : ℕ) (rs : List Row) (place : ℕ) (blocks : List Block) (it
 unfolding bodyOf readLines blockLines flat
 body-lines v k [] place [] items t e =
     record { lines = []; say = refl; follow = ap (λ b. flat b []) (sym (same-given e)) ∙ closed-lines items done [] }
-body-lines v k [] place (block ∷ blocks) items t e = let z : _≡_ {A = ℕ} 0 1 = cc in absurd (omega arith)
+body-lines v k [] place (block ∷ blocks) items t e = not-given e
 body-lines v k (r ∷ rs) place blocks items t e =
     let read = bound (lineOf v k r place) _ t e in
     let line = read .0 in
@@ -130,7 +94,7 @@ body-lines v k (r ∷ rs) place blocks items t e =
     record {
       lines = line ∷ rest .lines;
       say = cc (line-says v k r place line (read .1), rest .say);
-      follow = rest .follow ∙ taken-adds line place blocks items next (took .1) (rest .lines);
+      follow = rest .follow ∙ taken-adds (takes line place blocks items next (took .1)) (rest .lines);
     }
 
 pub body-rows : (v k : ℕ) (rs : List Row) (place : ℕ) (t : Body) → bodyOf v k rs place [] [] ≡ given t → treeRows t ≡ rs

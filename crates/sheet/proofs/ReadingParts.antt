@@ -1,26 +1,30 @@
 -- What an accepted sheet was made of: each judgement of the reading, passed.
 use Prim.Native.Nat.{ℕ, suc, _+_, _*_, _≤_}
-use mathlib.Core.Path.{_≡_, refl, sym, subst}
+use mathlib.Core.Path.{_≡_, refl, subst}
 use mathlib.Core.Bool.{Bool, true, false}
 use mathlib.Core.List.{List, []}
 use lib.ListN.{length, take, drop}
-use lib.Dec.{T, leb, leb→le}
+use lib.Dec.{leb}
 use native.Mathlib.Omega.{arith}
 use Rattle.sheet.specs.Bounds.{limit}
 use Rattle.sheet.specs.Refusals.{Refusal, Answer, refused, given, _>>=_, wordsLeft, tooLong}
 use Rattle.sheet.specs.LongestRun.{longestRun}
 use Rattle.sheet.specs.Reading.{Sheet, unless, countAt, rolesFit, rowsAt, bodyOf, read}
+use Rattle.sheet.proofs.Judgements.{leb-tells}
 
 -- ---- judgements in turn
 
+pub not-given {ℓ κ} : {A : Type ℓ} {B : Type κ} {r : Refusal} {a : A} → refused r ≡ given a → B
+not-given e = let z : _≡_ {A = ℕ} 0 1 = cc in absurd (omega arith)
+
 pub bound {ℓ κ} : {A : Type ℓ} {B : Type κ} (m : Answer A) (next : A → Answer B) (b : B) → (m >>= next) ≡ given b
     → (a : A) × (m ≡ given a) × (next a ≡ given b)
-bound (refused r) next b e = let z : _≡_ {A = ℕ} 0 1 = cc in absurd (omega arith)
+bound (refused r) next b e = not-given e
 bound (given a) next b e = (a, refl, e)
 
 pub passed : (test : Bool) (r : Refusal) {u : Unit {0}} → unless test r ≡ given u → test ≡ true
 passed true r e = refl
-passed false r e = let z : _≡_ {A = ℕ} 0 1 = cc in absurd (omega arith)
+passed false r e = not-given e
 
 pub same-given : {A : Type 0} {a b : A} → given a ≡ given b → a ≡ b
 same-given e = cc
@@ -41,9 +45,6 @@ pub record Accepted (words : List ℕ) (sheet : Sheet) : Type 0 where
   pub body : bodyOf v k (sheet .rows) (suc (1 + v + 1 + k)) [] [] ≡ given (sheet .body)
   pub ends : length words ≤ suc (1 + v + 1 + k) + n * limit .rowWords
   pub short : longestRun (sheet .body) ≤ limit .longestRun
-
-at-most : (a b : ℕ) → leb a b ≡ true → a ≤ b
-at-most a b e = leb→le a b (subst T (sym e) tt)
 
 pub accepted : (words : List ℕ) (sheet : Sheet) → read words ≡ given sheet → Accepted words sheet
 unfolding read
@@ -73,6 +74,6 @@ accepted words sheet e =
       rowCount = c₄ .1;
       rows = refl;
       body = c₅ .1;
-      ends = at-most _ _ (passed (leb (length words) (first + n * limit .rowWords)) (wordsLeft (first + n * limit .rowWords)) (c₆ .1));
-      short = at-most _ _ (passed (leb (longestRun (c₅ .0)) (limit .longestRun)) tooLong (c₇ .1));
+      ends = leb-tells _ _ .0 (passed (leb (length words) (first + n * limit .rowWords)) (wordsLeft (first + n * limit .rowWords)) (c₆ .1));
+      short = leb-tells _ _ .0 (passed (leb (longestRun (c₅ .0)) (limit .longestRun)) tooLong (c₇ .1));
     })

@@ -5,7 +5,9 @@ use mathlib.Core.List.{List, [], _∷_}
 use mathlib.Core.Option.{Option, none, some}
 use lib.ListN.{getElem?}
 use native.Mathlib.Omega.{arith}
-use Rattle.sheet.specs.Refusals.{Refusal, Answer, refused, given, numberOf, placeOf, numberIn, placeIn, wordsEnd, wordsLeft, countBeyond, roleAbove, badRow, badBlock, tooLong, smallTable, smallValueStack, smallTurnStack, wrongStarts, wrongSeeds, wrongResult, notFiniteGiven, notFiniteResult}
+use Rattle.sheet.specs.Refusals.{Refusal, Answer, refused, given, numberOf, placeOf, numberIn, placeIn}
+use Rattle.sheet.specs.Refusals.{wordsEnd, wordsLeft, countBeyond, roleAbove, badRow, badBlock, tooLong, smallTable}
+use Rattle.sheet.specs.Refusals.{smallValueStack, smallTurnStack, wrongStarts, wrongSeeds, wrongResult, notFiniteGiven, notFiniteResult}
 
 -- the refusal of a place, for each number from 1 on
 abbrev stackNo : ℕ → Refusal

@@ -1,13 +1,16 @@
 -- A row and its line settle each other: the line read from a row says that row again, and no other line says it.
-use Prim.Native.Nat.{ℕ, zero, suc, pred}
+use Prim.Native.Nat.{ℕ, suc, pred}
 use mathlib.Core.Path.{_≡_, refl, sym, ap, subst, _∙_}
 use mathlib.Core.Bool.{Bool, true, false, _&&_}
 use mathlib.Core.List.{List, [], _∷_, map}
 use mathlib.Core.Option.{Option, none, some}
-use lib.Dec.{T, leb, eqb→eq, leb→le}
+use lib.Dec.{leb}
 use native.Mathlib.Omega.{arith}
 use Rattle.sheet.specs.Tree.{basic, ifLine, elseLine, endIf, repeat, endRepeat}
-use Rattle.sheet.specs.Rows.{_≔_, copy, fixed, sum, difference, product, negation, less, SheetLine, Row, turns, unused, fits, Kind, kindOf, wordsFit, sheetRowOf, lineOfRow}
+use Rattle.sheet.specs.Rows.{_≔_, copy, fixed, sum, difference, product, negation, less, SheetLine, sheetRowOf, lineOfRow}
+use Rattle.sheet.specs.Rows.{Row, turns, unused, fits, Kind, kindOf, wordsFit}
+use Rattle.sheet.proofs.Judgements.{leb-tells, eqb-tells}
+use Rattle.sheet.proofs.EachKind.{each-kind, _then_, end}
 
 -- ---- from a line to its row and back
 
@@ -37,9 +40,6 @@ only-lines (l ∷ ls) (l′ ∷ ls′) e = cc (only-line l l′ cc, only-lines l
 
 -- ---- from a row that fits to its line and back
 
-T-of : {b : Bool} → b ≡ true → T b
-T-of {b} e = rw e tt
-
 pub both : (a b : Bool) → (a && b) ≡ true → (a ≡ true) × (b ≡ true)
 both true true e = (refl, refl)
 both true false e = let z : _≡_ {A = ℕ} 0 1 = cc in absurd (omega arith)
@@ -58,11 +58,11 @@ module _ (v k : ℕ) where
   -- the word of an unused slot, and a repeat's count
   unused-is-0 : (word : ℕ) → fits v k unused word ≡ true → word ≡ 0
   unfolding fits
-  unused-is-0 word e = eqb→eq word 0 (T-of e)
+  unused-is-0 word e = eqb-tells word 0 .0 e
 
   pub turns-above-0 : (word : ℕ) → fits v k turns word ≡ true → suc (pred word) ≡ word
   unfolding fits
-  turns-above-0 word e = let h = leb→le 1 word (T-of (both (leb 1 word) _ e .0)) in omega arith
+  turns-above-0 word e = omega (arith, leb-tells 1 word .0 (both (leb 1 word) _ e .0))
 
 -- what a kind's words have to say of the row, if they fit
 abbrev Says : (v k : ℕ) → Option Kind → Row → Type 0
@@ -73,21 +73,30 @@ module _ (v k d a b : ℕ) where
   abbrev rowOfKind : ℕ → Row
   rowOfKind n = record { kind = n; d = d; a = a; b = b }
 
+  fitting : (n : ℕ) {kind : Kind} → kindOf n ≡ some kind
+      → (fits v k (kind .d) d ≡ true → fits v k (kind .a) a ≡ true → fits v k (kind .b) b ≡ true → sheetRowOf (kind .means d a b) ≡ rowOfKind n)
+      → Says v k (some kind) (rowOfKind n)
+  fitting n is says fit = let h = each-fits v k _ _ fit in says (h .0) (h .1) (h .2)
+
   says : (n : ℕ) → Says v k (kindOf n) (rowOfKind n)
   unfolding kindOf sheetRowOf
-  says zero = tt
-  says (suc zero) = λ fit. let h = each-fits v k _ _ fit in rw (unused-is-0 v k b (h .2))
-  says (suc (suc zero)) = λ fit. let h = each-fits v k _ _ fit in rw (unused-is-0 v k b (h .2))
-  says (suc (suc (suc zero))) = λ fit. refl
-  says (suc (suc (suc (suc zero)))) = λ fit. refl
-  says (suc (suc (suc (suc (suc zero))))) = λ fit. refl
-  says (suc (suc (suc (suc (suc (suc zero)))))) = λ fit. let h = each-fits v k _ _ fit in rw (unused-is-0 v k b (h .2))
-  says (suc (suc (suc (suc (suc (suc (suc zero))))))) = λ fit. let h = each-fits v k _ _ fit in rw (unused-is-0 v k d (h .0))
-  says (suc (suc (suc (suc (suc (suc (suc (suc zero)))))))) = λ fit. let h = each-fits v k _ _ fit in rw (unused-is-0 v k d (h .0), unused-is-0 v k a (h .1), unused-is-0 v k b (h .2))
-  says (suc (suc (suc (suc (suc (suc (suc (suc (suc zero))))))))) = λ fit. let h = each-fits v k _ _ fit in rw (unused-is-0 v k d (h .0), unused-is-0 v k a (h .1), unused-is-0 v k b (h .2))
-  says (suc (suc (suc (suc (suc (suc (suc (suc (suc (suc zero)))))))))) = λ fit. let h = each-fits v k _ _ fit in rw (unused-is-0 v k d (h .0), turns-above-0 v k a (h .1), unused-is-0 v k b (h .2))
-  says (suc (suc (suc (suc (suc (suc (suc (suc (suc (suc (suc zero))))))))))) = λ fit. let h = each-fits v k _ _ fit in rw (unused-is-0 v k d (h .0), unused-is-0 v k a (h .1), unused-is-0 v k b (h .2))
-  says (suc (suc (suc (suc (suc (suc (suc (suc (suc (suc (suc (suc n)))))))))))) = tt
+  says =
+      each-kind (λ n o. Says v k o (rowOfKind n)) (λ n. tt)
+      (fitting 1 refl (λ p q r. rw (zero b r))
+      then fitting 2 refl (λ p q r. rw (zero b r))
+      then fitting 3 refl (λ p q r. refl)
+      then fitting 4 refl (λ p q r. refl)
+      then fitting 5 refl (λ p q r. refl)
+      then fitting 6 refl (λ p q r. rw (zero b r))
+      then fitting 7 refl (λ p q r. rw (zero d p))
+      then fitting 8 refl (λ p q r. rw (zero d p, zero a q, zero b r))
+      then fitting 9 refl (λ p q r. rw (zero d p, zero a q, zero b r))
+      then fitting 10 refl (λ p q r. rw (zero d p, turns-above-0 v k a q, zero b r))
+      then fitting 11 refl (λ p q r. rw (zero d p, zero a q, zero b r))
+      then end)
+    where
+      zero : (word : ℕ) → fits v k unused word ≡ true → word ≡ 0
+      zero = unused-is-0 v k
 
 pub row-back : (v k : ℕ) (r : Row) (kind : Kind) → kindOf (r .kind) ≡ some kind → wordsFit v k kind r ≡ true
     → sheetRowOf (kind .means (r .d) (r .a) (r .b)) ≡ r

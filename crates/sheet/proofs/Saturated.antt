@@ -15,10 +15,6 @@ pub saturated-sum : (a b : ℕ) → saturated (saturated a + b) ≡ saturated (a
 unfolding saturated
 saturated-sum a b = omega arith
 
-pub saturated-sum-right : (a b : ℕ) → saturated (a + saturated b) ≡ saturated (a + b)
-unfolding saturated
-saturated-sum-right a b = omega arith
-
 pub saturated-larger : (a b c : ℕ) → saturated (a + (1 + max (saturated b) (saturated c))) ≡ saturated (a + (1 + max b c))
 unfolding saturated
 saturated-larger a b c = omega arith

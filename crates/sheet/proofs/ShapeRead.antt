@@ -1,6 +1,6 @@
 -- What words come to, judgement after judgement: the refusal of the first that fails, or the shape.
-use Prim.Native.Nat.{ℕ, zero, suc, _+_, _*_, _≤_, _<_}
-use mathlib.Core.Path.{_≡_, refl, ap}
+use Prim.Native.Nat.{ℕ, suc, _+_, _*_, _≤_, _<_}
+use mathlib.Core.Path.{_≡_, sym}
 use mathlib.Core.List.{List, []}
 use lib.ListN.{length, take, drop}
 use borrow.Author.Tests.{le-leb, lt-leb}
@@ -16,19 +16,15 @@ use Rattle.sheet.specs.Answers.{said, shapeOf, shapeRead}
 use Rattle.sheet.specs.inner.Steps.{CountsJudged, saturated, bodyRun, finishOf}
 use Rattle.sheet.specs.declared.Counts.{Counts}
 use Rattle.sheet.specs.declared.Shape.{Shape}
-use Rattle.sheet.proofs.ReadingParts.{bound, same-given}
+use Rattle.sheet.proofs.RowsCounted.{rows-counted}
+use Rattle.sheet.proofs.ReadingParts.{not-given, bound, same-given}
 use Rattle.sheet.proofs.NamesPresent.{Counted, count-judged, section-length}
 
 -- a body that is refused, and one that isn't, by what its W comes to
 body-refused : (answer : Answer (Tree Assignment Test)) (r : Refusal)
     → (answer >>= λ tree. given (saturated (longestRun tree))) ≡ refused r → answer ≡ refused r
 body-refused (refused why) r e = cc
-body-refused (given t) r e = let z : _≡_ {A = ℕ} 0 1 = cc in absurd (omega arith)
-
-pub rows-counted : (words : List ℕ) (place n : ℕ) → length (rowsAt words place n) ≡ n
-unfolding rowsAt
-rows-counted words place zero = refl
-rows-counted words place (suc n) = ap suc (rows-counted words (place + limit .rowWords) n)
+body-refused (given t) r e = not-given (sym e)
 
 -- ---- up to the rows
 

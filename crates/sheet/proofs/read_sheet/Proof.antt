@@ -82,7 +82,8 @@ finish-requires c κs = search needs
 returns-3 : tie.Need-returns-3
 returns-3 c =
     let decided = c .before .before .before in
-    let run = sym (decided .before .before .rows-read .ensures) ∙ ap bodySaid (decided .longest .given .1) ∙ ap given (sym (c .before .wide .ensures .0)) in
+    let longest = ap bodySaid (decided .longest .given .1) ∙ ap given (sym (c .before .wide .ensures .0)) in
+    let run = sym (decided .before .before .rows-read .ensures) ∙ longest in
     ap said (c .finish .ensures) ∙ finish-says (judged (atCounts (c .before))) _ run
 
 pub read-sheet-spec : {M : Type 1} → statement M
