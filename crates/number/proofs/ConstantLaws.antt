@@ -8,7 +8,7 @@ use borrow.Author.Tests.{lt-ltb, le-ltb}
 use lib.Dec.{T}
 use lib.IntN.{ℤ, pos, negsuc, negℤ, natAbs, subℕ}
 use lib.Signed.{mag}
-use lib.Ieee.{Float, nan, inf, fin, binary64, ofInt, toBits, fits}
+use lib.Ieee.{Float, binary64, ofInt, toBits, fits}
 use lib.Ieee.Back.{round-whole, whole-unique}
 use lib.Ieee.Exact.{HasValue}
 use lib.Ieee.Fits.{ofInt-fits}
@@ -118,14 +118,6 @@ pub double-only : (w : ℕ) → w < 65536 → (x : Float) → T (fits binary64 x
 double-only w below x fit is =
     whole-unique binary64 x (ofInt binary64 (signed w)) (negative (signed w)) (natAbs (signed w)) fit
     (ofInt-fits binary64 (signed w)) is (double-exact w below)
-
-number-finite : (x : Float) (z : ℤ) → Is x z → true ≡ doubles .admits x
-number-finite nan z is = absurd is
-number-finite (inf s) z is = absurd is
-number-finite (fin s m e) z is = refl
-
-pub double-admitted : (w : ℕ) → w < 65536 → true ≡ doubles .admits (doubles .constant (signed w))
-double-admitted w below = number-finite (doubles .constant (signed w)) (signed w) (double-exact w below)
 
 abbrev bitsOf : ℕ → ℕ
 bitsOf w = toBits binary64 (doubles .constant (signed w))

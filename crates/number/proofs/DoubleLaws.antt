@@ -1,12 +1,12 @@
 -- A result is the finite double or a stop, by its place between the infinities; negation turns the sign bit alone.
 use Prim.Native.Nat.{ℕ, _+_, _%_, _^_}
-use mathlib.Core.Path.{_≡_, refl, sym, ap, _∙_}
+use mathlib.Core.Path.{_≡_, refl, sym}
 use mathlib.Core.Bool.{true, false}
 use native.Mathlib.Omega.{arith}
 use lib.Dec.{T}
 use lib.IntN.{ℤ}
 use lib.Ieee.{Float, nan, inf, fin, binary64, lt, neg, add, sub, mul, fits, toBits, ofBits}
-use lib.Ieee.Bits.{toBits-lt, ofBits-toBits}
+use lib.Ieee.Bits.{toBits-lt}
 use lib.Ieee.Fits.{neg-fits}
 use Rattle.number.specs.Arithmetic.{value, stop}
 use Rattle.number.specs.Doubles.{doubles, finite, finiteOrStop, notFinite}
@@ -45,14 +45,6 @@ stop-when-not nan not = refl
 stop-when-not (inf s) not = refl
 stop-when-not (fin s m e) not = cc
 
--- what an operation hands on is its rounded result, and finite
-pub value-is-finite : (x z : Float) → finiteOrStop x ≡ value z → (z ≡ x) × (finite z ≡ true)
-value-is-finite nan z is = (cc, cc)
-value-is-finite (inf s) z is = (cc, cc)
-value-is-finite (fin s m e) z is =
-    let same : z ≡ fin s m e = cc in
-    (same, ap finite same)
-
 -- a NaN and both infinities
 pub not-finite : (doubles .admits nan ≡ false) × (doubles .admits (inf false) ≡ false) × (doubles .admits (inf true) ≡ false)
 not-finite = (refl, refl, refl)
@@ -65,10 +57,6 @@ answers-coincide Stop (Value y) same = cc
 answers-coincide Stop Stop same = refl
 
 -- ---- bit for bit
-
--- a double is its bits, so an equation of doubles fixes each of them
-pub same-bits : (x y : Float) → T (fits binary64 x) → T (fits binary64 y) → toBits binary64 x ≡ toBits binary64 y → x ≡ y
-same-bits x y fx fy same = sym (ofBits-toBits binary64 x fx) ∙ ap (ofBits binary64) same ∙ ofBits-toBits binary64 y fy
 
 abbrev double : ℕ → Float
 double = ofBits binary64

@@ -1,12 +1,11 @@
 -- The ring laws of residues modulo 2^32, each stated through `residue`: what is reduced early may as well be reduced late.
-use Prim.Native.Nat.{ℕ, zero, suc, _+_, _-_, _*_, _/_, _%_, _^_, _<_}
+use Prim.Native.Nat.{ℕ, _+_, _-_, _*_, _/_, _%_, _^_, _<_}
 use mathlib.Core.Path.{_≡_, refl, sym, ap, _∙_}
-use native.Mathlib.Nat.{add-comm, add-assoc, add-zero, mul-comm, mul-assoc, mul-add, add-mul, mul-one, mul-zero, zero-mul}
+use native.Mathlib.Nat.{add-comm, add-assoc, add-zero, mul-comm, mul-assoc, mul-add, mul-one}
 use native.Mathlib.Nat.{add-mul-mod-self-left, div-add-mod, le-of-lt, lt-of-le-of-lt, mul-le-mul-left, mul-lt-mul-of-pos-right}
 use native.Mathlib.Omega.{arith}
-use lib.IntN.{ℤ, pos, negsuc, negℤ}
 use lib.Pow.{pow-pos, pow-add}
-use Rattle.number.specs.Residues.{modulus, residue, opposite, residueOf}
+use Rattle.number.specs.Residues.{modulus, residue, opposite}
 
 pub residue-below : (x : ℕ) → residue x < modulus
 unfolding residue
@@ -15,10 +14,6 @@ residue-below x = omega arith
 pub residue-same : (x : ℕ) → x < modulus → residue x ≡ x
 unfolding residue
 residue-same x h = omega arith
-
-pub residue-twice : (x : ℕ) → residue (residue x) ≡ residue x
-unfolding residue
-residue-twice x = omega arith
 
 pub residue-zero : residue 0 ≡ 0
 unfolding residue
@@ -52,18 +47,9 @@ product-below k {a} {b} ha hb = rw pow-add (lt-of-le-of-lt (mul-le-mul-left a (l
 
 -- ---- opposites
 
-pub opposite-below : (x : ℕ) → opposite x < modulus
-unfolding opposite
-opposite-below x = omega arith
-
 pub opposite-of-residue : (x : ℕ) → x < modulus → residue (modulus - x) ≡ opposite x
 unfolding opposite
 opposite-of-residue x h = rw (residue-same x h)
-
--- to add the opposite is to subtract: adding back gives what was there
-pub opposite-subtracts : (a b : ℕ) → residue (residue (a + opposite b) + b) ≡ residue a
-unfolding opposite
-opposite-subtracts a b = omega arith
 
 -- −1 times x is −x
 pub opposite-of-one : (a x : ℕ) → residue (a + opposite 1 * x) ≡ residue (a + opposite x)
@@ -93,40 +79,6 @@ sum-with-zero a = ap residue (add-zero a)
 pub product-with-one : (a : ℕ) → residue (a * 1) ≡ residue a
 product-with-one a = ap residue (mul-one a)
 
-pub product-with-zero : (a : ℕ) → residue (a * 0) ≡ 0
-product-with-zero a = ap residue (mul-zero a) ∙ residue-zero
-
 pub sum-with-opposite : (a : ℕ) → residue (a + opposite a) ≡ 0
 unfolding opposite
 sum-with-opposite a = omega arith
-
-pub opposite-twice : (a : ℕ) → opposite (opposite a) ≡ residue a
-unfolding opposite
-opposite-twice a = omega arith
-
--- what gives 0 with b is b's opposite
-pub opposite-only : (a b : ℕ) → residue (a + b) ≡ 0 → residue a ≡ opposite b
-unfolding opposite
-opposite-only a b zero-sum = omega arith
-
-pub opposite-product : (a b : ℕ) → residue (opposite a * b) ≡ opposite (a * b)
-opposite-product a b =
-    opposite-only (opposite a * b) (a * b)
-    (ap residue (sym (add-mul (opposite a) a b))
-    ∙ sym (residue-product-left (opposite a + a) b)
-    ∙ ap (λ x. residue (x * b)) (sum-commutes (opposite a) a ∙ sum-with-opposite a)
-    ∙ ap residue (zero-mul b)
-    ∙ residue-zero)
-
--- ---- constants
-
-pub residueOf-below : (z : ℤ) → residueOf z < modulus
-unfolding residueOf
-residueOf-below (pos n) = residue-below n
-residueOf-below (negsuc n) = opposite-below (suc n)
-
-pub residueOf-negated : (z : ℤ) → residueOf (negℤ z) ≡ opposite (residueOf z)
-unfolding residueOf opposite
-residueOf-negated (pos zero) = refl
-residueOf-negated (pos (suc n)) = omega arith
-residueOf-negated (negsuc n) = omega arith
