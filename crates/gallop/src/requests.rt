@@ -1,5 +1,4 @@
 // The requests of the program's lines: each is read, handed to the library's call and answered.
-ghost use Prim.Native.Nat.{_<_};
 ghost use Rattle.gallop.specs.Lines.{Taken};
 use super::answers;
 use super::answers::MAX_ANSWER;
@@ -133,15 +132,9 @@ fn check_answer(words: &[u16], out: &mut [u8; MAX_ANSWER]) -> usize {
     answers::put_kept(out, used, true)
 }
 
-fn wide(word: u16) -> usize
-    ensures { λ r. ⌜ r < 65536 ⌝ }
-{
-    word as usize
-}
-
 // How many words the table is that a buffer begins with.
 fn table_words(table: &[u16; TABLE_WORDS]) -> usize {
-    let rows = wide(table[0]);
+    let rows = sheet::wide(table[0]);
     1 + sheet::ROW_WORDS * rows
 }
 

@@ -1,6 +1,6 @@
 // The rows of blocks but for the comparison, which no arithmetic has a part in. `next` is the place of the row after the one at hand.
 ghost use mathlib.Core.Path.{_≡_};
-ghost use Prim.Native.Nat.{suc, _<_};
+ghost use Prim.Native.Nat.{suc};
 ghost use Rattle.number.specs.Doubles.{doubles};
 ghost use Rattle.number.specs.Residues.{residues};
 ghost use Rattle.sheet.specs.Answers.{rowSaid};
@@ -14,12 +14,7 @@ use sheet::MAX_DEPTH;
 use sheet::RowNumber;
 use sheet::RowWords;
 use sheet::kinds;
-
-fn wide(x: u16) -> usize
-    ensures { λ r. ⌜ (r ≡ x) × (r < 65536) ⌝ }
-{
-    x as usize
-}
+use sheet::wide;
 
 fn moved(place: Place, at: usize) -> Place
     ensures { λ r. ⌜ r ≡ moved place at ⌝ }
