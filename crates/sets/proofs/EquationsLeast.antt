@@ -283,16 +283,10 @@ module _ (v points : ℕ) (es : List Equation) (proper : Proper v points es) whe
   unfolding least
   least-kept = settled-keeps (Kept v points es) es round-kept (suc (points * v)) (replicate points empty) start-kept
 
-  pub least-length : length (least v points es) ≡ points
-  least-length = least-kept .long
-
-  pub least-below : (p : ℕ) → setAt (least v points es) p < 2 ^ v
-  least-below = least-kept .below
-
   least-ahead : (e : Equation) → e ∈ es → rightSide e (setAt (least v points es)) ⊆ setAt (least v points es) (pointOf e)
   unfolding least
   least-ahead =
-      round-ahead es (λ e m. m) (least v points es) least-length
+      round-ahead es (λ e m. m) (least v points es) (least-kept .long)
       (settled-stops (suc (points * v)) (replicate points empty) start-kept (omega arith))
 
   least-inside : (at : ℕ → VariableSet) → Satisfy es at → Within (setAt (least v points es)) at

@@ -3,6 +3,7 @@ pub mod Truths
 pub mod VariableSetLaws
 pub mod VariableSetSizes
 pub mod TransferLaws
+pub mod LinesByKind
 pub mod RowWordLaws
 pub mod GrowthLaws
 pub mod RightSides

@@ -1,94 +1,80 @@
--- The byte of a row's marks: how the code adds it up, what is read back of it, and a list of them.
+-- The byte of a row's marks: what is read back of it, and a list of them.
 use Prim.Native.Nat.{ℕ, zero, suc, _+_, _*_, _/_, _%_, _≤_, _<_}
 use native.Mathlib.Omega.{arith}
+use native.Mathlib.Numerals.{add-one}
 use native.Mathlib.Decide.{ℕ-discrete}
-use mathlib.Core.Path.{_≡_, refl, sym, ap, subst, _∙_}
-use mathlib.Core.Bool.{Bool, true, false}
+use mathlib.Core.Path.{_≡_, refl, sym, ap, _∙_}
+use mathlib.Core.Bool.{Bool, true, false, cond}
 use mathlib.Core.List.{List}
-use mir.Val.{boolByte}
 use lib.ListN.{length, getD, set, length-set}
 use lib.Dec.{eqb}
 use lib.Seq.{getD-set-same, getD-set-other, set-comm, set-set}
 use Rattle.sheet.specs.Tree.{basic, ifLine, elseLine, endIf, repeat, endRepeat}
-use Rattle.sheet.specs.Rows.{_≔_, less, SheetLine, Row, rowOfAssignment, sheetRowOf}
-use Rattle.sets.specs.VariableSets.{VariableSet, has}
+use Rattle.sheet.specs.Rows.{SheetLine, Row, sheetRowOf}
+use Rattle.sets.specs.VariableSets.{VariableSet}
 use Rattle.sets.specs.Equations.{setAt}
 use Rattle.sets.specs.inner.RowWords.{Gives}
-use Rattle.sets.specs.Transfers.{Activity, activityOf, recordedBy}
+use Rattle.sets.specs.Transfers.{Activity}
 use Rattle.sets.specs.Marks.{markBy}
-use Rattle.sets.specs.inner.MarkBytes.{bit, byteBy, byteAt, written}
-use Rattle.sets.proofs.RightSides.{row-of-assignment}
+use Rattle.sets.specs.inner.MarkBytes.{weight, weightIf, byteBy, bitOf, byteAt, byteFor, written}
+use Rattle.sets.proofs.LinesByKind.{assignment-kind, ByKind, assigns, inBlock, by-kind}
 
-pub byte-of : (b : Bool) → (boolByte b ≡ bit b) × (boolByte b < 2)
-byte-of true = (refl, omega arith)
-byte-of false = (refl, omega arith)
+-- ---- the marks read back
 
-pub bytes-of : (x y z w : Bool) (known : Activity) (saved : Bool) → x ≡ known .variedA → y ≡ known .variedB → z ≡ known .active → w ≡ saved
-    → 1 * boolByte x + 2 * boolByte y + 4 * boolByte z + 8 * boolByte w ≡ byteBy known saved
-bytes-of x y z w known saved a b c d =
-    omega (arith, byte-of x .0, byte-of y .0, byte-of z .0, byte-of w .0, ap bit a, ap bit b, ap bit c, ap bit d)
+pub record ReadBack (byte : ℕ) (known : Activity) (recorded : Bool) : Type 0 where
+  pub variedA : bitOf byte (weight .variedA) ≡ known .variedA
+  pub variedB : bitOf byte (weight .variedB) ≡ known .variedB
+  pub active : bitOf byte (weight .active) ≡ known .active
+  pub saved : bitOf byte (weight .saved) ≡ recorded
 
--- each mark read back of the byte, by its weight
-pub record ReadBack (known : Activity) (recorded : Bool) : Type 0 where
-  pub variedA : eqb (byteBy known recorded / 1 % 2) 1 ≡ known .variedA
-  pub variedB : eqb (byteBy known recorded / 2 % 2) 1 ≡ known .variedB
-  pub active : eqb (byteBy known recorded / 4 % 2) 1 ≡ known .active
-  pub saved : eqb (byteBy known recorded / 8 % 2) 1 ≡ recorded
+bit : Bool → ℕ
+bit b = cond b 1 0
 
-bit-back : (b : Bool) (digit : ℕ) → digit ≡ bit b → eqb digit 1 ≡ b
-bit-back true digit e = rw e
-bit-back false digit e = rw e
+-- a mark counts its weight or nothing
+record Counts (b : Bool) (w : ℕ) : Type 0 where
+  is : weightIf b w ≡ w * bit b
+  small : bit b ≤ 1
+  back : (digit : ℕ) → digit ≡ bit b → eqb digit 1 ≡ b
 
-bit-small : (b : Bool) → bit b ≤ 1
-bit-small true = omega arith
-bit-small false = omega arith
+counts : (b : Bool) (w : ℕ) → Counts b w
+unfolding bit
+counts true w = record { is = omega arith; small = omega arith; back = λ digit e. rw e }
+counts false w = record { is = omega arith; small = omega arith; back = λ digit e. rw e }
 
-pub read-back : (known : Activity) (recorded : Bool) → ReadBack known recorded
+pub read-back : (known : Activity) (recorded : Bool) → ReadBack (byteBy known recorded) known recorded
 read-back known recorded =
-    let a = bit-small (known .variedA) in
-    let b = bit-small (known .variedB) in
-    let c = bit-small (known .active) in
-    let d = bit-small recorded in
+    let a = counts (known .variedA) (weight .variedA) in
+    let b = counts (known .variedB) (weight .variedB) in
+    let c = counts (known .active) (weight .active) in
+    let d = counts recorded (weight .saved) in
     record {
-      variedA = bit-back (known .variedA) (byteBy known recorded / 1 % 2) (omega arith);
-      variedB = bit-back (known .variedB) (byteBy known recorded / 2 % 2) (omega arith);
-      active = bit-back (known .active) (byteBy known recorded / 4 % 2) (omega arith);
-      saved = bit-back recorded (byteBy known recorded / 8 % 2) (omega arith);
+      variedA = a .back (byteBy known recorded / weight .variedA % 2) (omega arith);
+      variedB = b .back (byteBy known recorded / weight .variedB % 2) (omega arith);
+      active = c .back (byteBy known recorded / weight .active % 2) (omega arith);
+      saved = d .back (byteBy known recorded / weight .saved % 2) (omega arith);
     }
-
-pub active-back : (known : Activity) (saved : Bool) → has (byteBy known saved) 2 ≡ known .active
-unfolding has
-active-back known saved = read-back known saved .active
 
 -- ---- by the cases that the code tells apart
 
-module _ (varied useful required : List VariableSet) (p kind d a b : ℕ) where
-  abbrev words : Row
-  words = record { kind = kind; d = d; a = a; b = b }
-
-  pub no-byte : (l : SheetLine) → sheetRowOf l ≡ words → 6 < kind → 0 ≡ byteAt varied useful required p l
+module _ (varied useful required : List VariableSet) (p : ℕ) (row : Row) where
+  pub no-byte : (l : SheetLine) → sheetRowOf l ≡ row → 6 < row .kind → 0 ≡ byteAt varied useful required p l
   unfolding sheetRowOf byteAt
-  no-byte (basic (d′ ≔ source)) e h = absurd (omega (arith, row-of-assignment d′ source, ap (λ row. row .kind) e))
+  no-byte (basic b) e h = absurd (omega (arith, assignment-kind b, ap (λ row. row .kind) e))
   no-byte (ifLine f) e h = refl
   no-byte elseLine e h = refl
   no-byte endIf e h = refl
   no-byte (repeat m) e h = refl
   no-byte endRepeat e h = refl
 
-  pub some-byte : (r : ℕ) (l : SheetLine) → sheetRowOf l ≡ words → kind ≤ 6
-      → Gives kind d a b r
-      (λ source. let known = activityOf (d ≔ source) (setAt varied p) (setAt useful (p + 1)) in byteBy known (recordedBy (d ≔ source) known (setAt required p)))
-      → r ≡ byteAt varied useful required p l
+  -- an assignment's, by the three sets that were read
+  pub some-byte : (r v u s : ℕ) (said : Row) (l : SheetLine) → sheetRowOf l ≡ row → row .kind ≤ 6 → said ≡ row → v ≡ setAt varied p
+      → u ≡ setAt useful (p + 1) → s ≡ setAt required p → Gives said r (byteFor v u s) → r ≡ byteAt varied useful required p l
   unfolding sheetRowOf byteAt markBy
-  some-byte r (basic (d′ ≔ source)) e h gives =
-      let target : d′ ≡ d = sym (row-of-assignment d′ source .0) ∙ ap (λ row. row .d) e in
-      let next : suc p ≡ p + 1 = omega arith in
-      gives source (subst (λ x. rowOfAssignment (x ≔ source) ≡ words) target e) ∙ rw (sym target, sym next)
-  some-byte r (ifLine (less x y)) e h gives = absurd (omega (arith, ap (λ row. row .kind) e))
-  some-byte r elseLine e h gives = absurd (omega (arith, ap (λ row. row .kind) e))
-  some-byte r endIf e h gives = absurd (omega (arith, ap (λ row. row .kind) e))
-  some-byte r (repeat m) e h gives = absurd (omega (arith, ap (λ row. row .kind) e))
-  some-byte r endRepeat e h gives = absurd (omega (arith, ap (λ row. row .kind) e))
+  some-byte r v u s said l e h is before after needed gives = go (by-kind l)
+    where
+      go : ByKind l → r ≡ byteAt varied useful required p l
+      go (assigns b line below) = gives b (ap sheetRowOf (sym line) ∙ e ∙ sym is) ∙ rw (line, before, after, needed, add-one p)
+      go (inBlock from upto) = absurd (omega (arith, ap (λ row. row .kind) e))
 
 -- ---- a list written from the start
 

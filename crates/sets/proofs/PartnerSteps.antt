@@ -1,16 +1,14 @@
 -- What a row of each kind does to the partners, by the cases that the code tells apart.
 use Prim.Native.Nat.{ℕ, _≤_, _<_}
 use native.Mathlib.Omega.{arith}
-use mathlib.Core.Path.{_≡_, refl, sym}
+use mathlib.Core.Path.{_≡_, refl, _∙_}
 use mathlib.Core.Bool.{Bool, true, false, _||_}
 use mathlib.Core.Logic.{_≢_, _⊎_, inl, inr}
 use lib.ListN.{getD, set}
 use lib.Dec.{eqb, eqb→eq}
-use Rattle.sheet.specs.Tree.{basic, ifLine, elseLine, endIf, repeat, endRepeat}
-use Rattle.sheet.specs.Rows.{_≔_, less, sheetRowOf}
 use Rattle.sets.specs.inner.Partners.{Found, FoundBy, foundAt}
 use Rattle.sets.proofs.Truths.{T-of}
-use Rattle.sets.proofs.RightSides.{row-of-assignment}
+use Rattle.sets.proofs.LinesByKind.{ByKind, assigns, inBlock, by-kind, if-line, else-line, end-if-line, repeat-line, end-repeat-line}
 
 -- the code's test for "if" and "repeat"
 pub opening : (k : ℕ) → (eqb k 7 || eqb k 10) ≡ true → (k ≡ 7) ⊎ (k ≡ 10)
@@ -27,53 +25,33 @@ not-opening k h =
 
 module _ (kind p : ℕ) (s : Found) where
   pub opened : (kind ≡ 7) ⊎ (kind ≡ 10) → FoundBy kind p s (record { top = p; came = s .came; goes = set (s .goes) p (s .top) })
-  unfolding sheetRowOf foundAt
-  opened h (ifLine (less x y)) e = refl
-  opened h (repeat m) e = refl
-  opened (inl h) (basic (d ≔ source)) e = absurd (omega (arith, row-of-assignment d source))
-  opened (inr h) (basic (d ≔ source)) e = absurd (omega (arith, row-of-assignment d source))
-  opened (inl h) elseLine e = absurd (omega arith)
-  opened (inr h) elseLine e = absurd (omega arith)
-  opened (inl h) endIf e = absurd (omega arith)
-  opened (inr h) endIf e = absurd (omega arith)
-  opened (inl h) endRepeat e = absurd (omega arith)
-  opened (inr h) endRepeat e = absurd (omega arith)
+  unfolding foundAt
+  opened (inl h) l e = rw (if-line l (e ∙ h))
+  opened (inr h) l e = rw (repeat-line l (e ∙ h))
 
   pub passed-by : kind < 8 → kind ≢ 7 → FoundBy kind p s s
-  unfolding sheetRowOf foundAt
-  passed-by h k (basic (d ≔ source)) e = refl
-  passed-by h k (ifLine (less x y)) e = absurd (k (sym e))
-  passed-by h k elseLine e = absurd (omega arith)
-  passed-by h k endIf e = absurd (omega arith)
-  passed-by h k (repeat m) e = absurd (omega arith)
-  passed-by h k endRepeat e = absurd (omega arith)
+  unfolding foundAt
+  passed-by h k l e = go (by-kind l)
+    where
+      go : ByKind l → s ≡ foundAt l p s
+      go (assigns b is below) = rw is
+      go (inBlock from upto) = absurd (omega arith)
 
   pub repeat-ended : kind ≡ 11
       → FoundBy kind p s (record { top = getD (s .goes) (s .top) 0; came = set (s .came) (s .top) p; goes = set (s .goes) p (s .top) })
-  unfolding sheetRowOf foundAt
-  repeat-ended h (basic (d ≔ source)) e = absurd (omega (arith, row-of-assignment d source))
-  repeat-ended h (ifLine (less x y)) e = absurd (omega arith)
-  repeat-ended h elseLine e = absurd (omega arith)
-  repeat-ended h endIf e = absurd (omega arith)
-  repeat-ended h (repeat m) e = absurd (omega arith)
-  repeat-ended h endRepeat e = refl
+  unfolding foundAt
+  repeat-ended h l e = rw (end-repeat-line l (e ∙ h))
 
   pub split : kind ≡ 8
       → FoundBy kind p s (record { top = p; came = set (s .came) p (s .top); goes = set (set (s .goes) (s .top) p) p (getD (s .goes) (s .top) 0) })
-  unfolding sheetRowOf foundAt
-  split h (basic (d ≔ source)) e = absurd (omega (arith, row-of-assignment d source))
-  split h (ifLine (less x y)) e = absurd (omega arith)
-  split h elseLine e = refl
-  split h endIf e = absurd (omega arith)
-  split h (repeat m) e = absurd (omega arith)
-  split h endRepeat e = absurd (omega arith)
+  unfolding foundAt
+  split h l e = rw (else-line l (e ∙ h))
 
   pub if-ended : 8 ≤ kind → kind ≢ 8 → kind ≢ 10 → kind ≢ 11
       → FoundBy kind p s (record { top = getD (s .goes) (s .top) 0; came = set (s .came) p (s .top); goes = set (s .goes) (s .top) p })
-  unfolding sheetRowOf foundAt
-  if-ended h x y z (basic (d ≔ source)) e = absurd (omega (arith, row-of-assignment d source))
-  if-ended h x y z (ifLine (less v w)) e = absurd (omega arith)
-  if-ended h x y z elseLine e = absurd (x (sym e))
-  if-ended h x y z endIf e = refl
-  if-ended h x y z (repeat m) e = absurd (y (sym e))
-  if-ended h x y z endRepeat e = absurd (z (sym e))
+  unfolding foundAt
+  if-ended h x y z l e = go (by-kind l)
+    where
+      go : ByKind l → record { top = getD (s .goes) (s .top) 0; came = set (s .came) p (s .top); goes = set (s .goes) (s .top) p } ≡ foundAt l p s
+      go (assigns b is below) = absurd (omega arith)
+      go (inBlock from upto) = rw (end-if-line l (omega arith))

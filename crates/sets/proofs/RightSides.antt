@@ -2,30 +2,22 @@
 use Prim.Native.Nat.{ℕ, _+_, _≤_, _<_}
 use native.Mathlib.Omega.{arith}
 use native.Mathlib.Numerals.{add-one}
-use mathlib.Core.Path.{_≡_, refl, sym, ap, subst, _∙_}
+use mathlib.Core.Path.{_≡_, refl, sym, ap, _∙_}
 use mathlib.Core.Bool.{Bool, cond}
 use mathlib.Core.List.{List}
 use mathlib.Core.Logic.{_≢_}
 use lib.ListN.{getD}
 use lib.Bits.{or-comm}
 use Rattle.sheet.specs.Tree.{basic, ifLine, elseLine, endIf, repeat, endRepeat}
-use Rattle.sheet.specs.Rows.{Assignment, _≔_, Source, copy, fixed, sum, difference, product, negation, less, SheetLine, Row, rowOfAssignment, sheetRowOf, lineOfRow}
+use Rattle.sheet.specs.Rows.{Assignment, less, SheetLine, Row, sheetRowOf, lineOfRow}
 use Rattle.sets.specs.declared.Which.{Which}
 use Rattle.sets.specs.declared.Which.the-variants.{Varied, Useful, Required}
 use Rattle.sets.specs.VariableSets.{VariableSet, _∪_}
 use Rattle.sets.specs.Equations.{setAt, rightSide, pointOf}
 use Rattle.sets.specs.inner.RowWords.{Gives}
-use Rattle.sets.specs.inner.RowEquations.{equationOf, forwardOf, backwardOf, turnOf, ownPoint, settledPoint, joinsBy, RightSide, Given, rowIn, activeIn, equationIn}
-
--- an assignment's kind and target stand in its row
-pub row-of-assignment : (d : ℕ) (source : Source) → (rowOfAssignment (d ≔ source) .d ≡ d) × (rowOfAssignment (d ≔ source) .kind < 7)
-unfolding rowOfAssignment
-row-of-assignment d (copy a) = (refl, omega arith)
-row-of-assignment d (fixed c) = (refl, omega arith)
-row-of-assignment d (sum a b) = (refl, omega arith)
-row-of-assignment d (difference a b) = (refl, omega arith)
-row-of-assignment d (product a b) = (refl, omega arith)
-row-of-assignment d (negation a) = (refl, omega arith)
+use Rattle.sets.specs.inner.RowEquations.{equationOf, forwardOf, backwardOf, turnOf, ownPoint, settledPoint, joinsBy}
+use Rattle.sets.specs.inner.RowEquations.{RightSide, Given, rowIn, activeIn, equationIn}
+use Rattle.sets.proofs.LinesByKind.{assignment-kind, ByKind, assigns, inBlock, by-kind, else-line}
 
 module _ (which : Which) (active : Bool) (sets : List VariableSet) (p c : ℕ) where
   abbrev sideOf : SheetLine → VariableSet
@@ -55,7 +47,7 @@ block-side : (which : Which) (active : Bool) (sets : List VariableSet) (p c : �
     → cond (joinsBy which (sheetRowOf l .kind)) (own which active sets p c ∪ other which active sets p c) (own which active sets p c)
     ≡ sideOf which active sets p c l
 unfolding equationOf rightSide ownPoint joinsBy sheetRowOf
-block-side which active sets p c (basic (d ≔ source)) h k = absurd (omega (arith, row-of-assignment d source))
+block-side which active sets p c (basic b) h k = absurd (omega (arith, assignment-kind b))
 block-side Varied active sets p c (ifLine (less x y)) h k = refl
 block-side Useful active sets p c (ifLine (less x y)) h k = rw (add-one p, add-one c)
 block-side Required active sets p c (ifLine (less x y)) h k = refl
@@ -70,46 +62,36 @@ block-side Varied active sets p c endRepeat h k = refl
 block-side Useful active sets p c endRepeat h k = rw (add-one p, add-one c)
 block-side Required active sets p c endRepeat h k = refl
 
-module _ (which : Which) (active : Bool) (sets : List VariableSet) (p c kind d a b : ℕ) where
-  abbrev words : Row
-  words = record { kind = kind; d = d; a = a; b = b }
+module _ (which : Which) (active : Bool) (sets : List VariableSet) (p c : ℕ) (row : Row) where
+  abbrev IsSide : VariableSet → Type 0
+  IsSide r = RightSide which row active sets p c r
 
-  pub assigned : (r : ℕ) (l : SheetLine) → sheetRowOf l ≡ words → kind < 7
-      → Gives kind d a b r (λ source. turnOf which active (d ≔ source) (setAt sets (ownPoint which p))) → r ≡ rightSide (equationOf which active l p c) (setAt sets)
+  pub assigned : (r own : VariableSet) (said : Row) → own ≡ setAt sets (ownPoint which p) → said ≡ row → row .kind < 7
+      → Gives said r (λ b. turnOf which active b own) → IsSide r
   unfolding sheetRowOf
-  assigned r (basic (d′ ≔ source)) e h turned =
-      let target : d′ ≡ d = sym (row-of-assignment d′ source .0) ∙ ap (λ row. row .d) e in
-      turned source (subst (λ x. rowOfAssignment (x ≔ source) ≡ words) target e)
-      ∙ subst (λ x. turnOf which active (x ≔ source) (setAt sets (ownPoint which p)) ≡ sideOf which active sets p c (basic (d′ ≔ source))) target
-      (assigned-side which active sets p c (d′ ≔ source))
-  assigned r (ifLine (less x y)) e h turned = absurd (omega (arith, ap (λ row. row .kind) e))
-  assigned r elseLine e h turned = absurd (omega (arith, ap (λ row. row .kind) e))
-  assigned r endIf e h turned = absurd (omega (arith, ap (λ row. row .kind) e))
-  assigned r (repeat m) e h turned = absurd (omega (arith, ap (λ row. row .kind) e))
-  assigned r endRepeat e h turned = absurd (omega (arith, ap (λ row. row .kind) e))
+  assigned r own said o s h turned l e = go (by-kind l)
+    where
+      go : ByKind l → r ≡ sideOf which active sets p c l
+      go (assigns b is below) =
+          turned b (ap sheetRowOf (sym is) ∙ e ∙ sym s) ∙ ap (turnOf which active b) o ∙ rw is (assigned-side which active sets p c b)
+      go (inBlock from upto) = absurd (omega (arith, ap (λ row. row .kind) e))
 
-  pub at-else : (l : SheetLine) → sheetRowOf l ≡ words → kind ≡ 8 → setAt sets (ownPoint which c) ≡ rightSide (equationOf which active l p c) (setAt sets)
-  unfolding sheetRowOf
-  at-else (basic (d′ ≔ source)) e h = absurd (omega (arith, row-of-assignment d′ source, ap (λ row. row .kind) e))
-  at-else (ifLine (less x y)) e h = absurd (omega (arith, ap (λ row. row .kind) e))
-  at-else elseLine e h = else-side which active sets p c
-  at-else endIf e h = absurd (omega (arith, ap (λ row. row .kind) e))
-  at-else (repeat m) e h = absurd (omega (arith, ap (λ row. row .kind) e))
-  at-else endRepeat e h = absurd (omega (arith, ap (λ row. row .kind) e))
+  pub at-else : (other : VariableSet) → other ≡ setAt sets (ownPoint which c) → row .kind ≡ 8 → IsSide other
+  at-else other o h l e = o ∙ rw (else-line l (ap (λ row. row .kind) e ∙ h)) (else-side which active sets p c)
 
-  pub in-block : (l : SheetLine) → sheetRowOf l ≡ words → 7 ≤ kind → kind ≢ 8
-      → cond (joinsBy which kind) (setAt sets (ownPoint which p) ∪ setAt sets (ownPoint which c)) (setAt sets (ownPoint which p))
-      ≡ rightSide (equationOf which active l p c) (setAt sets)
-  in-block l e h k =
-      let kinds : sheetRowOf l .kind ≡ kind = ap (λ row. row .kind) e in
-      rw kinds at (block-side which active sets p c l (rw kinds h) (rw kinds k))
+  -- the other rows of blocks
+  pub in-block : (r own other : VariableSet) → own ≡ setAt sets (ownPoint which p) → other ≡ setAt sets (ownPoint which c) → 7 ≤ row .kind
+      → row .kind ≢ 8 → r ≡ cond (joinsBy which (row .kind)) (own ∪ other) own → IsSide r
+  in-block r own other o o′ h k is l e =
+      let kind : sheetRowOf l .kind ≡ row .kind = ap (λ row. row .kind) e in
+      rw (is, o, o′, sym kind) (block-side which active sets p c l (rw kind h) (rw kind k))
 
 -- ---- a row of the sheet
 
 -- what was found from a row's words, its mark and its partner is its equation's right side
 pub right-side-in : (which : Which) (given : Given) (p : ℕ) (sets : List VariableSet) (row : Row) (active : Bool) (c r : ℕ) → rowIn given p ≡ row
     → sheetRowOf (lineOfRow (rowIn given p)) ≡ rowIn given p → active ≡ activeIn given p → c ≡ getD (given .partners) p 0
-    → RightSide which (row .kind) (row .d) (row .a) (row .b) active sets p c r → r ≡ rightSide (equationIn which given p) (setAt sets)
+    → RightSide which row active sets p c r → r ≡ rightSide (equationIn which given p) (setAt sets)
 unfolding equationIn
 right-side-in which given p sets row active c r is says e f side =
     rw (sym e, sym f) (side (lineOfRow (rowIn given p)) (says ∙ is))

@@ -1,12 +1,13 @@
--- What the words of an assignment's row say of its reads and of its adjoint use.
-use Prim.Native.Nat.{ℕ}
+-- What the words of an assignment's row say of it: its target, its reads, its adjoint use, and so what it does to each of the three sets.
 use mathlib.Core.Path.{_≡_, refl, ap, subst, _∙_}
-use mathlib.Core.Bool.{Bool, true, false, _&&_, cond}
+use mathlib.Core.Bool.{Bool, true, false, _&&_, _||_, cond}
 use mathlib.Core.Option.{Option, none, some}
-use Rattle.sheet.specs.Rows.{Source, copy, fixed, sum, difference, product, negation, _≔_, rowOfAssignment}
-use Rattle.sets.specs.VariableSets.{VariableSet, empty, has, single, hasSome, singleSome}
-use Rattle.sets.specs.Transfers.{anyRead, firstRead, secondRead, reads, Activity, adjointUse}
-use Rattle.sets.specs.inner.RowWords.{Says, readsFirst, readsSecond, anyReadBy, readsBy, useBy}
+use Prim.Native.Nat.{ℕ}
+use Rattle.sheet.specs.Rows.{Assignment, Source, copy, fixed, sum, difference, product, negation, _≔_, Row, rowOfAssignment}
+use Rattle.sets.specs.VariableSets.{VariableSet, empty, has, _∪_, single, without, hasSome, singleSome}
+use Rattle.sets.specs.Transfers.{anyRead, firstRead, secondRead, reads, variedAfter, usefulBefore}
+use Rattle.sets.specs.Transfers.{Activity, activityOf, adjointUse, recordedBy, requiredAfter}
+use Rattle.sets.specs.inner.RowWords.{readsFirst, readsSecond, anyReadBy, readsBy, useBy}
 
 -- a variable, if it is read
 abbrev readIf : Bool → ℕ → Option ℕ
@@ -21,57 +22,93 @@ single-if : (read : Bool) (i : ℕ) → singleSome (readIf read i) ≡ cond read
 single-if true i = refl
 single-if false i = refl
 
-module _ (kind d a b : ℕ) (source : Source) (said : Says kind d a b source) where
-  reads-are : (firstRead source ≡ readIf (readsFirst kind) a) × (secondRead source ≡ readIf (readsSecond kind) b)
+-- what the definitions read of an assignment, by the words of its row
+record Read (d : ℕ) (source : Source) (row : Row) : Type 0 where
+  target : d ≡ row .d
+  first : firstRead source ≡ readIf (readsFirst (row .kind)) (row .a)
+  second : secondRead source ≡ readIf (readsSecond (row .kind)) (row .b)
+
+module _ (row : Row) (d : ℕ) (source : Source) (said : rowOfAssignment (d ≔ source) ≡ row) where
+  read-of : Read d source row
   unfolding rowOfAssignment firstRead secondRead
-  reads-are =
-      subst (λ r. (firstRead source ≡ readIf (readsFirst (r .kind)) (r .a)) × (secondRead source ≡ readIf (readsSecond (r .kind)) (r .b))) said (each source)
+  read-of = subst (Read d source) said (each source)
     where
-      each : (source : Source) → let r = rowOfAssignment (d ≔ source) in
-          (firstRead source ≡ readIf (readsFirst (r .kind)) (r .a)) × (secondRead source ≡ readIf (readsSecond (r .kind)) (r .b))
-      each (copy a) = (refl, refl)
-      each (fixed c) = (refl, refl)
-      each (sum a b) = (refl, refl)
-      each (difference a b) = (refl, refl)
-      each (product a b) = (refl, refl)
-      each (negation a) = (refl, refl)
+      each : (source : Source) → Read d source (rowOfAssignment (d ≔ source))
+      each (copy a) = record { target = refl; first = refl; second = refl }
+      each (fixed c) = record { target = refl; first = refl; second = refl }
+      each (sum a b) = record { target = refl; first = refl; second = refl }
+      each (difference a b) = record { target = refl; first = refl; second = refl }
+      each (product a b) = record { target = refl; first = refl; second = refl }
+      each (negation a) = record { target = refl; first = refl; second = refl }
 
--- a and b, if it reads them
-pub first-said : (s : VariableSet) (kind d a b : ℕ) (source : Source) → Says kind d a b source → hasSome s (firstRead source) ≡ (readsFirst kind && has s a)
-first-said s kind d a b source e = ap (hasSome s) (reads-are kind d a b source e .0) ∙ has-if s (readsFirst kind) a
+  first-read : (s : VariableSet) → hasSome s (firstRead source) ≡ (readsFirst (row .kind) && has s (row .a))
+  first-read s = ap (hasSome s) (read-of .first) ∙ has-if s (readsFirst (row .kind)) (row .a)
 
-pub second-said : (s : VariableSet) (kind d a b : ℕ) (source : Source) → Says kind d a b source → hasSome s (secondRead source) ≡ (readsSecond kind && has s b)
-second-said s kind d a b source e = ap (hasSome s) (reads-are kind d a b source e .1) ∙ has-if s (readsSecond kind) b
+  second-read : (s : VariableSet) → hasSome s (secondRead source) ≡ (readsSecond (row .kind) && has s (row .b))
+  second-read s = ap (hasSome s) (read-of .second) ∙ has-if s (readsSecond (row .kind)) (row .b)
 
-pub any-read-said : (s : VariableSet) (kind d a b : ℕ) (source : Source) → Says kind d a b source → anyRead s source ≡ anyReadBy s kind a b
-unfolding anyRead
-any-read-said s kind d a b source e = rw (first-said s kind d a b source e, second-said s kind d a b source e)
+  any-read : (s : VariableSet) → anyRead s source ≡ anyReadBy s row
+  unfolding anyRead
+  any-read s = rw (first-read s, second-read s)
 
-pub reads-said : (kind d a b : ℕ) (source : Source) → Says kind d a b source → reads source ≡ readsBy kind a b
-unfolding reads
-reads-said kind d a b source e =
-    let are = reads-are kind d a b source e in
-    rw (are .0, are .1, single-if (readsFirst kind) a, single-if (readsSecond kind) b)
+  all-reads : reads source ≡ readsBy row
+  unfolding reads
+  all-reads = rw (read-of .first, read-of .second, single-if (readsFirst (row .kind)) (row .a), single-if (readsSecond (row .kind)) (row .b))
 
-pub use-said : (kind d a b : ℕ) (source : Source) (known : Activity) → Says kind d a b source
-    → adjointUse source known ≡ useBy kind a b (known .active)
-unfolding rowOfAssignment adjointUse
-use-said kind d a b source known e =
-    subst (λ r. adjointUse source known ≡ useBy (r .kind) (r .a) (r .b) (known .active)) e (each source)
-  where
-    never : (x : Bool) (s : VariableSet) → empty ≡ cond (x && false) s empty
-    never true s = refl
-    never false s = refl
+  adjoint-use : (known : Activity) → adjointUse source known ≡ useBy row (known .active)
+  unfolding rowOfAssignment adjointUse
+  adjoint-use known = subst (λ r. adjointUse source known ≡ useBy r (known .active)) said (each source)
+    where
+      never : (x : Bool) (s : VariableSet) → empty ≡ cond (x && false) s empty
+      never true s = refl
+      never false s = refl
 
-    always : (x : Bool) (s : VariableSet) → cond x s empty ≡ cond (x && true) s empty
-    always true s = refl
-    always false s = refl
+      always : (x : Bool) (s : VariableSet) → cond x s empty ≡ cond (x && true) s empty
+      always true s = refl
+      always false s = refl
 
-    each : (source : Source) → let r = rowOfAssignment (d ≔ source) in
-        adjointUse source known ≡ useBy (r .kind) (r .a) (r .b) (known .active)
-    each (copy a) = never (known .active) _
-    each (fixed c) = never (known .active) _
-    each (sum a b) = never (known .active) _
-    each (difference a b) = never (known .active) _
-    each (product a b) = always (known .active) _
-    each (negation a) = never (known .active) _
+      each : (source : Source) → adjointUse source known ≡ useBy (rowOfAssignment (d ≔ source)) (known .active)
+      each (copy a) = never (known .active) _
+      each (fixed c) = never (known .active) _
+      each (sum a b) = never (known .active) _
+      each (difference a b) = never (known .active) _
+      each (product a b) = always (known .active) _
+      each (negation a) = never (known .active) _
+
+-- ---- the definitions, by the words
+
+pub varied-said : (row : Row) (before : VariableSet) (b : Assignment) → rowOfAssignment b ≡ row
+    → variedAfter b before ≡ cond (anyReadBy before row) (before ∪ single (row .d)) (without (row .d) before)
+unfolding variedAfter
+varied-said row before (d ≔ source) e = rw (any-read row d source e before, read-of row d source e .target)
+
+pub useful-said : (row : Row) (after : VariableSet) (b : Assignment) → rowOfAssignment b ≡ row
+    → usefulBefore b after ≡ cond (has after (row .d)) (without (row .d) after ∪ readsBy row) after
+unfolding usefulBefore
+useful-said row after (d ≔ source) e = rw (all-reads row d source e, read-of row d source e .target)
+
+-- what is known of an assignment, by the words of its row
+pub record Knows (row : Row) (varied useful : VariableSet) (known : Activity) : Type 0 where
+  pub variedA : known .variedA ≡ (readsFirst (row .kind) && has varied (row .a))
+  pub variedB : known .variedB ≡ (readsSecond (row .kind) && has varied (row .b))
+  pub active : known .active ≡ (has useful (row .d) && anyReadBy varied row)
+
+pub activity-said : (row : Row) (varied useful : VariableSet) (b : Assignment) → rowOfAssignment b ≡ row
+    → Knows row varied useful (activityOf b varied useful)
+unfolding activityOf
+activity-said row varied useful (d ≔ source) e =
+    record {
+      variedA = first-read row d source e varied;
+      variedB = second-read row d source e varied;
+      active = rw (any-read row d source e varied, read-of row d source e .target);
+    }
+
+pub required-said : (row : Row) (before : VariableSet) (known : Activity) (b : Assignment) → rowOfAssignment b ≡ row
+    → requiredAfter b known before ≡ without (row .d) (before ∪ useBy row (known .active))
+unfolding requiredAfter
+required-said row before known (d ≔ source) e = rw (adjoint-use row d source e known, read-of row d source e .target)
+
+pub recorded-said : (row : Row) (required : VariableSet) (known : Activity) (b : Assignment) → rowOfAssignment b ≡ row
+    → recordedBy b known required ≡ (has required (row .d) || has (useBy row (known .active)) (row .d))
+unfolding recordedBy
+recorded-said row required known (d ≔ source) e = rw (adjoint-use row d source e known, read-of row d source e .target)

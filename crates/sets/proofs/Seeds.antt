@@ -4,15 +4,21 @@ use native.Mathlib.Nat.{lt-of-lt-of-le}
 use native.Mathlib.Decide.{ℕ-discrete}
 use native.Mathlib.Omega.{arith}
 use mathlib.Core.Path.{_≡_, refl, sym, ap, subst, _∙_}
-use mathlib.Core.Bool.{cond}
+use mathlib.Core.Bool.{Bool, true, false, cond}
 use mathlib.Core.List.{List, []}
+use mir.Val.{boolByte}
 use lib.ListN.{length, getD, set, take, drop, replicate, length-drop, length-set, length-replicate, getD-replicate}
 use lib.Seq.{drop-cons, getD-take, getD-drop, getD-set-same, getD-set-other, ext-getD, length-take-le, drop-length}
 use lib.Pow.{pow-mono}
 use Rattle.sets.specs.declared.Which.{Which}
 use Rattle.sets.specs.VariableSets.{VariableSet, empty, places}
+use Rattle.sets.specs.inner.RowWords.{maskBits}
 use Rattle.sets.specs.inner.RowEquations.{hasRole, seedIn}
 use Rattle.sets.proofs.VariableSetSizes.{places-below}
+
+pub byte-of : (b : Bool) → (boolByte b ≡ cond b 1 0) × (boolByte b < 2)
+byte-of true = (refl, omega arith)
+byte-of false = (refl, omega arith)
 
 -- those from a variable on
 unfoldable pub seedFrom : Which → List ℕ → (variables from : ℕ) → VariableSet
@@ -42,7 +48,7 @@ module _ (which : Which) (words : List ℕ) (v : ℕ) (there : v < length words)
       ap (places (hasRole which)) (drop-cons roles i 0 (omega (arith, roles-length)))
       ∙ rw here (ap (λ n. cond (hasRole which (getD words j 0)) 1 0 + 2 * places (hasRole which) (drop n roles)) after)
 
-  pub seed-below : (i : ℕ) → 1 ≤ i → v < 64 → seedFrom which words v i < 2 ^ 63
+  pub seed-below : (i : ℕ) → 1 ≤ i → v ≤ maskBits → seedFrom which words v i < 2 ^ 63
   unfolding seedFrom
   seed-below i h k =
       let roles = take v (drop 1 words) in

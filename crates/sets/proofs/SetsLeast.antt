@@ -4,7 +4,6 @@ use native.Mathlib.Omega.{arith}
 use mathlib.Core.Path.{_≡_, refl, sym, ap, subst, _∙_}
 use mathlib.Core.List.{List, [], _∷_, List·Memᴰ·cases-cons}
 use mathlib.Core.Logic.{_≢_, _⊎_, inl, inr}
-use lib.ListN.{length}
 use lib.Pow.{pow-pos}
 use Rattle.sheet.specs.Tree.{Tree, done, one, fork, again, rows}
 use Rattle.sheet.specs.Rows.{Assignment, Test, isIndependent, isDependent}
@@ -13,14 +12,14 @@ use Rattle.sheet.specs.Refusals.{given}
 use Rattle.sheet.specs.Reading.{Sheet, variablesOf, read}
 use Rattle.sheet.proofs.NamesPresent.{names-present}
 use Rattle.sets.specs.VariableSets.{VariableSet, empty, places, _⊆_}
-use Rattle.sets.specs.Equations.{Equation, starts, passes, joins, pointOf, rightSide, unchanged, forward, backward, setAt, Least, least}
+use Rattle.sets.specs.Equations.{Equation, starts, passes, joins, pointOf, rightSide, unchanged, forward, backward, Least}
 use Rattle.sets.specs.Transfers.{variedAfter, usefulBefore, requiredAfter}
 use Rattle.sets.specs.Marks.{points, variedEquations, usefulEquations, requiredEquations, varied, useful, required, activityAt}
 use Rattle.sets.proofs.VariableSetLaws.{⊆-refl, union-mono}
 use Rattle.sets.proofs.VariableSetSizes.{union-below, places-below}
 use Rattle.sets.proofs.TransferLaws.{Transfer, varied-transfer, useful-transfer, required-transfer}
 use Rattle.sets.specs.inner.ProperEquations.{_∈_, Within, Proper}
-use Rattle.sets.proofs.EquationsLeast.{equations-least, least-length, least-below}
+use Rattle.sets.proofs.EquationsLeast.{equations-least}
 
 -- ---- each equation settles its own point
 
@@ -177,14 +176,6 @@ module _ (v k : ℕ) (pass : ℕ → Assignment → VariableSet → VariableSet)
 
 -- ---- the three sets
 
--- sets at all points of a sheet and nowhere else, of its variables and no others
-pub record Sized (sheet : Sheet) (sets : List VariableSet) : Type 0 where
-  pub long : length sets ≡ points sheet
-  pub below : (p : ℕ) → setAt sets p < 2 ^ variablesOf sheet
-
-sized : (sheet : Sheet) (es : List Equation) → Proper (variablesOf sheet) (points sheet) es → Sized sheet (least (variablesOf sheet) (points sheet) es)
-sized sheet es h = record { long = least-length _ _ es h; below = least-below _ _ es h }
-
 module _ (words : List ℕ) (sheet : Sheet) (accepted : read words ≡ given sheet) where
   pub varied-proper : Proper (variablesOf sheet) (points sheet) (variedEquations sheet)
   unfolding variedEquations points
@@ -217,15 +208,3 @@ module _ (words : List ℕ) (sheet : Sheet) (accepted : read words ≡ given she
   pub required-least : Least (requiredEquations sheet (varied sheet) (useful sheet)) (required sheet)
   unfolding required
   required-least = equations-least _ _ _ (required-proper (varied sheet) (useful sheet))
-
-  pub varied-sized : Sized sheet (varied sheet)
-  unfolding varied
-  varied-sized = sized sheet _ varied-proper
-
-  pub useful-sized : Sized sheet (useful sheet)
-  unfolding useful
-  useful-sized = sized sheet _ useful-proper
-
-  pub required-sized : Sized sheet (required sheet)
-  unfolding required
-  required-sized = sized sheet _ (required-proper (varied sheet) (useful sheet))

@@ -22,12 +22,13 @@ use Rattle.sets.specs.Transfers.{variedAfter, usefulBefore, requiredAfte
 use Rattle.sets.specs.Marks.{points, varied, useful, required, variedEquations, usefulEquations, requiredEquations, activityAt, markBy}
 use Rattle.sets.specs.inner.Partners.{CameFrom, GoesTo, Found, PartnersFound}
 use Rattle.sets.specs.inner.RowEquations.{Given, lineIn, activeIn, turnOf, equationOf, equationIn, rowInTurn, rowEquations, startOf, allEquations, AllReadable, seedIn, Settles}
+use Rattle.sets.specs.inner.RowWords.{maskBits}
 use Rattle.sets.specs.inner.MarkBytes.{byteAt, written}
 use Rattle.sets.specs.inner.Laid.{Laid, MarksLeft, AllMarked}
 use Rattle.sets.proofs.RowByRow.{LinesAt, forward-listed, backward-listed}
 use Rattle.sets.proofs.SheetRows.{lines-at, rows-readable}
 use Rattle.sets.proofs.PartnersRight.{passed-over}
-use Rattle.sets.proofs.MarkByteLaws.{active-back, written-at, written-same}
+use Rattle.sets.proofs.MarkByteLaws.{read-back, written-at, written-same}
 use Rattle.sets.proofs.MarksListed.{marks-listed}
 use Rattle.sets.proofs.SetsLeast.{varied-proper, useful-proper, required-proper}
 
@@ -55,9 +56,7 @@ module _ (words : List ℕ) (variables first count : ℕ) (laid : Laid words var
   pub record Facts : Type 0 where
     pub readable : AllReadable words first count
     pub lines : LinesAt (lineIn words first) (laid .sheet .body) 0
-    pub firstSmall : first < 65536
-    pub countSmall : count < 65536
-    pub variablesSmall : variables < 64
+    pub variablesSmall : variables ≤ maskBits
     pub rolesThere : variables < length words
     pub roles : laid .sheet .roles ≡ take variables (drop 1 words)
 
@@ -77,11 +76,10 @@ module _ (words : List ℕ) (variables first count : ℕ) (laid : Laid words var
       ∙ rows-at-length words first (parts .n) in
       let vars : variables ≡ parts .v = laid .variablesAre ∙ counted .variables in
       record {
-        readable = λ p h. rows-readable _ _ (omega (arith, counted .notTooMany)) (omega (arith, counted .constants, ks .most)) words first (parts .n) (laid .sheet .body)
-            says (names-present words (laid .sheet) (laid .accepted)) p (omega (arith, laid .rowsAre));
+        readable = λ p h.
+            rows-readable _ _ (omega (arith, counted .notTooMany)) (omega (arith, counted .constants, ks .most)) words first (parts .n) (laid .sheet .body)
+            says (names-present words (laid .sheet) (laid .accepted)) p (omega (arith, laid .rowsAre)) (omega (arith, laid .rowsAre, size, ns .most));
         lines = lines-at words first (parts .n) (laid .sheet .body) says;
-        firstSmall = omega (arith, at, vs .most, ks .most);
-        countSmall = omega (arith, laid .rowsAre, size, ns .most);
         variablesSmall = omega (arith, vars, vs .most);
         rolesThere = omega (arith, vars, vs .there);
         roles = parts .roles ∙ ap (λ n. take n (drop 1 words)) (sym vars);
@@ -132,7 +130,6 @@ module _ (words : List ℕ) (variables first count : ℕ) (laid : Laid words var
     settles which es e proper =
         record {
           readable = facts .readable;
-          rowsSmall = facts .countSmall;
           variablesSmall = facts .variablesSmall;
           rolesThere = facts .rolesThere;
           long = sized;
@@ -170,7 +167,7 @@ module _ (words : List ℕ) (variables first count : ℕ) (laid : Laid words var
       active-marked p b h e =
           let at = written-at (λ i. byteAt v u r i (lineIn words first i)) count before room p h in
           let line = ap (byteAt v u r p) e in
-          rw (wrote, at, line) (active-back (activityAt v u p b) (markBy v u r p b .saved))
+          rw (wrote, at, line) (read-back (activityAt v u p b) (markBy v u r p b .saved) .active)
 
       pub settles-required : CameFrom partners (laid .sheet .body) 0 → Settles Required (handed marks partners) count variables size
       settles-required c =

@@ -5,13 +5,15 @@ use mathlib.Core.Path.{_≡_, refl, sym, ap, subst, _∙_}
 use mathlib.Core.List.{List, [], _∷_, map}
 use lib.ListN.{length}
 use Rattle.sheet.specs.Bounds.{limit}
-use Rattle.sheet.specs.Tree.{Tree, done, one, fork, again, rows, flat, basic, elseLine, endIf, endRepeat}
-use Rattle.sheet.specs.Rows.{Assignment, _≔_, copy, fixed, sum, difference, product, negation, less, Test, SheetLine, sheetRowOf, treeRows, lineOfRow}
+use Rattle.sheet.specs.Tree.{Tree, done, one, fork, again, rows, flat, elseLine, endIf, endRepeat}
+use Rattle.sheet.specs.Rows.{Assignment, _≔_, copy, fixed, sum, difference, product, negation, less, Test, SheetLine}
+use Rattle.sheet.specs.Rows.{rowOfAssignment, sheetRowOf, treeRows, lineOfRow}
 use Rattle.sheet.specs.Names.{SourcePresent, AssignmentPresent, Present}
 use Rattle.sheet.specs.Reading.{rowAt, rowsAt}
 use Rattle.sheet.proofs.RowsBack.{line-back}
 use Rattle.sheet.proofs.RowsCounted.{lines-counted}
-use Rattle.sets.specs.inner.RowEquations.{lineIn, Readable, Small}
+use Rattle.sets.specs.inner.RowWords.{maskBits, InMask}
+use Rattle.sets.specs.inner.RowEquations.{wordValues, lineIn, Readable, Small}
 use Rattle.sets.proofs.RowByRow.{LinesAt}
 
 -- ---- rows by number
@@ -78,33 +80,38 @@ module _ (words : List ℕ) (first : ℕ) (P : SheetLine → Type 0) where
       let place-is : p + suc i ≡ suc p + i = omega arith in
       rw place-is (row-says ls (suc p) n (place + limit .rowWords) (omega arith) more (h .1) i (omega arith))
 
--- an assignment's names are few enough
-abbrev Named : SheetLine → Type 0
-Named l = let r = sheetRowOf l in Small (r .kind) (r .d) (r .a) (r .b)
+abbrev SmallLine : SheetLine → Type 0
+SmallLine l = Small (sheetRowOf l)
 
-module _ (v k : ℕ) (vs : v ≤ 64) (ks : k ≤ 64) where
-  assignment-named : (b : Assignment) → AssignmentPresent v k b → Named (basic b)
-  unfolding AssignmentPresent SourcePresent sheetRowOf
-  assignment-named (d ≔ copy a) h = λ x. (omega (arith, h), omega (arith, h), omega arith)
-  assignment-named (d ≔ fixed a) h = λ x. (omega (arith, h), omega (arith, h), omega arith)
-  assignment-named (d ≔ sum a b) h = λ x. (omega (arith, h), omega (arith, h), omega (arith, h))
-  assignment-named (d ≔ difference a b) h = λ x. (omega (arith, h), omega (arith, h), omega (arith, h))
-  assignment-named (d ≔ product a b) h = λ x. (omega (arith, h), omega (arith, h), omega (arith, h))
-  assignment-named (d ≔ negation a) h = λ x. (omega (arith, h), omega (arith, h), omega arith)
+module _ (v k : ℕ) (vs : v ≤ maskBits) (ks : k ≤ maskBits) where
+  -- v variables and k constants are few enough for a mask
+  assignment-small : (b : Assignment) → AssignmentPresent v k b → InMask (rowOfAssignment b)
+  unfolding AssignmentPresent SourcePresent rowOfAssignment
+  assignment-small (d ≔ copy a) h = record { d = omega (arith, h); a = omega (arith, h); b = omega arith }
+  assignment-small (d ≔ fixed a) h = record { d = omega (arith, h); a = omega (arith, h); b = omega arith }
+  assignment-small (d ≔ sum a b) h = record { d = omega (arith, h); a = omega (arith, h); b = omega (arith, h) }
+  assignment-small (d ≔ difference a b) h = record { d = omega (arith, h); a = omega (arith, h); b = omega (arith, h) }
+  assignment-small (d ≔ product a b) h = record { d = omega (arith, h); a = omega (arith, h); b = omega (arith, h) }
+  assignment-small (d ≔ negation a) h = record { d = omega (arith, h); a = omega (arith, h); b = omega arith }
 
-  tree-named : (t : Tree Assignment Test) (rest : List SheetLine) → Present v k t → Each Named rest → Each Named (flat t rest)
+  tree-small : (t : Tree Assignment Test) (rest : List SheetLine) → Present v k t → Each SmallLine rest → Each SmallLine (flat t rest)
   unfolding flat Present sheetRowOf
-  tree-named done rest n h = h
-  tree-named (one b t) rest n h = (assignment-named b (n .0), tree-named t rest (n .1) h)
-  tree-named (fork (less x y) a b t) rest n h =
-      (λ z. absurd (omega arith), tree-named a _ (n .1) (λ z. absurd (omega arith), tree-named b _ (n .2) (λ z. absurd (omega arith), tree-named t rest (n .3) h)))
-  tree-named (again m a t) rest n h = (λ z. absurd (omega arith), tree-named a _ (n .0) (λ z. absurd (omega arith), tree-named t rest (n .1) h))
+  tree-small done rest n h = h
+  tree-small (one b t) rest n h = (λ z. assignment-small b (n .0), tree-small t rest (n .1) h)
+  tree-small (fork (less x y) a b t) rest n h = (
+    λ z. absurd (omega arith),
+    tree-small a _ (n .1)
+        (λ z. absurd (omega arith), tree-small b _ (n .2) (λ z. absurd (omega arith), tree-small t rest (n .3) h)),
+  )
+  tree-small (again m a t) rest n h =
+      (λ z. absurd (omega arith), tree-small a _ (n .0) (λ z. absurd (omega arith), tree-small t rest (n .1) h))
 
   pub rows-readable : (words : List ℕ) (first n : ℕ) (t : Tree Assignment Test) → treeRows t ≡ rowsAt words first n → Present v k t
-      → (p : ℕ) → p < rows t → Readable words first p
+      → (p : ℕ) → p < rows t → p < wordValues → Readable words first p
   unfolding treeRows
-  rows-readable words first n t e present p below =
-      let h = row-says words first Named (flat t []) 0 n first (omega arith) e (tree-named t [] present tt) p (omega (arith, lines-counted t)) in
+  rows-readable words first n t e present p below numbered =
+      let each = tree-small t [] present tt in
+      let h = row-says words first SmallLine (flat t []) 0 n first (omega arith) e each p (omega (arith, lines-counted t)) in
       let here : 0 + p ≡ p = omega arith in
       let says = rw here at (h .0) in
-      record { says = says; small = rw says at (rw here at (h .1)) }
+      record { says = says; small = rw says at (rw here at (h .1)); numbered = numbered }

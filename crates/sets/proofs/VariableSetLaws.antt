@@ -11,7 +11,7 @@ use lib.Bits.{bitOr, bitXor, differ, or-step, xor-step, or-shr, xor-shr}
 use lib.Dec.{T, eqb, eqb→eq, eqb·zero-suc, eqb·suc-zero, eqb·suc-suc}
 use lib.Arith.{bin-ind}
 use lib.Pow.{shr-shr}
-use Rattle.sets.specs.VariableSets.{VariableSet, empty, has, _∪_, single, without, places, hasSome, singleSome, _⊆_}
+use Rattle.sets.specs.VariableSets.{VariableSet, empty, has, _∪_, single, without, places, hasSome, _⊆_}
 use Rattle.sets.proofs.Truths.{each-truth, or-left, or-right, or-least, and-left}
 
 -- ---- a member is a digit
@@ -92,22 +92,10 @@ places-has test d fails [] i = empty-has i ∙ sym fails
 places-has test d fails (x ∷ xs) zero = has-zero _ ∙ place-digit (test x) (places test xs)
 places-has test d fails (x ∷ xs) (suc i) = has-suc _ i ∙ ap (λ n. has n i) (place-rest (test x) (places test xs)) ∙ places-has test d fails xs i
 
--- an operand that may be lacking
-abbrev pub isSome : Option ℕ → ℕ → Bool
-isSome none i = false
-isSome (some j) i = eqb i j
-
-pub single-some-has : (o : Option ℕ) (i : ℕ) → has (singleSome o) i ≡ isSome o i
-single-some-has none i = empty-has i
-single-some-has (some j) i = single-has j i
-
 -- ---- inclusion
 
 pub ⊆-refl : (s : VariableSet) → s ⊆ s
 ⊆-refl s i h = h
-
-pub ⊆-trans : (s t u : VariableSet) → s ⊆ t → t ⊆ u → s ⊆ u
-⊆-trans s t u h k i m = k i (h i m)
 
 pub some-within : (s t : VariableSet) (o : Option ℕ) → s ⊆ t → T (hasSome s o) → T (hasSome t o)
 some-within s t none f h = h
@@ -152,6 +140,3 @@ pub ⊆-antisym : (s t : VariableSet) → s ⊆ t → t ⊆ s → s ≡ t
 ⊆-antisym =
     bin-ind (λ s. (t : ℕ) → s ⊆ t → t ⊆ s → s ≡ t) (λ t f g. sym (nothing-within-empty t g))
     (λ s ih t f g. omega (arith, lowest-within s t f, lowest-within t s g, ih (t / 2) (rest-within s t f) (rest-within t s g)))
-
-pub same-members : (s t : VariableSet) → ((i : ℕ) → has s i ≡ has t i) → s ≡ t
-same-members s t e = ⊆-antisym s t (λ i. subst T (e i)) (λ i. subst T (sym (e i)))

@@ -1,8 +1,8 @@
 -- What inner functions are handed and answer. No public contract and no claim cites it, so nothing rests on its being right.
 pub mod ProperEquations
 pub mod RowWords
+pub mod MarkBytes
 pub mod Partners
 pub mod RowEquations
 pub mod Growth
-pub mod MarkBytes
 pub mod Laid

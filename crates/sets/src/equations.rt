@@ -1,13 +1,15 @@
 // A row's equation: the point that it settles, and what the set there must hold.
 ghost use mathlib.Core.Path.{_≡_};
+ghost use mathlib.Core.Bool.{cond};
 ghost use Prim.Native.Nat.{_<_};
+ghost use Rattle.sheet.specs.Answers.{rowSaid};
+ghost use Rattle.sets.specs.VariableSets.{_∪_};
 ghost use Rattle.sets.specs.Equations.{setAt};
-ghost use Rattle.sets.specs.inner.RowEquations.{joinsBy, ownPoint, settledPoint, Small, RightSide};
+ghost use Rattle.sets.specs.inner.RowEquations.{wordValues, joinsBy, ownPoint, settledPoint, Small, RightSide};
 use super::Which;
 use super::transfers;
 use sheet::RowNumber;
 use sheet::RowWords;
-use sheet::Variable;
 use sheet::kinds;
 
 // The set at a point; beyond the last there is none.
@@ -18,7 +20,7 @@ pub fn set_at(sets: &[u64], point: usize) -> u64
 }
 
 fn own_point(which: Which, row: RowNumber) -> usize
-    requires { ⌜ row .0 < 65536 ⌝ }
+    requires { ⌜ row .0 < wordValues ⌝ }
     ensures { λ r. ⌜ r ≡ ownPoint which (row .0) ⌝ }
 {
     match which {
@@ -28,8 +30,16 @@ fn own_point(which: Which, row: RowNumber) -> usize
     }
 }
 
+// The set at a row's own point, which its equation takes.
+fn own_set(which: Which, sets: &[u64], row: RowNumber) -> u64
+    requires { ⌜ row .0 < wordValues ⌝ }
+    ensures { λ r. ⌜ r ≡ setAt (now (sets .entry)) (ownPoint which (row .0)) ⌝ }
+{
+    set_at(sets, own_point(which, row))
+}
+
 pub fn settled_point(which: Which, row: RowNumber) -> usize
-    requires { ⌜ row .0 < 65536 ⌝ }
+    requires { ⌜ row .0 < wordValues ⌝ }
     ensures { λ r. ⌜ r ≡ settledPoint which (row .0) ⌝ }
 {
     match which {
@@ -50,6 +60,12 @@ fn joins(which: Which, kind: u16) -> bool
     }
 }
 
+fn joined(which: Which, kind: u16, own: u64, other: u64) -> u64
+    ensures { λ r. ⌜ r ≡ cond (joinsBy which kind) (own ∪ other) own ⌝ }
+{
+    if joins(which, kind) { own | other } else { own }
+}
+
 pub fn right_side(
     which: Which,
     line: RowWords,
@@ -58,23 +74,17 @@ pub fn right_side(
     row: RowNumber,
     partner: RowNumber,
 ) -> u64
-    requires { ⌜ Small (line .kind) (line .d) (line .a) (line .b) × (row .0 < 65536) × (partner .0 < 65536) ⌝ }
-    ensures { λ r. ⌜ RightSide which (line .kind) (line .d) (line .a) (line .b) active (now (sets .entry)) (row .0) (partner .0) r ⌝ }
+    requires { ⌜ Small (rowSaid line) × (row .0 < wordValues) × (partner .0 < wordValues) ⌝ }
+    ensures { λ r. ⌜ RightSide which (rowSaid line) active (now (sets .entry)) (row .0) (partner .0) r ⌝ }
 {
     let kind = line.kind;
-    let own = set_at(sets, own_point(which, row));
+    let own = own_set(which, sets, row);
     if kind < kinds::IF {
-        let d = Variable(line.d as usize);
-        let a = Variable(line.a as usize);
-        let b = Variable(line.b as usize);
-        return transfers::transfer(which, kind, d, a, b, active, own);
+        return transfers::transfer(which, transfers::operation_of(line), active, own);
     }
-    let other = set_at(sets, own_point(which, partner));
+    let other = own_set(which, sets, partner);
     if kind == kinds::ELSE {
         return other;
     }
-    if joins(which, kind) {
-        return own | other;
-    }
-    own
+    joined(which, kind, own, other)
 }

@@ -21,7 +21,7 @@ pub const ACTIVE: u8 = 4;
 
 pub const SAVED: u8 = 8;
 
-// Which of the three sets is being found. The useful variables are found from the last row to the first, the others from the first on.
+// Which of the three sets is found: the useful variables from the last row to the first, the others from the first row on.
 pub enum Which {
     Varied,
     Useful,

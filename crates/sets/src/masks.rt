@@ -1,33 +1,34 @@
-// Sets of variables as masks with room for 64: variable i is bit i.
+// Sets of variables as masks: variable i is bit i.
 ghost use mathlib.Core.Path.{_≡_};
 ghost use mathlib.Core.Bool.{cond};
 ghost use Prim.Native.Nat.{_<_};
 ghost use Rattle.sets.specs.VariableSets.{has, single, without, empty};
+ghost use Rattle.sets.specs.inner.RowWords.{maskBits};
 use sheet::Variable;
 
 pub fn has(s: u64, i: Variable) -> bool
-    requires { ⌜ i .0 < 64 ⌝ }
+    requires { ⌜ i .0 < maskBits ⌝ }
     ensures { λ r. ⌜ r ≡ has s (i .0) ⌝ }
 {
     (s >> i.0) % 2 == 1
 }
 
 pub fn single(i: Variable) -> u64
-    requires { ⌜ i .0 < 64 ⌝ }
+    requires { ⌜ i .0 < maskBits ⌝ }
     ensures { λ r. ⌜ r ≡ single (i .0) ⌝ }
 {
     1 << i.0
 }
 
 pub fn single_if(there: bool, i: Variable) -> u64
-    requires { ⌜ i .0 < 64 ⌝ }
+    requires { ⌜ i .0 < maskBits ⌝ }
     ensures { λ r. ⌜ r ≡ cond there (single (i .0)) empty ⌝ }
 {
     if there { single(i) } else { 0 }
 }
 
 pub fn without(i: Variable, s: u64) -> u64
-    requires { ⌜ i .0 < 64 ⌝ }
+    requires { ⌜ i .0 < maskBits ⌝ }
     ensures { λ r. ⌜ r ≡ without (i .0) s ⌝ }
 {
     let bit = single(i);

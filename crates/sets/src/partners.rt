@@ -1,21 +1,21 @@
-// The partners of a block's rows, found in one pass over the sheet: where an equation takes a set from besides the row's own point.
+// The partners of a block's rows: where an equation takes a set from besides the row's own point. One pass finds them all.
 ghost use mathlib.Core.Path.{_≡_};
 ghost use Prim.Native.Nat.{_<_};
 ghost use lib.ListN.{getD, set};
-ghost use Rattle.sets.specs.inner.RowEquations.{AllReadable, lineIn};
-ghost use Rattle.sets.specs.inner.Partners.{Found, FoundBy, PartnersFound};
+ghost use Rattle.sets.specs.inner.RowEquations.{wordValues, AllReadable, lineIn};
+ghost use Rattle.sets.specs.inner.Partners.{FoundBy, PartnersFound};
 use super::Extent;
 use sheet::RowNumber;
 use sheet::kinds;
 
 pub fn partner_of(partners: &[u16], row: RowNumber) -> RowNumber
-    ensures { λ r. ⌜ (r .0 ≡ getD (now (partners .entry)) (row .0) 0) × (r .0 < 65536) ⌝ }
+    ensures { λ r. ⌜ (r .0 ≡ getD (now (partners .entry)) (row .0) 0) × (r .0 < wordValues) ⌝ }
 {
     RowNumber(sheet::word_at(partners, row.0) as usize)
 }
 
 fn put(list: &mut [u16], row: RowNumber, partner: RowNumber)
-    requires { ⌜ partner .0 < 65536 ⌝ }
+    requires { ⌜ partner .0 < wordValues ⌝ }
     ensures { λ r. ⌜ now (list .exit) ≡ set (now (list .entry)) (row .0) (partner .0) ⌝ }
 {
     let place = row.0;
@@ -32,9 +32,9 @@ fn partner_step(
     came: &mut [u16],
     goes: &mut [u16],
 ) -> RowNumber
-    requires { ⌜ (row .0 < 65536) × (top .0 < 65536) ⌝ }
+    requires { ⌜ (row .0 < wordValues) × (top .0 < wordValues) ⌝ }
     ensures { λ r. ⌜ FoundBy kind (row .0) (record { top = top .0; came = now (came .entry); goes = now (goes .entry) })
-        (record { top = r .0; came = now (came .exit); goes = now (goes .exit) }) × (r .0 < 65536) ⌝ }
+        (record { top = r .0; came = now (came .exit); goes = now (goes .exit) }) × (r .0 < wordValues) ⌝ }
 {
     if (kind == kinds::IF) | (kind == kinds::REPEAT) {
         put(goes, row, top);
@@ -59,7 +59,7 @@ fn partner_step(
 }
 
 pub fn find_partners(words: &[u16], extent: Extent, came: &mut [u16], goes: &mut [u16])
-    requires { ⌜ AllReadable (now words) (extent .first) (extent .rows) × (extent .rows < 65536) ⌝ }
+    requires { ⌜ AllReadable (now words) (extent .first) (extent .rows) ⌝ }
     ensures { λ r. ⌜ PartnersFound (lineIn (now (words .entry)) (extent .first)) (extent .rows)
         (now (came .entry)) (now (goes .entry)) (now (came .exit)) (now (goes .exit)) ⌝ }
 {

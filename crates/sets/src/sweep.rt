@@ -1,10 +1,13 @@
 // One of the three sets at every point: rounds over all equations, each row in its turn, until a round adds nothing.
 ghost use mathlib.Core.Path.{_≡_};
-ghost use Prim.Native.Nat.{suc, _<_};
+ghost use Prim.Native.Nat.{suc, _≤_, _<_};
 ghost use lib.ListN.{getD, length, replicate};
-ghost use Rattle.sets.specs.VariableSets.{has, empty};
+ghost use Rattle.sets.specs.VariableSets.{empty};
 ghost use Rattle.sets.specs.Equations.{least};
-ghost use Rattle.sets.specs.inner.RowEquations.{Readable, AllReadable, equationIn, rowInTurn, startOf, allEquations, hasRole, seedIn, Settles};
+ghost use Rattle.sets.specs.inner.RowWords.{maskBits};
+ghost use Rattle.sets.specs.inner.MarkBytes.{weight, bitOf};
+ghost use Rattle.sets.specs.inner.RowEquations.{givenBy, Readable, AllReadable, equationIn, rowInTurn};
+ghost use Rattle.sets.specs.inner.RowEquations.{startOf, allEquations, hasRole, seedIn, Settles};
 ghost use Rattle.sets.specs.inner.Growth.{Grown, Stepped, Swept};
 use super::ACTIVE;
 use super::Extent;
@@ -14,7 +17,7 @@ use super::partners;
 use sheet::RowNumber;
 
 fn is_active(marks: &[u8], row: RowNumber) -> bool
-    ensures { λ r. ⌜ r ≡ has (getD (now (marks .entry)) (row .0) 0) 2 ⌝ }
+    ensures { λ r. ⌜ r ≡ bitOf (getD (now (marks .entry)) (row .0) 0) (weight .active) ⌝ }
 {
     let number = row.0;
     if number < marks.len() {
@@ -46,9 +49,9 @@ fn step(
     sets: &mut [u64],
     row: RowNumber,
 ) -> bool
-    requires { ⌜ Readable (now words) first (row .0) × (row .0 < 65536) ⌝ }
+    requires { ⌜ Readable (now words) first (row .0) ⌝ }
     ensures { λ r. ⌜ Stepped
-        (equationIn which (record { words = now (words .entry); first = first; marks = now (marks .entry); partners = now (partners .entry) }) (row .0))
+        (equationIn which (givenBy (now (words .entry)) first (now (marks .entry)) (now (partners .entry))) (row .0))
         (now (sets .entry)) (now (sets .exit)) r ⌝ }
 {
     let line = sheet::row_words(words, first, row);
@@ -90,10 +93,9 @@ fn sweep(
     seed: u64,
     sets: &mut [u64],
 ) -> bool
-    requires { ⌜ AllReadable (now words) (extent .first) (extent .rows) × (extent .rows < 65536) ⌝ }
+    requires { ⌜ AllReadable (now words) (extent .first) (extent .rows) ⌝ }
     ensures { λ r. ⌜ Swept
-        (allEquations which (record { words = now (words .entry); first = extent .first; marks = now (marks .entry); partners = now (partners .entry) })
-        (extent .rows) seed)
+        (allEquations which (givenBy (now (words .entry)) (extent .first) (now (marks .entry)) (now (partners .entry))) (extent .rows) seed)
         (now (sets .entry)) (now (sets .exit)) r ⌝ }
 {
     let rows = extent.rows;
@@ -120,7 +122,7 @@ fn has_role(which: Which, role: u16) -> bool
 
 // What the start point has: the variables with the role, from the last on.
 fn seed_of(which: Which, words: &[u16], variables: usize) -> u64
-    requires { ⌜ (variables < 64) × (variables < length (now words)) ⌝ }
+    requires { ⌜ (variables ≤ maskBits) × (variables < length (now words)) ⌝ }
     ensures { λ r. ⌜ r ≡ seedIn which (now (words .entry)) variables ⌝ }
 {
     let mut seed: u64 = 0;
@@ -152,10 +154,10 @@ pub fn settle(
     partners: &[u16],
     sets: &mut [u64],
 )
-    requires { ⌜ Settles which (record { words = now words; first = extent .first; marks = now marks; partners = now partners })
-        (extent .rows) (extent .variables) (length (now sets)) ⌝ }
+    requires { ⌜ Settles which (givenBy (now words) (extent .first) (now marks) (now partners)) (extent .rows) (extent .variables)
+        (length (now sets)) ⌝ }
     ensures { λ r. ⌜ now (sets .exit) ≡ least (extent .variables) (suc (extent .rows))
-        (allEquations which (record { words = now (words .entry); first = extent .first; marks = now (marks .entry); partners = now (partners .entry) })
+        (allEquations which (givenBy (now (words .entry)) (extent .first) (now (marks .entry)) (now (partners .entry)))
         (extent .rows) (seedIn which (now (words .entry)) (extent .variables))) ⌝ }
 {
     let seed = seed_of(which, words, extent.variables);

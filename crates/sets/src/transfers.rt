@@ -1,14 +1,36 @@
-// An assignment, by its kind and the variables d, a and b that its words are: what it reads, and what it does to each of the three sets.
+// An assignment as the code has it: what it reads, and what it does to each of the three sets.
 ghost use mathlib.Core.Path.{_≡_};
-ghost use Prim.Native.Nat.{_<_};
-ghost use Rattle.sheet.specs.Rows.{_≔_};
-ghost use Rattle.sets.specs.inner.RowWords.{Gives, GivesKnown, readsFirst, readsSecond, anyReadBy, readsBy, useBy};
+ghost use Rattle.sheet.specs.Answers.{rowSaid};
 ghost use Rattle.sets.specs.Transfers.{variedAfter, usefulBefore, activityOf, requiredAfter, recordedBy};
+ghost use Rattle.sets.specs.inner.RowWords.{rowOf, InMask, Gives, GivesKnown, readsFirst, readsSecond, anyReadBy, readsBy, useBy};
 ghost use Rattle.sets.specs.inner.RowEquations.{turnOf};
 use super::Which;
 use super::masks;
+use sheet::RowWords;
 use sheet::Variable;
 use sheet::kinds;
+
+// A row's kind and its words d, a and b, as the variables that they are where the kind names them.
+pub struct Operation {
+    pub kind: u16,
+    pub d: Variable,
+    pub a: Variable,
+    pub b: Variable,
+}
+
+pub fn operation_of(line: RowWords) -> Operation
+    ensures { λ r. ⌜ rowOf r ≡ rowSaid line ⌝ }
+{
+    let d = Variable(line.d as usize);
+    let a = Variable(line.a as usize);
+    let b = Variable(line.b as usize);
+    Operation {
+        kind: line.kind,
+        d,
+        a,
+        b,
+    }
+}
 
 pub fn reads_first(kind: u16) -> bool
     ensures { λ r. ⌜ r ≡ readsFirst kind ⌝ }
@@ -22,104 +44,82 @@ pub fn reads_second(kind: u16) -> bool
     (kinds::CONSTANT < kind) & (kind < kinds::NEGATION)
 }
 
-fn any_read(s: u64, kind: u16, a: Variable, b: Variable) -> bool
-    requires { ⌜ (a .0 < 64) × (b .0 < 64) ⌝ }
-    ensures { λ r. ⌜ r ≡ anyReadBy s kind (a .0) (b .0) ⌝ }
+fn any_read(row: Operation, s: u64) -> bool
+    requires { ⌜ InMask (rowOf row) ⌝ }
+    ensures { λ r. ⌜ r ≡ anyReadBy s (rowOf row) ⌝ }
 {
-    (reads_first(kind) & masks::has(s, a)) | (reads_second(kind) & masks::has(s, b))
+    (reads_first(row.kind) & masks::has(s, row.a)) | (reads_second(row.kind) & masks::has(s, row.b))
 }
 
-fn reads(kind: u16, a: Variable, b: Variable) -> u64
-    requires { ⌜ (a .0 < 64) × (b .0 < 64) ⌝ }
-    ensures { λ r. ⌜ r ≡ readsBy kind (a .0) (b .0) ⌝ }
+fn reads(row: Operation) -> u64
+    requires { ⌜ InMask (rowOf row) ⌝ }
+    ensures { λ r. ⌜ r ≡ readsBy (rowOf row) ⌝ }
 {
-    masks::single_if(reads_first(kind), a) | masks::single_if(reads_second(kind), b)
+    masks::single_if(reads_first(row.kind), row.a) | masks::single_if(reads_second(row.kind), row.b)
 }
 
-fn varied_after(kind: u16, d: Variable, a: Variable, b: Variable, before: u64) -> u64
-    requires { ⌜ (d .0 < 64) × (a .0 < 64) × (b .0 < 64) ⌝ }
-    ensures { λ r. ⌜ Gives kind (d .0) (a .0) (b .0) r (λ source. variedAfter (d .0 ≔ source) before) ⌝ }
+fn varied_after(row: Operation, before: u64) -> u64
+    requires { ⌜ InMask (rowOf row) ⌝ }
+    ensures { λ r. ⌜ Gives (rowOf row) r (λ b. variedAfter b before) ⌝ }
 {
-    if any_read(before, kind, a, b) {
-        before | masks::single(d)
+    if any_read(row, before) {
+        before | masks::single(row.d)
     } else {
-        masks::without(d, before)
+        masks::without(row.d, before)
     }
 }
 
-fn useful_before(kind: u16, d: Variable, a: Variable, b: Variable, after: u64) -> u64
-    requires { ⌜ (d .0 < 64) × (a .0 < 64) × (b .0 < 64) ⌝ }
-    ensures { λ r. ⌜ Gives kind (d .0) (a .0) (b .0) r (λ source. usefulBefore (d .0 ≔ source) after) ⌝ }
+fn useful_before(row: Operation, after: u64) -> u64
+    requires { ⌜ InMask (rowOf row) ⌝ }
+    ensures { λ r. ⌜ Gives (rowOf row) r (λ b. usefulBefore b after) ⌝ }
 {
-    if masks::has(after, d) {
-        masks::without(d, after) | reads(kind, a, b)
+    if masks::has(after, row.d) {
+        masks::without(row.d, after) | reads(row)
     } else {
         after
     }
 }
 
 // The one place that says what a row's adjoint needs.
-fn adjoint_use(kind: u16, a: Variable, b: Variable, active: bool) -> u64
-    requires { ⌜ (a .0 < 64) × (b .0 < 64) ⌝ }
-    ensures { λ r. ⌜ r ≡ useBy kind (a .0) (b .0) active ⌝ }
+fn adjoint_use(row: Operation, active: bool) -> u64
+    requires { ⌜ InMask (rowOf row) ⌝ }
+    ensures { λ r. ⌜ r ≡ useBy (rowOf row) active ⌝ }
 {
-    if active & (kind == kinds::PRODUCT) {
-        masks::single(a) | masks::single(b)
+    if active & (row.kind == kinds::PRODUCT) {
+        masks::single(row.a) | masks::single(row.b)
     } else {
         0
     }
 }
 
-fn required_after(
-    kind: u16,
-    d: Variable,
-    a: Variable,
-    b: Variable,
-    active: bool,
-    before: u64,
-) -> u64
-    requires { ⌜ (d .0 < 64) × (a .0 < 64) × (b .0 < 64) ⌝ }
-    ensures { λ r. ⌜ GivesKnown kind (d .0) (a .0) (b .0) active r (λ source known. requiredAfter (d .0 ≔ source) known before) ⌝ }
+fn required_after(row: Operation, active: bool, before: u64) -> u64
+    requires { ⌜ InMask (rowOf row) ⌝ }
+    ensures { λ r. ⌜ GivesKnown (rowOf row) active r (λ b known. requiredAfter b known before) ⌝ }
 {
-    masks::without(d, before | adjoint_use(kind, a, b, active))
+    masks::without(row.d, before | adjoint_use(row, active))
 }
 
-pub fn recorded(
-    kind: u16,
-    d: Variable,
-    a: Variable,
-    b: Variable,
-    active: bool,
-    required: u64,
-) -> bool
-    requires { ⌜ (d .0 < 64) × (a .0 < 64) × (b .0 < 64) ⌝ }
-    ensures { λ r. ⌜ GivesKnown kind (d .0) (a .0) (b .0) active r (λ source known. recordedBy (d .0 ≔ source) known required) ⌝ }
+pub fn recorded(row: Operation, active: bool, required: u64) -> bool
+    requires { ⌜ InMask (rowOf row) ⌝ }
+    ensures { λ r. ⌜ GivesKnown (rowOf row) active r (λ b known. recordedBy b known required) ⌝ }
 {
-    masks::has(required, d) | masks::has(adjoint_use(kind, a, b, active), d)
+    masks::has(required, row.d) | masks::has(adjoint_use(row, active), row.d)
 }
 
-pub fn active(kind: u16, d: Variable, a: Variable, b: Variable, varied: u64, useful: u64) -> bool
-    requires { ⌜ (d .0 < 64) × (a .0 < 64) × (b .0 < 64) ⌝ }
-    ensures { λ r. ⌜ Gives kind (d .0) (a .0) (b .0) r (λ source. activityOf (d .0 ≔ source) varied useful .active) ⌝ }
+pub fn active(row: Operation, varied: u64, useful: u64) -> bool
+    requires { ⌜ InMask (rowOf row) ⌝ }
+    ensures { λ r. ⌜ Gives (rowOf row) r (λ b. activityOf b varied useful .active) ⌝ }
 {
-    masks::has(useful, d) & any_read(varied, kind, a, b)
+    masks::has(useful, row.d) & any_read(row, varied)
 }
 
-pub fn transfer(
-    which: Which,
-    kind: u16,
-    d: Variable,
-    a: Variable,
-    b: Variable,
-    active: bool,
-    set: u64,
-) -> u64
-    requires { ⌜ (d .0 < 64) × (a .0 < 64) × (b .0 < 64) ⌝ }
-    ensures { λ r. ⌜ Gives kind (d .0) (a .0) (b .0) r (λ source. turnOf which active (d .0 ≔ source) set) ⌝ }
+pub fn transfer(which: Which, row: Operation, active: bool, set: u64) -> u64
+    requires { ⌜ InMask (rowOf row) ⌝ }
+    ensures { λ r. ⌜ Gives (rowOf row) r (λ b. turnOf which active b set) ⌝ }
 {
     match which {
-        Which::Varied => varied_after(kind, d, a, b, set),
-        Which::Useful => useful_before(kind, d, a, b, set),
-        Which::Required => required_after(kind, d, a, b, active, set),
+        Which::Varied => varied_after(row, set),
+        Which::Useful => useful_before(row, set),
+        Which::Required => required_after(row, active, set),
     }
 }

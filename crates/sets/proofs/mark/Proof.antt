@@ -44,9 +44,7 @@ partners-are c =
 -- ---- the needs
 
 find-partners-requires : tie.Need-find-partners-requires
-find-partners-requires c κs =
-    let known = facts _ _ _ _ (handed-over (c .before .before .before .before .before .before .before .before .before)) in
-    (known .readable, known .countSmall)
+find-partners-requires c κs = facts _ _ _ _ (handed-over (c .before .before .before .before .before .before .before .before .before)) .readable
 
 settle-requires : tie.Need-settle-requires
 settle-requires c κs =
@@ -64,7 +62,7 @@ mark-rows-requires : tie.Need-mark-rows-requires
 mark-rows-requires c κs =
     let start = atStart (atPartners (atVaried (c .before .before .before .before .before .before))) in
     let known = facts _ _ _ _ (handed-over start) in
-    (known .readable, known .countSmall, start .pre .1 .marksRoom)
+    (known .readable, start .pre .1 .marksRoom)
 
 settle-requires-3 : tie.Need-settle-requires-3
 settle-requires-3 c κs =
@@ -79,7 +77,7 @@ mark-rows-requires-2 c κs =
     let marked = atMarks (c .before .before .before .before .before .before) in
     let start = atStart (atPartners (atVaried (atUseful marked))) in
     let known = facts _ _ _ _ (handed-over start) in
-    (known .readable, known .countSmall, rw (marked .mark-rows .kept .1 .1 .1 .1 .1 .0) (start .pre .1 .marksRoom))
+    (known .readable, rw (marked .mark-rows .kept .1 .1 .1 .1 .1 .0) (start .pre .1 .marksRoom))
 
 same-length : tie.Need-same-length
 same-length c = atPartners (atVaried (atUseful (atMarks (atRequired (c .before .before))))) .find-partners .kept .1 .1 .0

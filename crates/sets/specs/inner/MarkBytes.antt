@@ -1,20 +1,37 @@
--- A byte for each row: bit 0 and 1, a and b varied before it; bit 2, active; bit 3, recorded. A row that is no assignment has 0.
-use Prim.Native.Nat.{ℕ, zero, suc, _+_, _*_}
+-- A byte for each row: whether a is varied before it, whether b is, whether it is active, whether it is recorded. A row that is no assignment has 0.
+use Prim.Native.Nat.{ℕ, zero, suc, _+_, _/_, _%_}
 use mathlib.Core.Bool.{Bool, cond}
 use mathlib.Core.List.{List, [], map}
 use lib.ListN.{set}
+use lib.Dec.{eqb}
 use Rattle.sheet.specs.Tree.{Line, flat, basic, ifLine, elseLine, endIf, repeat, endRepeat}
-use Rattle.sheet.specs.Rows.{SheetLine}
+use Rattle.sheet.specs.Rows.{Assignment, SheetLine}
 use Rattle.sheet.specs.Reading.{Sheet}
 use Rattle.sets.specs.VariableSets.{VariableSet}
-use Rattle.sets.specs.Transfers.{Activity}
+use Rattle.sets.specs.Transfers.{Activity, activityOf, recordedBy}
 use Rattle.sets.specs.Marks.{Marked, MarkedTest, markBy, marked}
 
-abbrev pub bit : Bool → ℕ
-bit b = cond b 1 0
+-- what each mark counts in the byte
+pub record Weights : Type 0 where
+  pub variedA : ℕ
+  pub variedB : ℕ
+  pub active : ℕ
+  pub saved : ℕ
+
+abbrev pub weight : Weights
+weight = record { variedA = 1; variedB = 2; active = 4; saved = 8 }
+
+abbrev pub weightIf : Bool → (weight : ℕ) → ℕ
+weightIf there w = cond there w 0
 
 abbrev pub byteBy : Activity → (saved : Bool) → ℕ
-byteBy known saved = bit (known .variedA) + 2 * bit (known .variedB) + 4 * bit (known .active) + 8 * bit saved
+byteBy known saved =
+    weightIf (known .variedA) (weight .variedA) + weightIf (known .variedB) (weight .variedB) + weightIf (known .active) (weight .active)
+    + weightIf saved (weight .saved)
+
+-- one mark of a byte
+abbrev pub bitOf : (byte weight : ℕ) → Bool
+bitOf byte weight = eqb (byte / weight % 2) 1
 
 unfoldable pub byteOf : Line Marked MarkedTest → ℕ
 byteOf (basic m) = byteBy (m .known) (m .saved)
@@ -38,6 +55,14 @@ byteAt varied useful required p elseLine = 0
 byteAt varied useful required p endIf = 0
 byteAt varied useful required p (repeat m) = 0
 byteAt varied useful required p endRepeat = 0
+
+-- the same of an assignment, by the three sets that it asks: varied before it, useful after it, required before it
+abbrev pub byteFor : (varied useful required : VariableSet) → Assignment → ℕ
+byteFor varied useful required b = let known = activityOf b varied useful in byteBy known (recordedBy b known required)
+
+-- the bytes of rows with these lines
+abbrev pub bytesOf : (varied useful required : List VariableSet) → (ℕ → SheetLine) → ℕ → ℕ
+bytesOf varied useful required line p = byteAt varied useful required p (line p)
 
 -- a list with its first n places written
 unfoldable pub written : (ℕ → ℕ) → ℕ → List ℕ → List ℕ

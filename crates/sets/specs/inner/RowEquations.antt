@@ -1,6 +1,6 @@
 -- 01's equations row by row, as the code goes through them: each row gives one, from its line, its own number and that of its partner, the
 -- row of the same block that its set comes from.
-use Prim.Native.Nat.{ℕ, zero, suc, _+_, _*_, _-_, _<_}
+use Prim.Native.Nat.{ℕ, zero, suc, _+_, _*_, _-_, _≤_, _<_}
 use mathlib.Core.Path.{_≡_}
 use mathlib.Core.Bool.{Bool, false, _||_}
 use mathlib.Core.List.{List, [], _∷_}
@@ -12,10 +12,16 @@ use Rattle.sheet.specs.Rows.{Assignment, SheetLine, Row, sheetRowOf, isIndepend
 use Rattle.sheet.specs.Reading.{rowAt}
 use Rattle.sets.specs.declared.Which.{Which}
 use Rattle.sets.specs.declared.Which.the-variants.{Varied, Useful, Required}
-use Rattle.sets.specs.VariableSets.{VariableSet, has, places}
+use Rattle.sets.specs.VariableSets.{VariableSet, places}
 use Rattle.sets.specs.Equations.{Equation, starts, passes, joins, unchanged, rightSide, setAt}
 use Rattle.sets.specs.inner.ProperEquations.{Proper}
 use Rattle.sets.specs.Transfers.{variedAfter, usefulBefore, requiredAfter}
+use Rattle.sets.specs.inner.RowWords.{maskBits, InMask}
+use Rattle.sets.specs.inner.MarkBytes.{weight, bitOf}
+
+-- a partner is kept in 16 bits
+abbrev pub wordValues : ℕ
+wordValues = 65536
 
 -- the line of a sheet's row
 abbrev pub lineIn : List ℕ → (first row : ℕ) → SheetLine
@@ -60,12 +66,15 @@ pub record Given : Type 0 where
   pub marks : List ℕ
   pub partners : List ℕ
 
+abbrev pub givenBy : (words : List ℕ) (first : ℕ) (marks partners : List ℕ) → Given
+givenBy words first marks partners = record { words = words; first = first; marks = marks; partners = partners }
+
 abbrev pub rowIn : Given → ℕ → Row
 rowIn given p = rowAt (given .words) (given .first + p * limit .rowWords)
 
--- bit 2 of a row's mark: it is active
+-- its mark says that it is active
 abbrev pub activeIn : Given → ℕ → Bool
-activeIn given p = has (getD (given .marks) p 0) 2
+activeIn given p = bitOf (getD (given .marks) p 0) (weight .active)
 
 unfoldable pub equationIn : Which → Given → ℕ → Equation
 unfolding lineOfRow equationOf
@@ -113,18 +122,19 @@ joinsBy Varied kind = eqb kind 9 || eqb kind 10
 joinsBy Useful kind = eqb kind 7 || eqb kind 11
 joinsBy Required kind = eqb kind 9 || eqb kind 10
 
--- an assignment's names are bits of a mask
-abbrev pub Small : (kind d a b : ℕ) → Type 0
-Small kind d a b = kind < 7 → (d < 64) × (a < 64) × (b < 64)
+-- an assignment's words are bits of a mask
+abbrev pub Small : Row → Type 0
+Small row = row .kind < 7 → InMask row
 
-abbrev pub RightSide : Which → (kind d a b : ℕ) → Bool → List VariableSet → (row partner r : ℕ) → Type 0
-RightSide which kind d a b active sets p c r =
-    (l : SheetLine) → sheetRowOf l ≡ record { kind = kind; d = d; a = a; b = b } → r ≡ rightSide (equationOf which active l p c) (setAt sets)
+-- r is the right side of the equation of row p, whose words these are
+abbrev pub RightSide : Which → Row → (active : Bool) → List VariableSet → (p partner r : ℕ) → Type 0
+RightSide which row active sets p c r = (l : SheetLine) → sheetRowOf l ≡ row → r ≡ rightSide (equationOf which active l p c) (setAt sets)
 
 -- the words of a row say its line, and name no variable or constant beyond a mask's bits
 pub record Readable (words : List ℕ) (first row : ℕ) : Type 0 where
   pub says : let r = rowAt words (first + row * limit .rowWords) in sheetRowOf (lineOfRow r) ≡ r
-  pub small : let r = rowAt words (first + row * limit .rowWords) in Small (r .kind) (r .d) (r .a) (r .b)
+  pub small : Small (rowAt words (first + row * limit .rowWords))
+  pub numbered : row < wordValues
 
 abbrev pub AllReadable : List ℕ → (first rows : ℕ) → Type 0
 AllReadable words first rows = (p : ℕ) → p < rows → Readable words first p
@@ -143,8 +153,7 @@ seedIn which words v = places (hasRole which) (take v (drop 1 words))
 -- what the code needs to settle the sets
 pub record Settles (which : Which) (given : Given) (rows variables length : ℕ) : Type 0 where
   pub readable : AllReadable (given .words) (given .first) rows
-  pub rowsSmall : rows < 65536
-  pub variablesSmall : variables < 64
+  pub variablesSmall : variables ≤ maskBits
   pub rolesThere : variables < List·length (given .words)
   pub long : length ≡ suc rows
   pub proper : Proper variables (suc rows) (allEquations which given rows (seedIn which (given .words) variables))

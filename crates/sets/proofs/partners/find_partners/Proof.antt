@@ -23,12 +23,11 @@ row-words-requires c κs = tt
 partner-step-requires : tie.Need-partner-step-requires Inv-loop μ-loop
 partner-step-requires c κs =
     let inside = c .before .before .before in
-    (omega (arith, inside .loop-test .taken, inside .before .before .before .before .before .pre .1), inside .before .loop .inv .small)
+    let start = inside .before .before .before .before .before in
+    (start .pre _ (inside .loop-test .taken) .numbered, inside .before .loop .inv .small)
 
 add-number : tie.Need-add-number Inv-loop μ-loop
-add-number c =
-    let inside = c .before .before .before .before .before .before .before .before in
-    omega (arith, inside .loop-test .taken, inside .before .before .before .before .before .pre .1)
+add-number c = omega (arith, c .before .before .before .before .before .before .before .before .loop-test .taken)
 
 loop-less : tie.Need-loop-less Inv-loop μ-loop
 loop-less c = omega (arith, c .before .before .before .before .before .before .before .before .loop-test .taken)
@@ -40,7 +39,7 @@ loop-again c =
     let inside = read .before in
     let start = inside .before .before .before .before .before in
     finding-on _ _ _ _ _ _ _ _ (inside .before .loop .inv) (inside .loop-test .taken) _
-    (kind-read _ _ _ _ (start .pre .0 _ (inside .loop-test .taken)) (read .row-words .ensures)) _ _ _ (step .partner-step .ensures)
+    (kind-read _ _ _ _ (start .pre _ (inside .loop-test .taken)) (read .row-words .ensures)) _ _ _ (step .partner-step .ensures)
     (step .partner-step .kept .1 .1 .1 .0) (step .partner-step .kept .1 .1 .1 .1 .0)
 
 same-length : tie.Need-same-length Inv-loop μ-loop

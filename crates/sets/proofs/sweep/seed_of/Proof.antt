@@ -6,8 +6,7 @@ use Rattle.sets.specs.inner.RowEquations.{hasRole}
 use borrow.Author.Needs.{needs}
 use native.Mathlib.Omega.{arith}
 use mathlib.Core.Path.{_≡_, sym, ap, _∙_}
-use Rattle.sets.proofs.MarkByteLaws.{byte-of}
-use Rattle.sets.proofs.Seeds.{seedFrom, seed-none, seed-all, seed-on, seed-below}
+use Rattle.sets.proofs.Seeds.{byte-of, seedFrom, seed-none, seed-all, seed-on, seed-below}
 use Rattle.sets.proofs.sweep.seed_of.Statement.{statement}
 use Rattle.sets.proofs.sweep.seed_of.Tie as tie
 

@@ -2,10 +2,13 @@
 use borrow.Author.Needs.{needs}
 use mathlib.Core.Path.{sym, subst, _∙_}
 use denote.Ref.{now}
-use Rattle.sets.specs.inner.RowEquations.{Small, Given}
+use Rattle.sets.specs.inner.RowEquations.{Small, Given, givenBy}
 use Rattle.sets.proofs.RightSides.{right-side-in, settled-in}
 use Rattle.sets.proofs.sweep.step.Statement.{statement}
 use Rattle.sets.proofs.sweep.step.Tie as tie
+
+abbrev start : tie.After-row-words → tie.Start
+start c = c .before .before .before .before .before
 
 row-words-requires : tie.Need-row-words-requires
 row-words-requires c κs = search needs
@@ -19,11 +22,7 @@ partner-of-requires c κs = search needs
 right-side-requires : tie.Need-right-side-requires
 right-side-requires c κs =
     let read = c .before .before .before in
-    let start = read .before .before .before .before .before in (
-      subst (λ r. Small (r .kind) (r .d) (r .a) (r .b)) (sym (read .row-words .ensures)) (start .pre .0 .small),
-      start .pre .1,
-      c .before .partner-of .ensures .1,
-    )
+    (subst Small (sym (read .row-words .ensures)) (start read .pre .small), start read .pre .numbered, c .before .partner-of .ensures .1)
 
 settled-point-requires : tie.Need-settled-point-requires
 settled-point-requires c κs = search needs
@@ -37,12 +36,12 @@ same-length c = search needs
 returns : tie.Need-returns
 returns c =
     let found = c .before .before .before .before .before in
-    let read = found .before .before .before .before in
-    let start = read .before .before .before .before .before in
-    let args = start .args in
-    let given : Given = record { words = now (args .words); first = args .first; marks = now (args .marks); partners = now (args .partners) } in
-    let side = right-side-in (args .which) given (args .row .0) (now (args .sets)) _ _ _ _ (sym (read .row-words .ensures)) (start .pre .0 .says)
-    (found .before .before .before .is-active .ensures) (found .before .before .partner-of .ensures .0) (found .right-side .ensures) in
+    let partner = found .before .before in
+    let read = partner .before .before in
+    let args = start read .args in
+    let given : Given = givenBy (now (args .words)) (args .first) (now (args .marks)) (now (args .partners)) in
+    let side = right-side-in (args .which) given (args .row .0) (now (args .sets)) _ _ _ _ (sym (read .row-words .ensures)) (start read .pre .says)
+    (partner .before .is-active .ensures) (partner .partner-of .ensures .0) (found .right-side .ensures) in
     let point = c .before .before .before .settled-point .ensures ∙ settled-in (args .which) given (args .row .0) in
     rw (sym side, sym point) (c .before .before .grow .ensures)
 

@@ -1,7 +1,6 @@
 -- `sets::transfers::active` meets its contract: useful after, and some read varied before.
 use borrow.Author.Needs.{needs}
-use Rattle.sets.specs.Transfers.{activityOf}
-use Rattle.sets.proofs.RowWordLaws.{any-read-said}
+use Rattle.sets.proofs.RowWordLaws.{activity-said}
 use Rattle.sets.proofs.transfers.active.Statement.{statement}
 use Rattle.sets.proofs.transfers.active.Tie as tie
 
@@ -12,8 +11,7 @@ any-read-requires : tie.Need-any-read-requires
 any-read-requires c κs = search needs
 
 returns : tie.Need-returns
-unfolding activityOf
-returns c source e = rw (c .before .has .ensures, c .any-read .ensures, any-read-said _ _ _ _ _ source e)
+returns c b e = rw (c .before .has .ensures, c .any-read .ensures, activity-said _ _ _ b e .active)
 
 pub active-spec : {M : Type 1} → statement M
 active-spec = tie.close (tie.spec has-requires any-read-requires returns)

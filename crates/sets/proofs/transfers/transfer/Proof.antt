@@ -25,15 +25,15 @@ required-after-requires c κs = search needs
 
 returns : tie.Need-returns
 unfolding turnOf
-returns c source e = rw (c .before .enum-told .given .1) (c .varied-after .ensures source e)
+returns c b e = rw (c .before .enum-told .given .1) (c .varied-after .ensures b e)
 
 returns-2 : tie.Need-returns-2
 unfolding turnOf
-returns-2 c source e = rw (c .before .enum-told2 .given .1) (c .useful-before .ensures source e)
+returns-2 c b e = rw (c .before .enum-told2 .given .1) (c .useful-before .ensures b e)
 
 returns-3 : tie.Need-returns-3
 unfolding turnOf
-returns-3 c source e = rw (c .before .enum-told3 .given .1) (c .required-after .ensures _ refl source e)
+returns-3 c b e = rw (c .before .enum-told3 .given .1) (c .required-after .ensures _ refl b e)
 
 pub transfer-spec : {M : Type 1} → statement M
 transfer-spec =
