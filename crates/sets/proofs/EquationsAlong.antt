@@ -15,8 +15,8 @@ module _ {B F : Type 0} (turns : ℕ → B → VariableSet → VariableSet) (at 
   ForwardAlong (fork f a b k) p =
       let split = suc p + rows a in
       let end = suc split + rows b in
-      (at (suc p) ≡ at p) × ForwardAlong a (suc p) × (at (suc split) ≡ at p) × ForwardAlong b (suc split) × (at (suc end) ≡ at split ∪ at end)
-      × ForwardAlong k (suc end)
+      (at (suc p) ≡ at p) × ForwardAlong a (suc p) × (at (suc split) ≡ at p) × ForwardAlong b (suc split)
+      × (at (suc end) ≡ at split ∪ at end) × ForwardAlong k (suc end)
   ForwardAlong (again m a k) p =
       let end = suc p + rows a in
       (at (suc p) ≡ at p ∪ at end) × ForwardAlong a (suc p) × (at (suc end) ≡ at end) × ForwardAlong k (suc end)
@@ -29,8 +29,8 @@ module _ {B F : Type 0} (turns : ℕ → B → VariableSet → VariableSet) (at 
   BackwardAlong (fork f a b k) p =
       let split = suc p + rows a in
       let end = suc split + rows b in
-      (at p ≡ at (suc p) ∪ at (suc split)) × BackwardAlong a (suc p) × (at split ≡ at (suc end)) × BackwardAlong b (suc split) × (at end ≡ at (suc end))
-      × BackwardAlong k (suc end)
+      (at p ≡ at (suc p) ∪ at (suc split)) × BackwardAlong a (suc p) × (at split ≡ at (suc end)) × BackwardAlong b (suc split)
+      × (at end ≡ at (suc end)) × BackwardAlong k (suc end)
   BackwardAlong (again m a k) p =
       let end = suc p + rows a in
       (at p ≡ at (suc p)) × BackwardAlong a (suc p) × (at end ≡ at (suc end) ∪ at (suc p)) × BackwardAlong k (suc end)

@@ -49,18 +49,20 @@ stored-has e sets l = rw (getD-set-same sets (pointOf e) _ empty l) (union-right
 
 -- ---- a round and all rounds keep what each store keeps
 
-round-keeps : (P : List VariableSet → Type 0) (es : List Equation) → ((e : Equation) → e ∈ es → (sets : List VariableSet) → P sets → P (stored e sets))
-    → (sets : List VariableSet) → P sets → P (round es sets)
+round-keeps : (P : List VariableSet → Type 0) (es : List Equation)
+    → ((e : Equation) → e ∈ es → (sets : List VariableSet) → P sets → P (stored e sets)) → (sets : List VariableSet) → P sets → P (round es sets)
 unfolding round stored
 round-keeps P [] keeps sets h = h
 round-keeps P (e ∷ es) keeps sets h =
     round-keeps P es (λ e′ m. keeps e′ (List·Memᴰ·tail m)) (stored e sets) (keeps e (List·Memᴰ·head refl) sets h)
 
-pub settled-on : (n : ℕ) (es : List Equation) (sets : List VariableSet) → same sets (round es sets) ≡ false → settled (suc n) es sets ≡ settled n es (round es sets)
+pub settled-on : (n : ℕ) (es : List Equation) (sets : List VariableSet) → same sets (round es sets) ≡ false
+    → settled (suc n) es sets ≡ settled n es (round es sets)
 unfolding settled
 settled-on n es sets e = rw (e, settled)
 
-pub settled-rests : (n : ℕ) (es : List Equation) (sets : List VariableSet) → same sets (round es sets) ≡ true → settled (suc n) es sets ≡ sets
+pub settled-rests : (n : ℕ) (es : List Equation) (sets : List VariableSet) → same sets (round es sets) ≡ true
+    → settled (suc n) es sets ≡ sets
 unfolding settled
 settled-rests n es sets e = rw (e, settled)
 
@@ -98,7 +100,7 @@ total-most v [] = zero-le
 total-most v (s ∷ sets) = omega (arith, suc-mul (length sets) v, count-most v s, total-most v sets)
 
 -- sets that only grow are the same or have more members
-pub total-grows : (v : ℕ) (xs ys : List VariableSet) → length xs ≡ length ys → Within (setAt xs) (setAt ys) → ((p : ℕ) → setAt xs p < 2 ^ v)
+total-grows : (v : ℕ) (xs ys : List VariableSet) → length xs ≡ length ys → Within (setAt xs) (setAt ys) → ((p : ℕ) → setAt xs p < 2 ^ v)
     → ((p : ℕ) → setAt ys p < 2 ^ v) → (xs ≡ ys) ⊎ (total v xs < total v ys)
 unfolding total
 total-grows v [] [] l w h k = inl refl
@@ -181,7 +183,7 @@ module _ (v points : ℕ) (es : List Equation) (proper : Proper v points es) whe
     pub long : length sets ≡ points
     pub grows : Within (setAt from) (setAt sets)
 
-  pub round-grows : (rest : List Equation) → ((e : Equation) → e ∈ rest → e ∈ es) → (sets : List VariableSet) → length sets ≡ points
+  round-grows : (rest : List Equation) → ((e : Equation) → e ∈ rest → e ∈ es) → (sets : List VariableSet) → length sets ≡ points
       → Grown sets (round rest sets)
   round-grows rest part sets long =
       round-keeps (Grown sets) rest
@@ -190,6 +192,13 @@ module _ (v points : ℕ) (es : List Equation) (proper : Proper v points es) whe
         grows = λ p i h. stored-grows e now (in-range e (part e m) now (grown .long)) p i (grown .grows p i h);
       })
       sets (record { long = long; grows = λ p i h. h })
+
+  -- it changes nothing or adds members
+  pub round-adds : (sets : List VariableSet) → Kept v points es sets → (sets ≡ round es sets) ⊎ (total v sets < total v (round es sets))
+  round-adds sets kept =
+      let next = round-kept sets kept in
+      total-grows v sets (round es sets) (kept .long ∙ sym (next .long)) (round-grows es (λ x k. k) sets (kept .long) .grows) (kept .below)
+      (next .below)
 
   -- if a round adds nothing, every right side was there already
   round-ahead : (rest : List Equation) → ((e : Equation) → e ∈ rest → e ∈ es) → (sets : List VariableSet) → length sets ≡ points
@@ -228,14 +237,6 @@ module _ (v points : ℕ) (es : List Equation) (proper : Proper v points es) whe
   settled-stops zero sets kept fuel = absurd (omega (arith, rw (kept .long) at (total-most v sets)))
   settled-stops (suc n) sets kept fuel = go (same sets (round es sets)) refl (settled-stops n (round es sets) (round-kept sets kept))
     where
-      next : Kept v points es (round es sets)
-      next = round-kept sets kept
-
-      grown : (sets ≡ round es sets) ⊎ (total v sets < total v (round es sets))
-      grown =
-          total-grows v sets (round es sets) (kept .long ∙ sym (next .long)) (round-grows es (λ x k. k) sets (kept .long) .grows) (kept .below)
-          (next .below)
-
       more : (sets ≡ round es sets) ⊎ (total v sets < total v (round es sets)) → same sets (round es sets) ≡ false
           → points * v < n + total v (round es sets)
       more (inl p) e = let z : _≡_ {A = ℕ} 0 1 = cc (same-refl sets, ap (same sets) p) in absurd (omega arith)
@@ -244,7 +245,7 @@ module _ (v points : ℕ) (es : List Equation) (proper : Proper v points es) whe
       go : (b : Bool) → same sets (round es sets) ≡ b → (points * v < n + total v (round es sets) → AddsNothing (settled n es (round es sets)))
           → AddsNothing (settled (suc n) es sets)
       go true e on = rw (settled-rests n es sets e) (λ p i h. rw (sym (same-equal sets (round es sets) e)) at h)
-      go false e on = rw (settled-on n es sets e) (on (more grown e))
+      go false e on = rw (settled-on n es sets e) (on (more (round-adds sets kept) e))
 
   -- ---- within every solution
 
@@ -252,9 +253,13 @@ module _ (v points : ℕ) (es : List Equation) (proper : Proper v points es) whe
     long : length sets ≡ points
     inside : Within (setAt sets) at
 
-  store-inside : (at : ℕ → VariableSet) → Satisfy es at → (e : Equation) → e ∈ es → (sets : List VariableSet) → Inside at sets → Inside at (stored e sets)
+  store-inside : (at : ℕ → VariableSet) → Satisfy es at → (e : Equation) → e ∈ es → (sets : List VariableSet) → Inside at sets
+      → Inside at (stored e sets)
   store-inside at solves e m sets h =
-      record { long = stored-length e sets ∙ h .long; inside = stored-each (λ p s. s ⊆ at p) e sets (in-range e m sets (h .long)) stored-inside (h .inside) }
+      record {
+        long = stored-length e sets ∙ h .long;
+        inside = stored-each (λ p s. s ⊆ at p) e sets (in-range e m sets (h .long)) stored-inside (h .inside);
+      }
     where
       right-inside : rightSide e (setAt sets) ⊆ at (pointOf e)
       right-inside = rw (satisfied-at es at solves e m) (proper .monotone e m (setAt sets) at (h .inside))

@@ -72,4 +72,8 @@ grew-then xs ys zs false true f g =
       upto = omega (arith, f .upto, g .upto);
     }
 grew-then xs ys zs false false f g =
-    record { still = λ e. g .still refl ∙ f .still refl; more = λ e. let z : _≡_ {A = ℕ} 0 1 = cc in absurd (omega arith); upto = omega (arith, f .upto, g .upto) }
+    record {
+      still = λ e. g .still refl ∙ f .still refl;
+      more = λ e. let z : _≡_ {A = ℕ} 0 1 = cc in absurd (omega arith);
+      upto = omega (arith, f .upto, g .upto);
+    }

@@ -10,7 +10,7 @@ use Rattle.sheet.specs.Reading.{Sheet}
 use Rattle.sheet.proofs.RowsCounted.{lines-counted}
 use Rattle.sets.specs.VariableSets.{VariableSet}
 use Rattle.sets.specs.Marks.{Marked, MarkedTest, varied, useful, required, numbered, markBy, marked}
-use Rattle.sets.specs.inner.MarkBytes.{byteOf, byteAt, markBytes}
+use Rattle.sets.specs.inner.MarkBytes.{byteOf, byteAt, bytesOf, markBytes}
 use Rattle.sets.proofs.RowByRow.{LinesAt}
 
 -- a list's numbers are f's from p on
@@ -28,43 +28,50 @@ unfolding numbered rows
 numbered-rows mark done p = refl
 numbered-rows mark (one b k) p = omega (arith, numbered-rows mark k (suc p))
 numbered-rows mark (fork f a b k) p =
-    omega (arith, numbered-rows mark a (suc p), numbered-rows mark b (suc (suc p + rows a)), numbered-rows mark k (suc (suc (suc p + rows a) + rows b)))
+    let split = suc p + rows a in
+    let end = suc split + rows b in
+    omega (arith, numbered-rows mark a (suc p), numbered-rows mark b (suc split), numbered-rows mark k (suc end))
 numbered-rows mark (again m a k) p = omega (arith, numbered-rows mark a (suc p), numbered-rows mark k (suc (suc p + rows a)))
 
 module _ (line : ℕ → SheetLine) (v u r : List VariableSet) where
-  abbrev byte : ℕ → ℕ
-  byte p = byteAt v u r p (line p)
-
-  byte-line : (p : ℕ) (l : SheetLine) → line p ≡ l → byte p ≡ byteAt v u r p l
+  byte-line : (p : ℕ) (l : SheetLine) → line p ≡ l → bytesOf v u r line p ≡ byteAt v u r p l
   byte-line p l e = ap (byteAt v u r p) e
 
-  bytes-from : (t : Tree Assignment Test) (p : ℕ) (rest : List (Line Marked MarkedTest)) → LinesAt line t p → From byte (map byteOf rest) (p + rows t)
-      → From byte (map byteOf (flat (numbered (markBy v u r) t p) rest)) p
+  abbrev BytesFrom : List (Line Marked MarkedTest) → ℕ → Type 0
+  BytesFrom ls p = From (bytesOf v u r line) (map byteOf ls) p
+
+  bytes-from : (t : Tree Assignment Test) (p q : ℕ) (rest : List (Line Marked MarkedTest)) → p + rows t ≡ q → LinesAt line t p → BytesFrom rest q
+      → BytesFrom (flat (numbered (markBy v u r) t p) rest) p
   unfolding LinesAt numbered flat rows byteOf byteAt markBy
-  bytes-from done p rest l h = subst (From byte (map byteOf rest)) (omega arith) h
-  bytes-from (one b k) p rest l h = (byte-line p (basic b) (l .0), bytes-from k (suc p) rest (l .1) (subst (From byte (map byteOf rest)) (omega arith) h))
-  bytes-from (fork f a b k) p rest l h =
-      let q = suc p + rows a in
-      let s = suc q + rows b in (
+  bytes-from done p q rest e l h = subst (BytesFrom rest) (omega arith) h
+  bytes-from (one b k) p q rest e l h = (byte-line p (basic b) (l .0), bytes-from k (suc p) q rest (omega arith) (l .1) h)
+  bytes-from (fork f a b k) p q rest e l h =
+      let split = suc p + rows a in
+      let end = suc split + rows b in (
         byte-line p (ifLine f) (l .0),
-        bytes-from a (suc p) _ (l .1) (
-          byte-line q elseLine (l .2),
-          bytes-from b (suc q) _ (l .3) (byte-line s endIf (l .4), bytes-from k (suc s) rest (l .5) (subst (From byte (map byteOf rest)) (omega arith) h)),
+        bytes-from a (suc p) split _ refl (l .1) (
+          byte-line split elseLine (l .2),
+          bytes-from b (suc split) end _ refl (l .3)
+              (byte-line end endIf (l .4), bytes-from k (suc end) q rest (omega arith) (l .5) h),
         ),
       )
-  bytes-from (again m a k) p rest l h =
-      let q = suc p + rows a in (
+  bytes-from (again m a k) p q rest e l h =
+      let end = suc p + rows a in (
         byte-line p (repeat m) (l .0),
-        bytes-from a (suc p) _ (l .1) (byte-line q endRepeat (l .2), bytes-from k (suc q) rest (l .3) (subst (From byte (map byteOf rest)) (omega arith) h)),
+        bytes-from a (suc p) end _ refl (l .1)
+            (byte-line end endRepeat (l .2), bytes-from k (suc end) q rest (omega arith) (l .3) h),
       )
 
 pub marks-listed : (sheet : Sheet) (line : ℕ → SheetLine) → LinesAt line (sheet .body) 0 → (p : ℕ) → p < rows (sheet .body)
     → byteAt (varied sheet) (useful sheet) (required sheet) p (line p) ≡ getD (markBytes sheet) p 0
 unfolding markBytes marked
 marks-listed sheet line l p h =
-    let tree = numbered (markBy (varied sheet) (useful sheet) (required sheet)) (sheet .body) 0 in
+    let v = varied sheet in
+    let u = useful sheet in
+    let r = required sheet in
+    let mark = markBy v u r in
+    let tree = numbered mark (sheet .body) 0 in
     let here : 0 + p ≡ p = omega arith in
     rw here at
-    (from-at (byte line (varied sheet) (useful sheet) (required sheet)) (map byteOf (flat tree [])) 0 p
-    (bytes-from line (varied sheet) (useful sheet) (required sheet) (sheet .body) 0 [] l tt)
-    (omega (arith, length-map (flat tree []) byteOf, lines-counted tree, numbered-rows (markBy (varied sheet) (useful sheet) (required sheet)) (sheet .body) 0)))
+    (from-at (bytesOf v u r line) (map byteOf (flat tree [])) 0 p (bytes-from line v u r (sheet .body) 0 _ [] refl l tt)
+    (omega (arith, length-map (flat tree []) byteOf, lines-counted tree, numbered-rows mark (sheet .body) 0)))

@@ -7,15 +7,15 @@ use lib.ListN.{length}
 use Rattle.sheet.specs.Bounds.{limit}
 use Rattle.sheet.specs.Rows.{SheetLine, Row, sheetRowOf}
 use Rattle.sheet.specs.Reading.{rowAt}
-use Rattle.sets.specs.inner.Partners.{Found, FoundBy, foundAt, foundOver, PartnersFound}
-use Rattle.sets.specs.inner.RowEquations.{lineIn, Readable}
+use Rattle.sets.specs.inner.Partners.{Found, found, FoundBy, foundAt, foundOver, PartnersFound}
+use Rattle.sets.specs.inner.RowEquations.{wordValues, lineIn, Readable}
 
 -- what holds before a row of the pass
 pub record Finding (line : ℕ → SheetLine) (n : ℕ) (came₀ goes₀ came goes : List ℕ) (top row : ℕ) : Type 0 where
   pub within : row ≤ n
-  pub small : top < 65536
-  pub follows : foundOver line row (n - row) (record { top = top; came = came; goes = goes })
-      ≡ foundOver line 0 n (record { top = 0; came = came₀; goes = goes₀ })
+  pub small : top < wordValues
+  pub follows : foundOver line row (n - row) (found top came goes)
+      ≡ foundOver line 0 n (found 0 came₀ goes₀)
   pub cameLong : length came ≡ length came₀
   pub goesLong : length goes ≡ length goes₀
 
@@ -31,12 +31,12 @@ module _ (line : ℕ → SheetLine) (n : ℕ) (came₀ goes₀ : List ℕ) where
 
   pub finding-on : (came goes : List ℕ) (top row : ℕ) → Finding line n came₀ goes₀ came goes top row → row < n → (kind : ℕ)
       → sheetRowOf (line row) .kind ≡ kind → (came′ goes′ : List ℕ) (top′ : ℕ)
-      → FoundBy kind row (record { top = top; came = came; goes = goes }) (record { top = top′; came = came′; goes = goes′ }) × (top′ < 65536)
+      → FoundBy kind row (found top came goes) (found top′ came′ goes′) × (top′ < wordValues)
       → length came′ ≡ length came → length goes′ ≡ length goes → Finding line n came₀ goes₀ came′ goes′ top′ (row + 1)
   finding-on came goes top row f h kind is came′ goes′ top′ step cl gl =
       let left : n - row ≡ suc (n - suc row) = omega arith in
       let next : row + 1 ≡ suc row = omega arith in
-      let one = found-more row (n - suc row) (record { top = top; came = came; goes = goes }) in
+      let one = found-more row (n - suc row) (found top came goes) in
       record {
         within = omega arith;
         small = step .1;
@@ -49,11 +49,12 @@ module _ (line : ℕ → SheetLine) (n : ℕ) (came₀ goes₀ : List ℕ) where
   unfolding foundOver
   found-none p s = refl
 
-  pub found-all : (came goes : List ℕ) (top row : ℕ) → Finding line n came₀ goes₀ came goes top row → n ≤ row → PartnersFound line n came₀ goes₀ came goes
+  pub found-all : (came goes : List ℕ) (top row : ℕ) → Finding line n came₀ goes₀ came goes top row → n ≤ row
+      → PartnersFound line n came₀ goes₀ came goes
   found-all came goes top row f h =
       let none : n - row ≡ 0 = omega (arith, f .within) in
       let same = rw none at (f .follows) in
-      let here : Found = record { top = top; came = came; goes = goes } in
+      let here : Found = found top came goes in
       (ap (λ s. s .came) (found-none row here ∙ same), ap (λ s. s .goes) (found-none row here ∙ same))
 
 -- a row's kind, as the code reads it, is that of its line

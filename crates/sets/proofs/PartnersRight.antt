@@ -17,18 +17,18 @@ pub record Keeps (lo hi : ℕ) (xs ys : List ℕ) : Type 0 where
   pub long : length ys ≡ length xs
   pub at : (i : ℕ) → (i < lo) ⊎ (hi ≤ i) → getD ys i 0 ≡ getD xs i 0
 
-keeps-all : (lo hi : ℕ) (xs : List ℕ) → Keeps lo hi xs xs
-keeps-all lo hi xs = record { long = refl; at = λ i h. refl }
+keeps-all : {lo hi : ℕ} (xs : List ℕ) → Keeps lo hi xs xs
+keeps-all xs = record { long = refl; at = λ i h. refl }
 
-wider : (lo hi lo′ hi′ : ℕ) (xs ys : List ℕ) → lo′ ≤ lo → hi ≤ hi′ → Keeps lo hi xs ys → Keeps lo′ hi′ xs ys
-wider lo hi lo′ hi′ xs ys l h k = record { long = k .long; at = λ i o. k .at i (go i o) }
+wider : {lo hi lo′ hi′ : ℕ} {xs ys : List ℕ} → Keeps lo hi xs ys → lo′ ≤ lo → hi ≤ hi′ → Keeps lo′ hi′ xs ys
+wider {lo} {hi} {lo′} {hi′} k l h = record { long = k .long; at = λ i o. k .at i (go i o) }
   where
     go : (i : ℕ) → (i < lo′) ⊎ (hi′ ≤ i) → (i < lo) ⊎ (hi ≤ i)
     go i (inl x) = inl (omega arith)
     go i (inr x) = inr (omega arith)
 
-keeps-then : (lo hi : ℕ) (xs ys zs : List ℕ) → Keeps lo hi xs ys → Keeps lo hi ys zs → Keeps lo hi xs zs
-keeps-then lo hi xs ys zs k l = record { long = l .long ∙ k .long; at = λ i o. l .at i o ∙ k .at i o }
+keeps-then : {lo hi : ℕ} {xs ys zs : List ℕ} → Keeps lo hi xs ys → Keeps lo hi ys zs → Keeps lo hi xs zs
+keeps-then k l = record { long = l .long ∙ k .long; at = λ i o. l .at i o ∙ k .at i o }
 
 store-keeps : (xs : List ℕ) (j v : ℕ) → Keeps j (suc j) xs (set xs j v)
 store-keeps xs j v = record { long = length-set xs j v; at = λ i o. getD-set-other xs j i v 0 (λ e. go i o e) }
@@ -84,28 +84,36 @@ pub record Passed (t : Tree Assignment Test) (p : ℕ) (s s′ : Found) : Type 0
   pub cameKept : Keeps p (p + rows t) (s .came) (s′ .came)
   pub goesKept : Keeps p (p + rows t) (s .goes) (s′ .goes)
 
--- each part's store and pass changes only its own places; x to z are the sizes of the parts
-came-fork : (p x y z : ℕ) (c c₂ c₄ c₆ : List ℕ) (top₂ top₄ : ℕ) → let q = suc p + x in let r = suc q + y in suc r ≤ length c
-    → Keeps (suc p) (suc p + x) c c₂ → Keeps (suc q) (suc q + y) (set c₂ q top₂) c₄ → Keeps (suc r) (suc r + z) (set c₄ r top₄) c₆
-    → Keeps p (suc r + z) c c₆ × Keeps q (suc r + z) c₂ c₆ × Keeps r (suc r + z) c₄ c₆ × (getD c₆ q 0 ≡ top₂) × (getD c₆ r 0 ≡ top₄)
+-- Each part's store and pass changes only its own places; x to z are the sizes of the parts, q and r the rows of "else" and "end if",
+-- e the place after all. First of the list of where rows came from.
+record CameFork (p q r e top₂ top₄ : ℕ) (c c₂ c₄ c₆ : List ℕ) : Type 0 where
+  whole : Keeps p e c c₆
+  afterFirst : Keeps q e c₂ c₆
+  afterSecond : Keeps r e c₄ c₆
+  atElse : getD c₆ q 0 ≡ top₂
+  atEnd : getD c₆ r 0 ≡ top₄
+
+came-fork : (p x y z : ℕ) (c c₂ c₄ c₆ : List ℕ) (top₂ top₄ : ℕ) → let q = suc p + x in let r = suc q + y in let e = suc r + z in
+    suc r ≤ length c → Keeps (suc p) q c c₂ → Keeps (suc q) r (set c₂ q top₂) c₄ → Keeps (suc r) e (set c₄ r top₄) c₆
+    → CameFork p q r e top₂ top₄ c c₂ c₄ c₆
 came-fork p x y z c c₂ c₄ c₆ top₂ top₄ l k₁ k₃ k₅ =
     let q = suc p + x in
     let r = suc q + y in
     let e = suc r + z in
     let k₂ = store-keeps c₂ q top₂ in
     let k₄ = store-keeps c₄ r top₄ in
-    let t₄ : Keeps r e c₄ c₆ = keeps-then r e _ _ _ (wider r (suc r) r e _ _ (omega arith) (omega arith) k₄) (wider (suc r) e r e _ _ (omega arith) (omega arith) k₅) in
-    let t₃ : Keeps (suc q) e (set c₂ q top₂) c₆ =
-    keeps-then (suc q) e _ _ _ (wider (suc q) r (suc q) e _ _ (omega arith) (omega arith) k₃) (wider r e (suc q) e _ _ (omega arith) (omega arith) t₄) in
-    let t₂ : Keeps q e c₂ c₆ = keeps-then q e _ _ _ (wider q (suc q) q e _ _ (omega arith) (omega arith) k₂) (wider (suc q) e q e _ _ (omega arith) (omega arith) t₃) in (
-      keeps-then p e _ _ _ (wider (suc p) q p e _ _ (omega arith) (omega arith) k₁) (wider q e p e _ _ (omega arith) (omega arith) t₂),
-      t₂,
-      t₄,
-      t₃ .at q (inl (omega arith)) ∙ getD-set-same c₂ q top₂ 0 (omega (arith, k₁ .long)),
-      k₅ .at r (inl (omega arith)) ∙ getD-set-same c₄ r top₄ 0 (omega (arith, k₁ .long, k₂ .long, k₃ .long)),
-    )
+    let t₄ : Keeps r e c₄ c₆ = keeps-then (wider k₄ (omega arith) (omega arith)) (wider k₅ (omega arith) (omega arith)) in
+    let t₃ : Keeps (suc q) e (set c₂ q top₂) c₆ = keeps-then (wider k₃ (omega arith) (omega arith)) (wider t₄ (omega arith) (omega arith)) in
+    let t₂ : Keeps q e c₂ c₆ = keeps-then (wider k₂ (omega arith) (omega arith)) (wider t₃ (omega arith) (omega arith)) in
+    record {
+      whole = keeps-then (wider k₁ (omega arith) (omega arith)) (wider t₂ (omega arith) (omega arith));
+      afterFirst = t₂;
+      afterSecond = t₄;
+      atElse = t₃ .at q (inl (omega arith)) ∙ getD-set-same c₂ q top₂ 0 (omega (arith, k₁ .long));
+      atEnd = k₅ .at r (inl (omega arith)) ∙ getD-set-same c₄ r top₄ 0 (omega (arith, k₁ .long, k₂ .long, k₃ .long));
+    }
 
--- what is read and left of the list of where rows go to
+-- and of the list of where rows go to
 record GoesFork (p q r e top : ℕ) (g g₂ g₄ g₆ : List ℕ) : Type 0 where
   outer : getD g₄ q 0 ≡ top
   whole : Keeps p e g g₆
@@ -130,14 +138,15 @@ goes-fork p x y z top g g₂ g₄ g₆ l k₁ k₃ k₅ =
     let long₄ : length g₄ ≡ length g = k₃ .long ∙ k₂′ .long ∙ long₃ in
     record {
       outer =
-          k₃ .at q (inl (omega arith)) ∙ getD-set-same (set g₂ p q) q _ 0 (omega arith) ∙ k₁ .at p (inl (omega arith)) ∙ getD-set-same g p top 0 (omega arith);
+          k₃ .at q (inl (omega arith)) ∙ getD-set-same (set g₂ p q) q _ 0 (omega arith) ∙ k₁ .at p (inl (omega arith))
+          ∙ getD-set-same g p top 0 (omega arith);
       whole =
-          keeps-then p e _ _ _ (wider p (suc p) p e _ _ (omega arith) (omega arith) k₀)
-          (keeps-then p e _ _ _ (wider (suc p) q p e _ _ (omega arith) (omega arith) k₁)
-          (keeps-then p e _ _ _ (wider p (suc p) p e _ _ (omega arith) (omega arith) k₂)
-          (keeps-then p e _ _ _ (wider q (suc q) p e _ _ (omega arith) (omega arith) k₂′)
-          (keeps-then p e _ _ _ (wider (suc q) r p e _ _ (omega arith) (omega arith) k₃)
-          (keeps-then p e _ _ _ (wider q (suc q) p e _ _ (omega arith) (omega arith) k₄) (wider (suc r) e p e _ _ (omega arith) (omega arith) k₅))))));
+          keeps-then (wider k₀ (omega arith) (omega arith))
+          (keeps-then (wider k₁ (omega arith) (omega arith))
+          (keeps-then (wider k₂ (omega arith) (omega arith))
+          (keeps-then (wider k₂′ (omega arith) (omega arith))
+          (keeps-then (wider k₃ (omega arith) (omega arith))
+          (keeps-then (wider k₄ (omega arith) (omega arith)) (wider k₅ (omega arith) (omega arith)))))));
       first =
           λ i lo hi. k₅ .at i (inl (omega arith)) ∙ k₄ .at i (inl hi) ∙ k₃ .at i (inl (omega arith)) ∙ k₂′ .at i (inl hi) ∙ k₂ .at i (inr lo);
       second = λ i lo hi. k₅ .at i (inl (omega arith)) ∙ k₄ .at i (inr lo);
@@ -157,17 +166,17 @@ module _ (f : Test) (a b k : Tree Assignment Test) (p : ℕ) (s s₂ s₄ s₆ :
       let r = suc q + rows b in
       let e = suc r + rows k in
       let upto : e ≤ p + (3 + (rows a + rows b + rows k)) = omega arith in
-      let C = came-fork p (rows a) (rows b) (rows k) (s .came) (s₂ .came) (s₄ .came) (s₆ .came) (s₂ .top) (s₄ .top) lc (A .cameKept) (B .cameKept) (K .cameKept) in
+      let C = came-fork p (rows a) (rows b) (rows k) _ _ _ _ _ _ lc (A .cameKept) (B .cameKept) (K .cameKept) in
       let k₃ = subst (λ j. Keeps (suc q) r (set (set (s₂ .goes) j q) q (getD (s₂ .goes) j 0)) (s₄ .goes)) (A .top) (B .goesKept) in
       let k₅ = subst (λ j. Keeps (suc r) e (set (s₄ .goes) j r) (s₆ .goes)) (B .top) (K .goesKept) in
-      let G = goes-fork p (rows a) (rows b) (rows k) (s .top) (s .goes) (s₂ .goes) (s₄ .goes) (s₆ .goes) lg (A .goesKept) k₃ k₅ in
+      let G = goes-fork p (rows a) (rows b) (rows k) _ _ _ _ _ lg (A .goesKept) k₃ k₅ in
       record {
         top = K .top ∙ ap (λ j. getD (s₄ .goes) j 0) (B .top) ∙ G .outer;
         came = (
-          came-stays a (suc p) (s₂ .came) (s₆ .came) (λ i l h. C .1 .at i (inl h)) (A .came),
-          C .3 ∙ A .top,
-          came-stays b (suc q) (s₄ .came) (s₆ .came) (λ i l h. C .2 .at i (inl h)) (B .came),
-          C .4 ∙ B .top,
+          came-stays a (suc p) (s₂ .came) (s₆ .came) (λ i l h. C .afterFirst .at i (inl h)) (A .came),
+          C .atElse ∙ A .top,
+          came-stays b (suc q) (s₄ .came) (s₆ .came) (λ i l h. C .afterSecond .at i (inl h)) (B .came),
+          C .atEnd ∙ B .top,
           K .came,
         );
         goes = (
@@ -177,8 +186,8 @@ module _ (f : Test) (a b k : Tree Assignment Test) (p : ℕ) (s s₂ s₄ s₆ :
           goes-stays b (suc q) (s₄ .goes) (s₆ .goes) (G .second) (B .goes),
           K .goes,
         );
-        cameKept = wider p e p _ _ _ (omega arith) upto (C .0);
-        goesKept = wider p e p _ _ _ (omega arith) upto (G .whole);
+        cameKept = wider (C .whole) (omega arith) upto;
+        goesKept = wider (G .whole) (omega arith) upto;
       }
 
 module _ (m : ℕ) (a k : Tree Assignment Test) (p : ℕ) (s s₂ s₄ : Found) where
@@ -188,7 +197,6 @@ module _ (m : ℕ) (a k : Tree Assignment Test) (p : ℕ) (s s₂ s₄ : Found) 
   after-again lc lg A K =
       let q = suc p + rows a in
       let e = suc q + rows k in
-      let upto : e ≤ p + (2 + (rows a + rows k)) = omega arith in
       let c₁ = A .cameKept in
       let c₂ = store-keeps (s₂ .came) p q in
       let c₃ = subst (λ j. Keeps (suc q) e (set (s₂ .came) j q) (s₄ .came)) (A .top) (K .cameKept) in
@@ -211,14 +219,12 @@ module _ (m : ℕ) (a k : Tree Assignment Test) (p : ℕ) (s s₂ s₄ : Found) 
           K .goes,
         );
         cameKept =
-            wider p e p _ _ _ (omega arith) upto
-            (keeps-then p e _ _ _ (wider (suc p) q p e _ _ (omega arith) (omega arith) c₁)
-            (keeps-then p e _ _ _ (wider p (suc p) p e _ _ (omega arith) (omega arith) c₂) (wider (suc q) e p e _ _ (omega arith) (omega arith) c₃)));
+            keeps-then (wider c₁ (omega arith) (omega arith))
+            (keeps-then (wider c₂ (omega arith) (omega arith)) (wider c₃ (omega arith) (omega arith)));
         goesKept =
-            wider p e p _ _ _ (omega arith) upto
-            (keeps-then p e _ _ _ (wider p (suc p) p e _ _ (omega arith) (omega arith) g₀)
-            (keeps-then p e _ _ _ (wider (suc p) q p e _ _ (omega arith) (omega arith) g₁)
-            (keeps-then p e _ _ _ (wider q (suc q) p e _ _ (omega arith) (omega arith) g₂) (wider (suc q) e p e _ _ (omega arith) (omega arith) g₃))));
+            keeps-then (wider g₀ (omega arith) (omega arith))
+            (keeps-then (wider g₁ (omega arith) (omega arith))
+            (keeps-then (wider g₂ (omega arith) (omega arith)) (wider g₃ (omega arith) (omega arith))));
       }
 
 -- ---- the pass, part by part
@@ -246,8 +252,9 @@ module _ (line : ℕ → SheetLine) where
       rw count (found-both (suc p) x (suc z) (foundAt (line p) p s))
 
   found-fork : (p x y z : ℕ) (s : Found) → let q = suc p + x in let r = suc q + y in
-      foundOver line p (3 + (x + y + z)) s
-      ≡ foundOver line (suc r) z (foundAt (line r) r (foundOver line (suc q) y (foundAt (line q) q (foundOver line (suc p) x (foundAt (line p) p s)))))
+      let first = foundOver line (suc p) x (foundAt (line p) p s) in
+      let second = foundOver line (suc q) y (foundAt (line q) q first) in
+      foundOver line p (3 + (x + y + z)) s ≡ foundOver line (suc r) z (foundAt (line r) r second)
   unfolding foundOver
   found-fork p x y z s =
       let count : 3 + (x + y + z) ≡ 2 + (x + (y + suc z)) = omega arith in
@@ -255,11 +262,13 @@ module _ (line : ℕ → SheetLine) where
       (found-again p x (y + suc z) s
       ∙ found-both (suc (suc p + x)) y (suc z) (foundAt (line (suc p + x)) (suc p + x) (foundOver line (suc p) x (foundAt (line p) p s))))
 
-  found-long : (l : SheetLine) (p : ℕ) (s : Found) → (length (foundAt l p s .came) ≡ length (s .came)) × (length (foundAt l p s .goes) ≡ length (s .goes))
+  found-long : (l : SheetLine) (p : ℕ) (s : Found)
+      → (length (foundAt l p s .came) ≡ length (s .came)) × (length (foundAt l p s .goes) ≡ length (s .goes))
   unfolding foundAt
   found-long (basic b) p s = (refl, refl)
   found-long (ifLine f) p s = (refl, length-set (s .goes) p (s .top))
-  found-long elseLine p s = (length-set (s .came) p (s .top), length-set (set (s .goes) (s .top) p) p (getD (s .goes) (s .top) 0) ∙ length-set (s .goes) (s .top) p)
+  found-long elseLine p s =
+      (length-set (s .came) p (s .top), length-set (set (s .goes) (s .top) p) p (getD (s .goes) (s .top) 0) ∙ length-set (s .goes) (s .top) p)
   found-long endIf p s = (length-set (s .came) p (s .top), length-set (s .goes) (s .top) p)
   found-long (repeat m) p s = (refl, length-set (s .goes) p (s .top))
   found-long endRepeat p s = (length-set (s .came) (s .top) p, length-set (s .goes) p (s .top))
@@ -268,15 +277,15 @@ module _ (line : ℕ → SheetLine) where
       → Passed t p s (foundOver line p (rows t) s)
   unfolding LinesAt CameFrom GoesTo rows foundOver
   passed-over done p s l lc lg =
-      record { top = refl; came = tt; goes = tt; cameKept = keeps-all p (p + 0) (s .came); goesKept = keeps-all p (p + 0) (s .goes) }
+      record { top = refl; came = tt; goes = tt; cameKept = keeps-all (s .came); goesKept = keeps-all (s .goes) }
   passed-over (one b k) p s l lc lg =
       let K = passed-over k (suc p) s (l .1) (omega arith) (omega arith) in
       rw (found-one p (rows k) s b (l .0)) (record {
         top = K .top;
         came = K .came;
         goes = K .goes;
-        cameKept = wider (suc p) (suc p + rows k) p (p + (1 + rows k)) _ _ (omega arith) (omega arith) (K .cameKept);
-        goesKept = wider (suc p) (suc p + rows k) p (p + (1 + rows k)) _ _ (omega arith) (omega arith) (K .goesKept);
+        cameKept = wider (K .cameKept) (omega arith) (omega arith);
+        goesKept = wider (K .goesKept) (omega arith) (omega arith);
       })
   passed-over (fork f a b k) p s l lc lg =
       let q = suc p + rows a in

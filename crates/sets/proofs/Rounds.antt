@@ -14,7 +14,8 @@ use Rattle.sets.specs.inner.Growth.{Grew, Stepped}
 use Rattle.sets.proofs.GrowthLaws.{grew-then}
 
 round-more : (e : ℕ → Equation) (i m : ℕ) (sets : List VariableSet)
-    → round (listed e i (suc m)) sets ≡ round (listed e (suc i) m) (set sets (pointOf (e i)) (setAt sets (pointOf (e i)) ∪ rightSide (e i) (setAt sets)))
+    → round (listed e i (suc m)) sets
+    ≡ round (listed e (suc i) m) (set sets (pointOf (e i)) (setAt sets (pointOf (e i)) ∪ rightSide (e i) (setAt sets)))
 unfolding listed round
 round-more e i m sets = refl
 

@@ -129,13 +129,15 @@ module _ (line : ℕ → SheetLine) (partners : List ℕ) (turn turns : ℕ → 
   forward-up (fork f a b k) p rest w l c =
       let q = suc p + rows a in
       let r = suc q + rows b in
+      let third = joins q r (suc r) ∷ forward turns k (suc r) rest in
+      let second = passes p (suc q) unchanged ∷ forward turns b (suc q) third in
       cc (
         up-fork forwardAt p (rows a) (rows b) (rows k) rest,
         forward-line p _ (ifLine f) (l .0) refl,
         forward-line q p elseLine (l .2) (c .1),
         forward-line r q endIf (l .4) (c .3),
-        forward-up a (suc p) (passes p (suc q) unchanged ∷ forward turns b (suc q) (joins q r (suc r) ∷ forward turns k (suc r) rest)) (omega arith) (l .1) (c .0),
-        forward-up b (suc q) (joins q r (suc r) ∷ forward turns k (suc r) rest) (omega arith) (l .3) (c .2),
+        forward-up a (suc p) second (omega arith) (l .1) (c .0),
+        forward-up b (suc q) third (omega arith) (l .3) (c .2),
         forward-up k (suc r) rest (omega arith) (l .5) (c .4),
       )
   forward-up (again m a k) p rest w l c =
@@ -154,7 +156,8 @@ module _ (line : ℕ → SheetLine) (partners : List ℕ) (turn turns : ℕ → 
   backward-down done p rest w l c = refl
   backward-down (one b k) p rest w l c =
       let count : 1 + rows k ≡ suc (rows k) = omega arith in
-      rw count (cc (backward-line p _ (basic b) (l .0) refl, agree p b (omega arith) (l .0), backward-down k (suc p) (passes (suc p) p (turns p b) ∷ rest) (omega arith) (l .1) c))
+      let first = passes (suc p) p (turns p b) ∷ rest in
+      rw count (cc (backward-line p _ (basic b) (l .0) refl, agree p b (omega arith) (l .0), backward-down k (suc p) first (omega arith) (l .1) c))
   backward-down (fork f a b k) p rest w l c =
       let q = suc p + rows a in
       let r = suc q + rows b in

@@ -31,7 +31,8 @@ module _ (which : Which) (words : List ℕ) (v : ℕ) (there : v < length words)
   pub seed-none : seedFrom which words v v ≡ 0
   unfolding seedFrom places
   seed-none =
-      let none : drop v (take v (drop 1 words)) ≡ [] = subst (λ n. drop n (take v (drop 1 words)) ≡ []) roles-length (drop-length (take v (drop 1 words))) in
+      let roles = take v (drop 1 words) in
+      let none : drop v roles ≡ [] = subst (λ n. drop n roles ≡ []) roles-length (drop-length roles) in
       rw (none, places)
 
   pub seed-all : seedFrom which words v 0 ≡ seedIn which words v

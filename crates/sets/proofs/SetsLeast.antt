@@ -77,7 +77,8 @@ falling-apart p [] h = tt
 falling-apart p (x ∷ es) h = (λ e m. omega (arith, falling-under (pointOf x) es (h .1) e m), falling-apart (pointOf x) es (h .1))
 
 module _ {B F : Type 0} (pass : ℕ → B → VariableSet → VariableSet) where
-  forward-rises : (t : Tree B F) (p q r : ℕ) (rest : List Equation) → p + rows t ≡ q → Rising (suc q) r rest → Rising (suc p) r (forward pass t p rest)
+  forward-rises : (t : Tree B F) (p q r : ℕ) (rest : List Equation) → p + rows t ≡ q → Rising (suc q) r rest
+      → Rising (suc p) r (forward pass t p rest)
   unfolding forward rows pointOf
   forward-rises done p q r rest e h = subst (λ n. Rising n r rest) (omega arith) h
   forward-rises (one b k) p q r rest e h = (refl, forward-rises k (suc p) q r rest (omega arith) h)

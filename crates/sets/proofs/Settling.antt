@@ -10,7 +10,8 @@ use Rattle.sets.specs.VariableSets.{VariableSet, empty}
 use Rattle.sets.specs.Equations.{Equation, round, same, settled, least}
 use Rattle.sets.specs.inner.ProperEquations.{Proper}
 use Rattle.sets.specs.inner.Growth.{sumOf, Swept}
-use Rattle.sets.proofs.EquationsLeast.{Kept, round-kept, round-grows, start-kept, total, total-most, total-grows, settled-on, settled-rests, same-equal, same-refl}
+use Rattle.sets.proofs.EquationsLeast.{Kept, round-kept, round-adds, start-kept, total, total-most}
+use Rattle.sets.proofs.EquationsLeast.{settled-on, settled-rests, same-equal, same-refl}
 
 -- with this fuel the definition's rounds go on from here to the least sets
 pub record Fuelled (v points : ℕ) (es : List Equation) (sets : List VariableSet) : Type 0 where
@@ -47,11 +48,7 @@ module _ (v points : ℕ) (es : List Equation) (proper : Proper v points es) whe
         still ∙ sym (settled-rests n es sets same-round) ∙ reaches
 
     more-members : next ≡ round es sets → sumOf sets < sumOf next → total v sets < total v next
-    more-members is larger =
-        let after = round-kept v points es proper sets kept in
-        subst (λ x. total v sets < total v x) (sym is)
-        (go (total-grows v sets (round es sets) (kept .long ∙ sym (after .long)) (round-grows v points es proper es (λ x k. k) sets (kept .long) .grows) (kept .below)
-        (after .below)))
+    more-members is larger = subst (λ x. total v sets < total v x) (sym is) (go (round-adds v points es proper sets kept))
       where
         go : (sets ≡ round es sets) ⊎ (total v sets < total v (round es sets)) → total v sets < total v (round es sets)
         go (inl e) = absurd (omega (arith, ap sumOf (e ∙ sym is)))
@@ -74,7 +71,8 @@ module _ (v points : ℕ) (es : List Equation) (proper : Proper v points es) whe
   swept-kept : (sets next : List VariableSet) (grew : Bool) → Kept v points es sets → Swept es sets next grew → Kept v points es next
   swept-kept sets next grew kept swept = subst (Kept v points es) (sym (swept .rounds)) (round-kept v points es proper sets kept)
 
-  pub settling-on : (sets next : List VariableSet) (grew : Bool) → Settling v points es sets true → Swept es sets next grew → Settling v points es next grew
+  pub settling-on : (sets next : List VariableSet) (grew : Bool) → Settling v points es sets true → Swept es sets next grew
+      → Settling v points es next grew
   settling-on sets next true s swept =
       let fuelled = s .on refl in
       record {

@@ -4,11 +4,12 @@ use native.Mathlib.Omega.{arith}
 use mathlib.Core.Path.{_≡_, refl, sym, ap, subst, _∙_}
 use mathlib.Core.Bool.{false}
 use mathlib.Core.List.{List, [], _∷_}
-use lib.ListN.{length, take, drop, length-map}
+use lib.ListN.{length, getD, take, drop, length-map}
 use Rattle.sheet.specs.Bounds.{limit}
-use Rattle.sheet.specs.Tree.{rows, flat, basic}
-use Rattle.sheet.specs.Rows.{Assignment, _≔_, sheetRowOf, treeRows, isIndependent, isDependent, copy, fixed, sum, difference, product, negation}
-use Rattle.sheet.specs.Reading.{rowsAt, variablesOf}
+use Rattle.sheet.specs.Tree.{Tree, rows, flat, basic}
+use Rattle.sheet.specs.Rows.{Assignment, Test, _≔_, copy, fixed, sum, difference, product, negation}
+use Rattle.sheet.specs.Rows.{SheetLine, sheetRowOf, treeRows, isIndependent, isDependent}
+use Rattle.sheet.specs.Reading.{Sheet, rowsAt, variablesOf}
 use Rattle.sheet.proofs.RowsCounted.{lines-counted}
 use Rattle.sheet.proofs.ReadingParts.{accepted, same-given}
 use Rattle.sheet.proofs.ReadingExact.{reading-exact}
@@ -20,10 +21,11 @@ use Rattle.sets.specs.Equations.{Equation, starts, least}
 use Rattle.sets.specs.inner.ProperEquations.{Proper}
 use Rattle.sets.specs.Transfers.{variedAfter, usefulBefore, requiredAfter, adjointUse, Activity}
 use Rattle.sets.specs.Marks.{points, varied, useful, required, variedEquations, usefulEquations, requiredEquations, activityAt, markBy}
-use Rattle.sets.specs.inner.Partners.{CameFrom, GoesTo, Found, PartnersFound}
-use Rattle.sets.specs.inner.RowEquations.{Given, lineIn, activeIn, turnOf, equationOf, equationIn, rowInTurn, rowEquations, startOf, allEquations, AllReadable, seedIn, Settles}
+use Rattle.sets.specs.inner.Partners.{CameFrom, GoesTo, found, PartnersFound}
+use Rattle.sets.specs.inner.RowEquations.{givenBy, lineIn, activeIn, turnOf, equationOf, equationIn, rowInTurn}
+use Rattle.sets.specs.inner.RowEquations.{rowEquations, startOf, allEquations, AllReadable, seedIn, Settles}
 use Rattle.sets.specs.inner.RowWords.{maskBits}
-use Rattle.sets.specs.inner.MarkBytes.{byteAt, written}
+use Rattle.sets.specs.inner.MarkBytes.{markBytes, bytesOf, byteAt, written}
 use Rattle.sets.specs.inner.Laid.{Laid, MarksLeft, AllMarked}
 use Rattle.sets.proofs.RowByRow.{LinesAt, forward-listed, backward-listed}
 use Rattle.sets.proofs.SheetRows.{lines-at, rows-readable}
@@ -63,23 +65,28 @@ module _ (words : List ℕ) (variables first count : ℕ) (laid : Laid words var
   pub facts : Facts
   unfolding treeRows
   facts =
-      let parts = accepted words (laid .sheet) (laid .accepted) in
-      let counted = counts words (laid .sheet) parts in
+      let sheet = laid .sheet in
+      let parts = accepted words sheet (laid .accepted) in
+      let counted = counts words sheet parts in
       let vs = count-judged words 0 1 (limit .variables) 1 (parts .v) (parts .variables) in
       let ks = count-judged words (1 + parts .v) 0 (limit .constants) 1 (parts .k) (parts .constantCount) in
       let ns = count-judged words (1 + parts .v + 1 + parts .k) 0 (limit .rows) (limit .rowWords) (parts .n) (parts .rowCount) in
-      let at : suc (1 + parts .v + 1 + parts .k) ≡ first = omega (arith, laid .firstIs, counted .variables, counted .constants) in
-      let says : treeRows (laid .sheet .body) ≡ rowsAt words first (parts .n) =
-      reading-exact words (laid .sheet) (laid .accepted) .says ∙ parts .rows ∙ ap (λ p. rowsAt words p (parts .n)) at in
-      let size : rows (laid .sheet .body) ≡ parts .n =
-      sym (lines-counted (laid .sheet .body)) ∙ sym (length-map (flat (laid .sheet .body) []) sheetRowOf) ∙ ap length says
-      ∙ rows-at-length words first (parts .n) in
       let vars : variables ≡ parts .v = laid .variablesAre ∙ counted .variables in
+      let fewVariables : length (sheet .roles) ≤ maskBits = omega (arith, counted .notTooMany) in
+      let fewConstants : length (sheet .constants) ≤ maskBits = omega (arith, counted .constants, ks .most) in
+      let at : suc (1 + parts .v + 1 + parts .k) ≡ first = omega (arith, laid .firstIs, counted .variables, counted .constants) in
+      let says : treeRows (sheet .body) ≡ rowsAt words first (parts .n) =
+      reading-exact words sheet (laid .accepted) .says ∙ parts .rows ∙ ap (λ p. rowsAt words p (parts .n)) at in
+      let size : rows (sheet .body) ≡ parts .n =
+      sym (lines-counted (sheet .body)) ∙ sym (length-map (flat (sheet .body) []) sheetRowOf) ∙ ap length says
+      ∙ rows-at-length words first (parts .n) in
+      let few : count ≤ limit .rows = omega (arith, laid .rowsAre, size, ns .most) in
+      let present = names-present words sheet (laid .accepted) in
       record {
         readable = λ p h.
-            rows-readable _ _ (omega (arith, counted .notTooMany)) (omega (arith, counted .constants, ks .most)) words first (parts .n) (laid .sheet .body)
-            says (names-present words (laid .sheet) (laid .accepted)) p (omega (arith, laid .rowsAre)) (omega (arith, laid .rowsAre, size, ns .most));
-        lines = lines-at words first (parts .n) (laid .sheet .body) says;
+            rows-readable _ _ fewVariables fewConstants words first (parts .n) (sheet .body) says present p (omega (arith, laid .rowsAre))
+            (omega arith);
+        lines = lines-at words first (parts .n) (sheet .body) says;
         variablesSmall = omega (arith, vars, vs .most);
         rolesThere = omega (arith, vars, vs .there);
         roles = parts .roles ∙ ap (λ n. take n (drop 1 words)) (sym vars);
@@ -87,114 +94,133 @@ module _ (words : List ℕ) (variables first count : ℕ) (laid : Laid words var
 
   pub partners-right : (came goes came′ goes′ : List ℕ) → PartnersFound (lineIn words first) count came goes came′ goes′ → count ≤ length came
       → count ≤ length goes → CameFrom came′ (laid .sheet .body) 0 × GoesTo goes′ (laid .sheet .body) 0
-  partners-right came goes came′ goes′ found lc lg =
-      let start : Found = record { top = 0; came = came; goes = goes } in
-      let P = passed-over (lineIn words first) (laid .sheet .body) 0 start (facts .lines) (omega (arith, laid .rowsAre)) (omega (arith, laid .rowsAre)) in
-      let Q = rw (sym (laid .rowsAre)) at P in
-      (rw (found .0) (Q .came), rw (found .1) (Q .goes))
+  partners-right came goes came′ goes′ pass lc lg =
+      let passed = rw (sym (laid .rowsAre)) at
+      (passed-over (lineIn words first) (laid .sheet .body) 0 (found 0 came goes) (facts .lines) (omega (arith, laid .rowsAre))
+      (omega (arith, laid .rowsAre))) in
+      (rw (pass .0) (passed .came), rw (pass .1) (passed .goes))
 
-  module _ (marks partners : List ℕ) where
-    abbrev handed : Given
-    handed = record { words = words; first = first; marks = marks; partners = partners }
+module _ {words : List ℕ} {variables first count : ℕ} (laid : Laid words variables first count) where
+  abbrev sheet : Sheet
+  sheet = laid .sheet
 
-    pub varied-all : CameFrom partners (laid .sheet .body) 0 → allEquations Varied handed count (seedIn Varied words variables) ≡ variedEquations (laid .sheet)
-    unfolding allEquations rowEquations rowInTurn startOf equationIn equationOf turnOf seedIn variedEquations
-    varied-all c =
-        rw (laid .rowsAre, sym (facts .roles))
-        (ap (λ es. starts 0 (places isIndependent (laid .sheet .roles)) ∷ es)
-        (forward-listed (lineIn words first) partners (λ p. turnOf Varied (activeIn handed p)) (λ p. variedAfter) (rows (laid .sheet .body)) (λ p b h e. refl) (laid .sheet .body) (omega arith) (facts .lines) c))
+  abbrev body : Tree Assignment Test
+  body = laid .sheet .body
 
-    pub useful-all : GoesTo partners (laid .sheet .body) 0 → allEquations Useful handed count (seedIn Useful words variables) ≡ usefulEquations (laid .sheet)
-    unfolding allEquations rowEquations rowInTurn startOf equationIn equationOf turnOf seedIn usefulEquations
-    useful-all c =
-        rw (laid .rowsAre, sym (facts .roles))
-        (ap (λ es. starts (rows (laid .sheet .body)) (places isDependent (laid .sheet .roles)) ∷ es)
-        (backward-listed (lineIn words first) partners (λ p. turnOf Useful (activeIn handed p)) (λ p. usefulBefore) (rows (laid .sheet .body)) (λ p b h e. refl) (laid .sheet .body) (omega arith) (facts .lines) c))
+  abbrev line : ℕ → SheetLine
+  line = lineIn words first
 
-    -- where the marks say which rows are active
-    pub required-all : (v u : List VariableSet) → ((p : ℕ) (b : Assignment) → p < count → lineIn words first p ≡ basic b → activeIn handed p ≡ activityAt v u p b .active)
-        → CameFrom partners (laid .sheet .body) 0
-        → allEquations Required handed count (seedIn Required words variables) ≡ requiredEquations (laid .sheet) v u
-    unfolding allEquations rowEquations rowInTurn startOf equationIn equationOf turnOf seedIn requiredEquations
-    required-all v u active c =
-        rw (laid .rowsAre, nothing-placed (take variables (drop 1 words)))
-        (ap (λ es. starts 0 empty ∷ es)
-        (forward-listed (lineIn words first) partners (λ p. turnOf Required (activeIn handed p)) (λ p b. requiredAfter b (activityAt v u p b))
-        count (λ p b h e. use-by-active b _ _ (active p b h e)) (laid .sheet .body) (omega (arith, laid .rowsAre)) (facts .lines) c))
+  abbrev known : Facts words variables first count laid
+  known = facts words variables first count laid
 
-  -- what is asked of the code's rounds, and what they come to
+  -- ---- the code's equations, with marks and partners for each row, are the definitions'
+
+  abbrev codeEquations : Which → (marks partners : List ℕ) → List Equation
+  codeEquations which marks partners = allEquations which (givenBy words first marks partners) count (seedIn which words variables)
+
+  code-rows : (which : Which) (marks partners : List ℕ) → codeEquations which marks partners
+      ≡ allEquations which (givenBy words first marks partners) (rows body) (seedIn which words variables)
+  code-rows which marks partners = ap (λ n. allEquations which (givenBy words first marks partners) n (seedIn which words variables)) (laid .rowsAre)
+
+  varied-all : (marks partners : List ℕ) → CameFrom partners body 0 → codeEquations Varied marks partners ≡ variedEquations sheet
+  unfolding allEquations rowEquations rowInTurn startOf equationIn equationOf turnOf seedIn variedEquations
+  varied-all marks partners c =
+      let active = activeIn (givenBy words first marks partners) in
+      code-rows Varied marks partners ∙ rw (sym (known .roles))
+      (ap (λ es. starts 0 (places isIndependent (sheet .roles)) ∷ es)
+      (forward-listed line partners (λ p. turnOf Varied (active p)) (λ p. variedAfter) (rows body) (λ p b h e. refl) body (omega arith)
+      (known .lines) c))
+
+  useful-all : (marks partners : List ℕ) → GoesTo partners body 0 → codeEquations Useful marks partners ≡ usefulEquations sheet
+  unfolding allEquations rowEquations rowInTurn startOf equationIn equationOf turnOf seedIn usefulEquations
+  useful-all marks partners c =
+      let active = activeIn (givenBy words first marks partners) in
+      code-rows Useful marks partners ∙ rw (sym (known .roles))
+      (ap (λ es. starts (rows body) (places isDependent (sheet .roles)) ∷ es)
+      (backward-listed line partners (λ p. turnOf Useful (active p)) (λ p. usefulBefore) (rows body) (λ p b h e. refl) body (omega arith)
+      (known .lines) c))
+
+  -- the marks say which rows are active
+  abbrev ActiveMarked : (v u : List VariableSet) (marks : List ℕ) → Type 0
+  ActiveMarked v u marks =
+      (p : ℕ) (b : Assignment) → p < count → line p ≡ basic b → activeIn (givenBy words first marks []) p ≡ activityAt v u p b .active
+
+  required-all : (marks partners : List ℕ) (v u : List VariableSet) → ActiveMarked v u marks → CameFrom partners body 0
+      → codeEquations Required marks partners ≡ requiredEquations sheet v u
+  unfolding allEquations rowEquations rowInTurn startOf equationIn equationOf turnOf seedIn requiredEquations
+  required-all marks partners v u marked c =
+      let active = activeIn (givenBy words first marks partners) in
+      code-rows Required marks partners ∙ rw (nothing-placed (take variables (drop 1 words)))
+      (ap (λ es. starts 0 empty ∷ es)
+      (forward-listed line partners (λ p. turnOf Required (active p)) (λ p b. requiredAfter b (activityAt v u p b)) count
+      (λ p b h e. use-by-active b _ _ (marked p b h e)) body (omega (arith, laid .rowsAre)) (known .lines) c))
+
+  -- ---- what is asked of the code's rounds, and what they come to
+
+  settles : (which : Which) (es : List Equation) (marks partners : List ℕ) (size : ℕ) → size ≡ suc count → codeEquations which marks partners ≡ es
+      → Proper (variablesOf sheet) (points sheet) es → Settles which (givenBy words first marks partners) count variables size
+  unfolding points
+  settles which es marks partners size sized e proper =
+      record {
+        readable = known .readable;
+        variablesSmall = known .variablesSmall;
+        rolesThere = known .rolesThere;
+        long = sized;
+        proper = rw (e, laid .variablesAre, laid .rowsAre) proper;
+      }
+
+  abbrev Settled : Which → (marks partners : List ℕ) → List VariableSet → Type 0
+  Settled which marks partners sets = sets ≡ least variables (suc count) (codeEquations which marks partners)
+
+  settled-at : (which : Which) (es : List Equation) (marks partners : List ℕ) (sets : List VariableSet) → codeEquations which marks partners ≡ es
+      → Settled which marks partners sets → sets ≡ least (variablesOf sheet) (points sheet) es
+  unfolding points
+  settled-at which es marks partners sets e f = rw (sym (laid .variablesAre), sym (laid .rowsAre), sym e) f
+
   module _ (marks partners : List ℕ) (size : ℕ) (sized : size ≡ suc count) where
-    settles : (which : Which) (es : List Equation) → allEquations which (handed marks partners) count (seedIn which words variables) ≡ es
-        → Proper (variablesOf (laid .sheet)) (points (laid .sheet)) es → Settles which (handed marks partners) count variables size
-    unfolding points
-    settles which es e proper =
-        record {
-          readable = facts .readable;
-          variablesSmall = facts .variablesSmall;
-          rolesThere = facts .rolesThere;
-          long = sized;
-          proper = rw (e, laid .variablesAre, laid .rowsAre) proper;
-        }
+    pub settles-varied : CameFrom partners body 0 → Settles Varied (givenBy words first marks partners) count variables size
+    settles-varied c = settles Varied _ marks partners size sized (varied-all marks partners c) (varied-proper words sheet (laid .accepted))
 
-    settled-at : (which : Which) (es : List Equation) (sets : List VariableSet)
-        → allEquations which (handed marks partners) count (seedIn which words variables) ≡ es
-        → sets ≡ least variables (suc count) (allEquations which (handed marks partners) count (seedIn which words variables))
-        → sets ≡ least (variablesOf (laid .sheet)) (points (laid .sheet)) es
-    unfolding points
-    settled-at which es sets e f = rw (sym (laid .variablesAre), sym (laid .rowsAre), sym e) f
+    pub settles-useful : GoesTo partners body 0 → Settles Useful (givenBy words first marks partners) count variables size
+    settles-useful c = settles Useful _ marks partners size sized (useful-all marks partners c) (useful-proper words sheet (laid .accepted))
 
-    pub settles-varied : CameFrom partners (laid .sheet .body) 0 → Settles Varied (handed marks partners) count variables size
-    settles-varied c = settles Varied _ (varied-all marks partners c) (varied-proper words (laid .sheet) (laid .accepted))
-
-    pub settles-useful : GoesTo partners (laid .sheet .body) 0 → Settles Useful (handed marks partners) count variables size
-    settles-useful c = settles Useful _ (useful-all marks partners c) (useful-proper words (laid .sheet) (laid .accepted))
-
-    pub varied-settled : (sets : List VariableSet) → CameFrom partners (laid .sheet .body) 0
-        → sets ≡ least variables (suc count) (allEquations Varied (handed marks partners) count (seedIn Varied words variables)) → sets ≡ varied (laid .sheet)
+  module _ (marks partners : List ℕ) (sets : List VariableSet) where
+    pub varied-settled : CameFrom partners body 0 → Settled Varied marks partners sets → sets ≡ varied sheet
     unfolding varied
-    varied-settled sets c f = settled-at Varied _ sets (varied-all marks partners c) f
+    varied-settled c f = settled-at Varied _ marks partners sets (varied-all marks partners c) f
 
-    pub useful-settled : (sets : List VariableSet) → GoesTo partners (laid .sheet .body) 0
-        → sets ≡ least variables (suc count) (allEquations Useful (handed marks partners) count (seedIn Useful words variables)) → sets ≡ useful (laid .sheet)
+    pub useful-settled : GoesTo partners body 0 → Settled Useful marks partners sets → sets ≡ useful sheet
     unfolding useful
-    useful-settled sets c f = settled-at Useful _ sets (useful-all marks partners c) f
+    useful-settled c f = settled-at Useful _ marks partners sets (useful-all marks partners c) f
 
-    -- the marks that were written by the first two sets say which rows are active, whatever the third held
-    module _ (v u r : List VariableSet) (before : List ℕ) (room : count ≤ length before)
-        (wrote : marks ≡ written (λ p. byteAt v u r p (lineIn words first p)) count before) where
-      active-marked : (p : ℕ) (b : Assignment) → p < count → lineIn words first p ≡ basic b → activeIn (handed marks partners) p ≡ activityAt v u p b .active
-      unfolding byteAt markBy
-      active-marked p b h e =
-          let at = written-at (λ i. byteAt v u r i (lineIn words first i)) count before room p h in
-          let line = ap (byteAt v u r p) e in
-          rw (wrote, at, line) (read-back (activityAt v u p b) (markBy v u r p b .saved) .active)
+  -- the marks that were written by the first two sets say which rows are active, whatever the third held
+  module _ (marks partners : List ℕ) (v u r : List VariableSet) (before : List ℕ) (room : count ≤ length before)
+      (wrote : marks ≡ written (bytesOf v u r line) count before) where
+    active-marked : ActiveMarked v u marks
+    unfolding byteAt markBy
+    active-marked p b h e =
+        rw (wrote, written-at (bytesOf v u r line) count before room p h, ap (byteAt v u r p) e)
+        (read-back (activityAt v u p b) (markBy v u r p b .saved) .active)
 
-      pub settles-required : CameFrom partners (laid .sheet .body) 0 → Settles Required (handed marks partners) count variables size
-      settles-required c =
-          settles Required _ (required-all marks partners v u active-marked c) (required-proper words (laid .sheet) (laid .accepted) v u)
+    pub settles-required : (size : ℕ) → size ≡ suc count → CameFrom partners body 0
+        → Settles Required (givenBy words first marks partners) count variables size
+    settles-required size sized c =
+        settles Required _ marks partners size sized (required-all marks partners v u active-marked c)
+        (required-proper words sheet (laid .accepted) v u)
 
-      pub required-settled : (sets : List VariableSet) → CameFrom partners (laid .sheet .body) 0 → v ≡ varied (laid .sheet) → u ≡ useful (laid .sheet)
-          → sets ≡ least variables (suc count) (allEquations Required (handed marks partners) count (seedIn Required words variables))
-          → sets ≡ required (laid .sheet)
-      unfolding required
-      required-settled sets c vs us f =
-          settled-at Required _ sets (required-all marks partners v u active-marked c) f
-          ∙ ap (λ x. least (variablesOf (laid .sheet)) (points (laid .sheet)) (requiredEquations (laid .sheet) x u)) vs
-          ∙ ap (λ x. least (variablesOf (laid .sheet)) (points (laid .sheet)) (requiredEquations (laid .sheet) (varied (laid .sheet)) x)) us
+    pub required-settled : (sets : List VariableSet) → CameFrom partners body 0 → v ≡ varied sheet → u ≡ useful sheet
+        → Settled Required marks partners sets → sets ≡ required sheet
+    unfolding required
+    required-settled sets c vs us f =
+        rw (sym vs, sym us) (settled-at Required _ marks partners sets (required-all marks partners v u active-marked c) f)
 
   -- all marks, whichever sheet the words are said to be
-  pub all-marked : (v u r : List VariableSet) (before after : List ℕ) → v ≡ varied (laid .sheet) → u ≡ useful (laid .sheet) → r ≡ required (laid .sheet)
-      → after ≡ written (λ p. byteAt v u r p (lineIn words first p)) count before → AllMarked words count v u r before after
+  pub all-marked : (v u r : List VariableSet) (before after : List ℕ) → v ≡ varied sheet → u ≡ useful sheet → r ≡ required sheet
+      → after ≡ written (bytesOf v u r line) count before → AllMarked words count v u r before after
   all-marked v u r before after vs us rs wrote other e =
-      let same : laid .sheet ≡ other = same-given (sym (laid .accepted) ∙ e) in
+      let same : sheet ≡ other = same-given (sym (laid .accepted) ∙ e) in
+      let listed : written (bytesOf (varied sheet) (useful sheet) (required sheet) line) count before
+      ≡ written (λ p. getD (markBytes sheet) p 0) count before =
+      written-same _ _ count before (λ i h. marks-listed sheet line (known .lines) i (omega (arith, laid .rowsAre))) in
       subst (λ s. MarksLeft s count v u r before after) same
-      (record {
-        variedLeft = vs;
-        usefulLeft = us;
-        requiredLeft = rs;
-        marksLeft =
-            wrote ∙ ap (λ x. written (λ p. byteAt x u r p (lineIn words first p)) count before) vs
-            ∙ ap (λ x. written (λ p. byteAt (varied (laid .sheet)) x r p (lineIn words first p)) count before) us
-            ∙ ap (λ x. written (λ p. byteAt (varied (laid .sheet)) (useful (laid .sheet)) x p (lineIn words first p)) count before) rs
-            ∙ written-same _ _ count before (λ i h. marks-listed (laid .sheet) (lineIn words first) (facts .lines) i (omega (arith, laid .rowsAre)));
-      })
+      (record { variedLeft = vs; usefulLeft = us; requiredLeft = rs; marksLeft = wrote ∙ rw (vs, us, rs) listed })

@@ -36,7 +36,8 @@ module _ (words : List ℕ) (first : ℕ) where
       (ap lineOfRow (sym (here ∙ ap (rowAt words) at)) ∙ line-back l, rows-say ls (suc p) n (place + limit .rowWords) (omega arith) more)
 
 module _ (line : ℕ → SheetLine) where
-  lines-part : (t : Tree Assignment Test) (p : ℕ) (rest : List SheetLine) → LinesFrom line (flat t rest) p → LinesAt line t p × LinesFrom line rest (p + rows t)
+  lines-part : (t : Tree Assignment Test) (p : ℕ) (rest : List SheetLine) → LinesFrom line (flat t rest) p
+      → LinesAt line t p × LinesFrom line rest (p + rows t)
   unfolding flat rows LinesAt
   lines-part done p rest h = (tt, subst (LinesFrom line rest) (omega arith) h)
   lines-part (one b k) p rest h =

@@ -39,6 +39,8 @@ unchanged s = s
 module _ {B F : Type 0} where
   -- From before to after, one equation a row, then `rest`. `after p b` is what row p, an assignment, makes of the set before it.
   -- "After an if block: union of the branch ends. Repeat: body start = before ∪ body end; after = body end."
+  -- `split` is the row of "else" and `end` the block's last row, and so the points where the branches or the body end.
+  -- "Tests of "if" count as no read": f is in no equation. "A repeat of 1 is treated as any repeat": neither is m.
   unfoldable pub forward : (ℕ → B → VariableSet → VariableSet) → Tree B F → ℕ → List Equation → List Equation
   unfolding rows
   forward after done p rest = rest
@@ -47,7 +49,8 @@ module _ {B F : Type 0} where
       let split = suc p + rows a in
       let end = suc split + rows b in
       passes p (suc p) unchanged
-      ∷ forward after a (suc p) (passes p (suc split) unchanged ∷ forward after b (suc split) (joins split end (suc end) ∷ forward after k (suc end) rest))
+      ∷ forward after a (suc p)
+      (passes p (suc split) unchanged ∷ forward after b (suc split) (joins split end (suc end) ∷ forward after k (suc end) rest))
   forward after (again m a k) p rest =
       let end = suc p + rows a in
       joins p end (suc p) ∷ forward after a (suc p) (passes end (suc end) unchanged ∷ forward after k (suc end) rest)

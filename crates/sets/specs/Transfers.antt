@@ -5,7 +5,7 @@ use mathlib.Core.Option.{Option, none, some}
 use Rattle.sheet.specs.Rows.{Assignment, _≔_, Source, copy, fixed, sum, difference, product, negation}
 use Rattle.sets.specs.VariableSets.{VariableSet, empty, has, _∪_, single, without, hasSome, singleSome}
 
--- the variables that an assignment reads, a and b
+-- the variables that an assignment reads: a, and b where there is one; a constant is no variable
 unfoldable pub firstRead : Source → Option ℕ
 firstRead (copy a) = some a
 firstRead (fixed c) = none

@@ -22,6 +22,7 @@ s ∪ t = bitOr s t
 abbrev pub single : ℕ → VariableSet
 single i = 2 ^ i
 
+-- i is put in, so that turning its digit takes it out
 unfoldable pub without : ℕ → VariableSet → VariableSet
 without i s = bitXor (s ∪ single i) (single i)
 

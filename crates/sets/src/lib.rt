@@ -49,9 +49,12 @@ pub fn mark(
     marks: &mut [u8],
 )
     requires { ⌜ Laid (now words) variables first rows
-        × Room rows (length (now came)) (length (now goes)) (length (now varied)) (length (now useful)) (length (now required)) (length (now marks)) ⌝ }
-    ensures { λ r. ⌜ AllMarked (now (words .entry)) rows (now (varied .exit)) (now (useful .exit)) (now (required .exit)) (now (marks .entry)) (now (marks .exit))
-        × PartnersFound (lineIn (now (words .entry)) first) rows (now (came .entry)) (now (goes .entry)) (now (came .exit)) (now (goes .exit)) ⌝ }
+        × Room rows (length (now came)) (length (now goes))
+        (length (now varied)) (length (now useful)) (length (now required)) (length (now marks)) ⌝ }
+    ensures { λ r. ⌜ AllMarked (now (words .entry)) rows
+        (now (varied .exit)) (now (useful .exit)) (now (required .exit)) (now (marks .entry)) (now (marks .exit))
+        × PartnersFound (lineIn (now (words .entry)) first) rows
+        (now (came .entry)) (now (goes .entry)) (now (came .exit)) (now (goes .exit)) ⌝ }
 {
     let extent = Extent {
         first,

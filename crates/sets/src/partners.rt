@@ -3,7 +3,7 @@ ghost use mathlib.Core.Path.{_≡_};
 ghost use Prim.Native.Nat.{_<_};
 ghost use lib.ListN.{getD, set};
 ghost use Rattle.sets.specs.inner.RowEquations.{wordValues, AllReadable, lineIn};
-ghost use Rattle.sets.specs.inner.Partners.{FoundBy, PartnersFound};
+ghost use Rattle.sets.specs.inner.Partners.{found, FoundBy, PartnersFound};
 use super::Extent;
 use sheet::RowNumber;
 use sheet::kinds;
@@ -33,8 +33,8 @@ fn partner_step(
     goes: &mut [u16],
 ) -> RowNumber
     requires { ⌜ (row .0 < wordValues) × (top .0 < wordValues) ⌝ }
-    ensures { λ r. ⌜ FoundBy kind (row .0) (record { top = top .0; came = now (came .entry); goes = now (goes .entry) })
-        (record { top = r .0; came = now (came .exit); goes = now (goes .exit) }) × (r .0 < wordValues) ⌝ }
+    ensures { λ r. ⌜ FoundBy kind (row .0) (found (top .0) (now (came .entry)) (now (goes .entry)))
+        (found (r .0) (now (came .exit)) (now (goes .exit))) × (r .0 < wordValues) ⌝ }
 {
     if (kind == kinds::IF) | (kind == kinds::REPEAT) {
         put(goes, row, top);

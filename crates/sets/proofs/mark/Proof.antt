@@ -1,12 +1,14 @@
--- `sets::mark` meets its contract: with the partners found the code's equations are the definitions', so that each settling gives the definition's set.
+-- `sets::mark` meets its contract: with the partners found the code's equations are the definitions', and so are the sets.
 use borrow.Author.Needs.{needs}
 use mathlib.Core.Path.{ap, _∙_}
 use denote.Ref.{now}
 use Rattle.sets.specs.inner.Partners.{CameFrom, GoesTo}
+use Rattle.sets.specs.inner.RowEquations.{AllReadable}
 use Rattle.sets.specs.inner.MarkBytes.{written}
 use Rattle.sets.specs.inner.Laid.{Laid}
 use Rattle.sets.proofs.MarkByteLaws.{written-over}
-use Rattle.sets.proofs.SheetMarked.{facts, partners-right, settles-varied, settles-useful, settles-required, varied-settled, useful-settled, required-settled, all-marked}
+use Rattle.sets.proofs.SheetMarked.{facts, partners-right, settles-varied, settles-useful, settles-required}
+use Rattle.sets.proofs.SheetMarked.{varied-settled, useful-settled, required-settled, all-marked}
 use Rattle.sets.proofs.mark.Statement.{statement}
 use Rattle.sets.proofs.mark.Tie as tie
 
@@ -32,52 +34,53 @@ atRequired c = c .before .before .before .before .before .before .before
 
 -- ---- what was handed over, and the partners that were found
 
-handed-over : (c : tie.Start) → let args = c .args in Laid (now (args .words)) (args .variables) (args .first) (args .rows)
-handed-over c = c .pre .0
+abbrev handed : (c : tie.Start) → let args = c .args in Laid (now (args .words)) (args .variables) (args .first) (args .rows)
+handed c = c .pre .0
 
-partners-are : (c : tie.After-find-partners) → let body = handed-over (atStart c) .sheet .body in
+partners-are : (c : tie.After-find-partners) → let body = handed (atStart c) .sheet .body in
     CameFrom (c .find-partners .last .1 .1 .0) body 0 × GoesTo (c .find-partners .last .1 .1 .1 .0) body 0
 partners-are c =
     let start = atStart c in
-    partners-right _ _ _ _ (handed-over start) _ _ _ _ (c .find-partners .ensures) (start .pre .1 .cameRoom) (start .pre .1 .goesRoom)
+    partners-right _ _ _ _ (handed start) _ _ _ _ (c .find-partners .ensures) (start .pre .1 .cameRoom) (start .pre .1 .goesRoom)
+
+all-readable : (c : tie.Start) → AllReadable (now (c .args .words)) (c .args .first) (c .args .rows)
+all-readable c = facts _ _ _ _ (handed c) .readable
 
 -- ---- the needs
 
 find-partners-requires : tie.Need-find-partners-requires
-find-partners-requires c κs = facts _ _ _ _ (handed-over (c .before .before .before .before .before .before .before .before .before)) .readable
+find-partners-requires c κs = all-readable (c .before .before .before .before .before .before .before .before .before)
 
 settle-requires : tie.Need-settle-requires
 settle-requires c κs =
     let found = c .before .before .before .before .before .before .before in
     let start = atStart found in
-    settles-varied _ _ _ _ (handed-over start) _ _ _ (start .pre .1 .variedRoom) (partners-are found .0)
+    settles-varied (handed start) _ _ _ (start .pre .1 .variedRoom) (partners-are found .0)
 
 settle-requires-2 : tie.Need-settle-requires-2
 settle-requires-2 c κs =
     let found = atPartners (c .before .before .before .before .before) in
     let start = atStart found in
-    settles-useful _ _ _ _ (handed-over start) _ _ _ (start .pre .1 .usefulRoom) (partners-are found .1)
+    settles-useful (handed start) _ _ _ (start .pre .1 .usefulRoom) (partners-are found .1)
 
 mark-rows-requires : tie.Need-mark-rows-requires
 mark-rows-requires c κs =
     let start = atStart (atPartners (atVaried (c .before .before .before .before .before .before))) in
-    let known = facts _ _ _ _ (handed-over start) in
-    (known .readable, start .pre .1 .marksRoom)
+    (all-readable start, start .pre .1 .marksRoom)
 
 settle-requires-3 : tie.Need-settle-requires-3
 settle-requires-3 c κs =
     let marked = c .before .before .before .before .before in
     let found = atPartners (atVaried (atUseful marked)) in
     let start = atStart found in
-    settles-required _ _ _ _ (handed-over start) _ _ _ (start .pre .1 .requiredRoom) _ _ _ _ (start .pre .1 .marksRoom) (marked .mark-rows .ensures)
+    settles-required (handed start) _ _ _ _ _ _ (start .pre .1 .marksRoom) (marked .mark-rows .ensures) _ (start .pre .1 .requiredRoom)
     (partners-are found .0)
 
 mark-rows-requires-2 : tie.Need-mark-rows-requires-2
 mark-rows-requires-2 c κs =
     let marked = atMarks (c .before .before .before .before .before .before) in
     let start = atStart (atPartners (atVaried (atUseful marked))) in
-    let known = facts _ _ _ _ (handed-over start) in
-    (known .readable, rw (marked .mark-rows .kept .1 .1 .1 .1 .1 .0) (start .pre .1 .marksRoom))
+    (all-readable start, rw (marked .mark-rows .kept .1 .1 .1 .1 .1 .0) (start .pre .1 .marksRoom))
 
 same-length : tie.Need-same-length
 same-length c = atPartners (atVaried (atUseful (atMarks (atRequired (c .before .before))))) .find-partners .kept .1 .1 .0
@@ -105,17 +108,14 @@ returns c =
     let first = atVaried second in
     let found = atPartners first in
     let start = atStart found in
-    let laid = handed-over start in
-    let room = start .pre .1 in
+    let laid = handed start in
     let right = partners-are found in
-    let vs = varied-settled _ _ _ _ laid _ _ _ (room .variedRoom) _ (right .0) (first .settle .ensures) in
-    let us = useful-settled _ _ _ _ laid _ _ _ (room .usefulRoom) _ (right .1) (second .settle2 .ensures) in
-    let first-marks = marked .mark-rows .ensures in
-    let rs = required-settled _ _ _ _ laid _ _ _ (room .requiredRoom) _ _ _ _ (room .marksRoom) first-marks _ (right .0) vs us (third .settle3 .ensures) in (
-      all-marked _ _ _ _ laid _ _ _ _ _ vs us rs
-          (c .before .before .mark-rows2 .ensures ∙ ap (written _ _) first-marks ∙ written-over _ _ (start .args .rows) _),
-      found .find-partners .ensures,
-    )
+    let wrote = marked .mark-rows .ensures in
+    let vs = varied-settled laid _ _ _ (right .0) (first .settle .ensures) in
+    let us = useful-settled laid _ _ _ (right .1) (second .settle2 .ensures) in
+    let rs = required-settled laid _ _ _ _ _ _ (start .pre .1 .marksRoom) wrote _ (right .0) vs us (third .settle3 .ensures) in
+    let last = c .before .before .mark-rows2 .ensures ∙ ap (written _ _) wrote ∙ written-over _ _ (start .args .rows) _ in
+    (all-marked laid _ _ _ _ _ vs us rs last, found .find-partners .ensures)
 
 pub mark-spec : {M : Type 1} → statement M
 mark-spec =

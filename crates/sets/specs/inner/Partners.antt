@@ -44,14 +44,16 @@ pub record Found : Type 0 where
   pub came : List ℕ
   pub goes : List ℕ
 
+abbrev pub found : (top : ℕ) (came goes : List ℕ) → Found
+found top came goes = record { top = top; came = came; goes = goes }
+
 unfoldable pub foundAt : SheetLine → (row : ℕ) → Found → Found
 foundAt (basic b) p s = s
-foundAt (ifLine f) p s = record { top = p; came = s .came; goes = set (s .goes) p (s .top) }
-foundAt elseLine p s =
-    record { top = p; came = set (s .came) p (s .top); goes = set (set (s .goes) (s .top) p) p (getD (s .goes) (s .top) 0) }
-foundAt endIf p s = record { top = getD (s .goes) (s .top) 0; came = set (s .came) p (s .top); goes = set (s .goes) (s .top) p }
-foundAt (repeat m) p s = record { top = p; came = s .came; goes = set (s .goes) p (s .top) }
-foundAt endRepeat p s = record { top = getD (s .goes) (s .top) 0; came = set (s .came) (s .top) p; goes = set (s .goes) p (s .top) }
+foundAt (ifLine f) p s = found p (s .came) (set (s .goes) p (s .top))
+foundAt elseLine p s = found p (set (s .came) p (s .top)) (set (set (s .goes) (s .top) p) p (getD (s .goes) (s .top) 0))
+foundAt endIf p s = found (getD (s .goes) (s .top) 0) (set (s .came) p (s .top)) (set (s .goes) (s .top) p)
+foundAt (repeat m) p s = found p (s .came) (set (s .goes) p (s .top))
+foundAt endRepeat p s = found (getD (s .goes) (s .top) 0) (set (s .came) (s .top) p) (set (s .goes) p (s .top))
 
 unfoldable pub foundOver : (ℕ → SheetLine) → (from count : ℕ) → Found → Found
 unfolding foundAt
@@ -65,5 +67,5 @@ FoundBy kind p before after = (l : SheetLine) → sheetRowOf l .kind ≡ kind �
 -- one pass over all rows, from whatever the lists had
 abbrev pub PartnersFound : (ℕ → SheetLine) → (rows : ℕ) → (came goes came′ goes′ : List ℕ) → Type 0
 PartnersFound line n came goes came′ goes′ =
-    let found = foundOver line 0 n (record { top = 0; came = came; goes = goes }) in
-    (came′ ≡ found .came) × (goes′ ≡ found .goes)
+    let all = foundOver line 0 n (found 0 came goes) in
+    (came′ ≡ all .came) × (goes′ ≡ all .goes)

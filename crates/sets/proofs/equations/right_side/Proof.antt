@@ -39,7 +39,8 @@ returns-3 c =
     let other = c .before .before in
     let block = other .before in
     let own = block .before in
-    in-block _ _ (sets own) _ _ _ _ _ _ (own .own-set .ensures) (other .own-set2 .ensures) (block .if1 .left) (c .before .if2 .left) (c .joined .ensures)
+    in-block _ _ (sets own) _ _ _ _ _ _ (own .own-set .ensures) (other .own-set2 .ensures) (block .if1 .left) (c .before .if2 .left)
+    (c .joined .ensures)
 
 pub right-side-spec : {M : Type 1} → statement M
 right-side-spec =

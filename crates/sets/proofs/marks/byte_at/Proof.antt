@@ -34,7 +34,8 @@ row-byte-requires : tie.Need-row-byte-requires
 row-byte-requires c κs =
     let assigns = c .before .before .before .before .before in
     let read = assigns .before .before in
-    rw (c .operation-of .ensures, read .row-words .ensures) (start read .pre .small (rw (sym (read .row-words .ensures)) (omega (arith, assigns .if1 .left))))
+    rw (c .operation-of .ensures, read .row-words .ensures)
+    (start read .pre .small (rw (sym (read .row-words .ensures)) (omega (arith, assigns .if1 .left))))
 
 returns-2 : tie.Need-returns-2
 returns-2 c =
@@ -43,8 +44,9 @@ returns-2 c =
     let before = after .before .before in
     let assigns = before .before in
     let read = assigns .before .before in
-    some-byte _ _ _ _ _ _ _ _ _ _ _ (start read .pre .says) (rw (sym (read .row-words .ensures)) (assigns .if1 .left)) (c .before .operation-of .ensures ∙ read .row-words .ensures)
-    (before .set-at .ensures) (after .set-at2 .ensures) (needed .set-at3 .ensures) (c .row-byte .ensures)
+    some-byte _ _ _ _ _ _ _ _ _ _ _ (start read .pre .says) (rw (sym (read .row-words .ensures)) (assigns .if1 .left))
+    (c .before .operation-of .ensures ∙ read .row-words .ensures) (before .set-at .ensures) (after .set-at2 .ensures)
+    (needed .set-at3 .ensures) (c .row-byte .ensures)
 
 pub byte-at-spec : {M : Type 1} → statement M
 byte-at-spec =

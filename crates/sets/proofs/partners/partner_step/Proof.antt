@@ -1,6 +1,6 @@
 -- `sets::partners::partner_step` meets its contract: each branch is one case of the row's line.
 use borrow.Author.Needs.{needs}
-use Rattle.sets.proofs.PartnerSteps.{opening, not-opening, opened, passed-by, repeat-ended, split, if-ended}
+use Rattle.sets.proofs.PartnerSteps.{opened, passed-by, repeat-ended, split, if-ended}
 use Rattle.sets.proofs.partners.partner_step.Statement.{statement}
 use Rattle.sets.proofs.partners.partner_step.Tie as tie
 
@@ -12,11 +12,11 @@ same-length c = search needs
 
 returns : tie.Need-returns
 returns c =
-    let put = c .before .before in
-    (λ l e. rw (put .put .ensures) (opened _ _ _ (opening _ (put .before .before .if1 .taken)) l e), put .before .before .before .before .before .pre .0)
+    let opens = c .before .before .before .before in
+    (opened _ _ _ _ _ _ (opens .if1 .taken) (c .before .before .put .ensures), opens .before .before .before .pre .0)
 
 returns-2 : tie.Need-returns-2
-returns-2 c = (passed-by _ _ _ (c .if2 .taken) (not-opening _ (c .before .if1 .left) .0), c .before .before .before .before .pre .1)
+returns-2 c = (passed-by _ _ _ _ _ (c .before .if1 .left) (c .if2 .taken), c .before .before .before .before .pre .1)
 
 partner-of-requires : tie.Need-partner-of-requires
 partner-of-requires c κs = search needs
@@ -37,10 +37,8 @@ returns-3 : tie.Need-returns-3
 returns-3 c =
     let came = c .before .before .before .before .before .before in
     let ends = came .before .before in
-    let outer = ends .before in (
-      λ l e. rw (came .put2 .ensures, c .before .before .put3 .ensures, outer .partner-of .ensures .0) (repeat-ended _ _ _ (ends .if3 .taken) l e),
-      outer .partner-of .ensures .1,
-    )
+    let outer = ends .before .partner-of .ensures in
+    (repeat-ended _ _ _ _ _ _ (outer .0) _ _ (ends .if3 .taken) (came .put2 .ensures) (c .before .before .put3 .ensures), outer .1)
 
 put-requires-4 : tie.Need-put-requires-4
 put-requires-4 c κs = search needs
@@ -62,10 +60,10 @@ returns-4 c =
     let splits = c .before .before .before .before in
     let goes = splits .before .before .before in
     let came = goes .before .before .before .before in
-    let outer = came .before .before .before in (
-      λ l e. rw (came .put4 .ensures, c .before .before .put6 .ensures, goes .put5 .ensures, outer .partner-of .ensures .0)
-          (split _ _ _ (splits .if4 .taken) l e),
-      outer .before .before .before .before .before .before .pre .0,
+    let asked = came .before .before .before in (
+      split _ _ _ _ _ _ (asked .partner-of .ensures .0) _ _ _ (splits .if4 .taken) (came .put4 .ensures) (goes .put5 .ensures)
+          (c .before .before .put6 .ensures),
+      asked .before .before .before .before .before .before .pre .0,
     )
 
 same-length-6 : tie.Need-same-length-6
@@ -78,12 +76,12 @@ returns-5 : tie.Need-returns-5
 returns-5 c =
     let goes = c .before .before .before in
     let came = goes .before .before .before .before in
-    let goesOn = came .before .before in
-    let outer = goesOn .before in
-    let other = not-opening _ (outer .before .before .before .if1 .left) .1 in (
-      λ l e. rw (came .put4 .ensures, goes .put5 .ensures, outer .partner-of .ensures .0)
-          (if-ended _ _ _ (outer .before .before .if2 .left) (c .if4 .left) other (goesOn .if3 .left) l e),
-      outer .partner-of .ensures .1,
+    let ends = came .before .before in
+    let asked = ends .before in
+    let outer = asked .partner-of .ensures in (
+      if-ended _ _ _ _ _ _ (outer .0) _ _ (asked .before .before .before .if1 .left) (asked .before .before .if2 .left) (ends .if3 .left)
+          (c .if4 .left) (came .put4 .ensures) (goes .put5 .ensures),
+      outer .1,
     )
 
 pub partner-step-spec : {M : Type 1} → statement M

@@ -54,7 +54,7 @@ loop-again c =
     let args = start .args in
     let left : loop .loop .left - 1 + 1 ≡ loop .loop .left = omega (arith, c .before .before .loop-test .taken) in
     let role = c .has-role .ensures ∙ ap (hasRole (args .which)) (c .before .word-at .ensures) in
-    let on = seed-on (args .which) (now (args .words)) (args .variables) (start .pre .1) (loop .loop .left - 1) (loop .loop .left) left (loop .loop .inv .0) in
+    let on = seed-on (args .which) (now (args .words)) (args .variables) (start .pre .1) _ (loop .loop .left) left (loop .loop .inv .0) in
     (omega arith, omega (arith, on, loop .loop .inv .1, byte-of (c .has-role .result), ap {B = ℕ} (λ b. cond b 1 0) role))
 
 returns : tie.Need-returns Inv-loop μ-loop

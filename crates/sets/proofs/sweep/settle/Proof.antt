@@ -14,7 +14,8 @@ use Rattle.sets.proofs.sweep.settle.Tie as tie
 
 abbrev Inv-loop : tie.InvT-loop
 Inv-loop which words extent marks partners sets₀ seed grew₀ sets grew =
-    Settling (extent .variables) (suc (extent .rows)) (allEquations which (givenBy words (extent .first) marks partners) (extent .rows) seed) sets grew
+    Settling (extent .variables) (suc (extent .rows))
+    (allEquations which (givenBy words (extent .first) marks partners) (extent .rows) seed) sets grew
 
 abbrev μ-loop : tie.MeasureT-loop
 μ-loop which words extent marks partners sets₀ seed grew₀ sets grew = roundsLeft (extent .variables) (suc (extent .rows)) sets grew

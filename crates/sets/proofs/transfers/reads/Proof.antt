@@ -17,7 +17,8 @@ single-if-requires-2 c κs = search needs
 
 returns : tie.Need-returns
 returns c =
-    rw (c .before .before .single-if .ensures, c .single-if2 .ensures, c .before .before .before .reads-first .ensures, c .before .reads-second .ensures)
+    let first = c .before .before in
+    rw (first .single-if .ensures, c .single-if2 .ensures, first .before .reads-first .ensures, c .before .reads-second .ensures)
 
 pub reads-spec : {M : Type 1} → statement M
 reads-spec =

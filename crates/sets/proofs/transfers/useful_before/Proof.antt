@@ -16,7 +16,8 @@ reads-requires c κs = search needs
 
 returns : tie.Need-returns
 returns c b e =
-    rw (useful-said _ _ b e, sym (c .before .before .before .has .ensures), c .before .before .if1 .taken, c .before .without .ensures, c .reads .ensures)
+    let there = c .before .before in
+    rw (useful-said _ _ b e, sym (there .before .has .ensures), there .if1 .taken, c .before .without .ensures, c .reads .ensures)
 
 returns-2 : tie.Need-returns-2
 returns-2 c b e = rw (useful-said _ _ b e, sym (c .before .has .ensures), c .if1 .left)
