@@ -2,18 +2,22 @@
 use Prim.Native.Nat.{ℕ, zero, suc, _-_, _≤_, _<_}
 use mathlib.Core.Path.{_≡_, refl}
 use mathlib.Core.List.{[], _++_}
+use lib.ListN.{getD}
 use native.Mathlib.Omega.{arith}
-use Rattle.table.specs.inner.MarkedRows.{Handed, backwardAt, wayBack, backwardRows, Visited, Walks}
+use Rattle.sheet.specs.Rows.{Row, lineOfRow}
+use Rattle.table.specs.inner.MarkedRows.{Handed, rowOfNumber, backwardOfLine, stepBack, turnsBack, backwardAt, wayBack, backwardRows, Visited, Walks}
 
 turn : (given : Handed) (n end : ℕ) → backwardRows given (suc n) end ≡ backwardAt given (end - 1) ++ backwardRows given n (wayBack given (end - 1))
 unfolding backwardRows
 turn given n end = refl
 
--- one turn of the walk
-pub backward-next : (given : Handed) (left end : ℕ) → 0 < left
-    → backwardRows given left end ≡ backwardAt given (end - 1) ++ backwardRows given (left - 1) (wayBack given (end - 1))
-backward-next given zero end h = absurd (omega arith)
-backward-next given (suc n) end h = let less : suc n - 1 ≡ n = omega arith in rw less (turn given n end)
+-- one turn of the walk, by the row that was read there
+pub backward-next : (given : Handed) (left end : ℕ) {r : Row} {turns next : ℕ} → 0 < left → r ≡ rowOfNumber given (end - 1)
+    → turns ≡ turnsBack (given .words) (given .first) (given .goes) (end - 1) (r .kind) → next ≡ stepBack (given .came) (given .goes) (end - 1) (r .kind)
+    → backwardRows given left end
+    ≡ backwardOfLine (given .variables) (getD (given .marks) (end - 1) 0) turns (lineOfRow r) ++ backwardRows given (left - 1) next
+backward-next given zero end h is turns-are goes = absurd (omega arith)
+backward-next given (suc n) end h is turns-are goes = let less : suc n - 1 ≡ n = omega arith in rw (less, turns-are, goes, is) (turn given n end)
 
 pub backward-none : (given : Handed) (left end : ℕ) → left ≤ 0 → backwardRows given left end ≡ []
 unfolding backwardRows
@@ -28,6 +32,7 @@ pub visit-now : (given : Handed) (left end : ℕ) → 0 < left → Walks given l
 visit-now given zero end h w = absurd (omega arith)
 visit-now given (suc n) end h w = visited given n end w .0
 
-pub walk-on : (given : Handed) (left end : ℕ) → 0 < left → Walks given left end → Walks given (left - 1) (wayBack given (end - 1))
-walk-on given zero end h w = absurd (omega arith)
-walk-on given (suc n) end h w = let less : suc n - 1 ≡ n = omega arith in rw less (visited given n end w .1)
+pub walk-on : (given : Handed) (left end : ℕ) {r : Row} {next : ℕ} → 0 < left → r ≡ rowOfNumber given (end - 1)
+    → next ≡ stepBack (given .came) (given .goes) (end - 1) (r .kind) → Walks given left end → Walks given (left - 1) next
+walk-on given zero end h is goes w = absurd (omega arith)
+walk-on given (suc n) end h is goes w = let less : suc n - 1 ≡ n = omega arith in rw (less, goes, is) (visited given n end w .1)

@@ -12,7 +12,7 @@ use Rattle.sets.specs.Marks.{Marked, numbered}
 use Rattle.table.specs.TableRows.{Table, saveTurn, turning, onTurn, turnRound, ofTurningRound}
 use Rattle.table.specs.Adjoint.{put, forwardRow, forwardPart, backwardOf, backwardPart, adjointTable}
 use Rattle.table.specs.Sizes.{tableRows}
-use Rattle.table.specs.inner.MarkedRows.{rowsIn, rowNumbered, forwardOfLine, backwardOfLine, countRows, MarkSays, Noted}
+use Rattle.table.specs.inner.MarkedRows.{rowsIn, rowNumbered, forwardOfLine, backwardOfLine, bothParts, countRows, MarkSays, Noted}
 use Rattle.sheet.proofs.RowsBack.{line-back}
 use Rattle.table.proofs.TreeRows.{StandsAt, tree-stands, stands-after}
 use Rattle.table.proofs.ForwardTree.{marked-forward}
@@ -44,9 +44,7 @@ backward-count v {byte} {b} {m} says rest =
 
 module _ (v : ℕ) (words : List ℕ) (first : ℕ) (marks came goes : List ℕ) (mark : ℕ → Assignment → Marked) where
   count-turn : (p n : ℕ) → countRows v words first marks p (suc n)
-      ≡ length (forwardOfLine (getD marks p 0) (lineOfRow (rowNumbered words first p)))
-      + length (backwardOfLine v (getD marks p 0) 0 (lineOfRow (rowNumbered words first p)))
-      + countRows v words first marks (suc p) n
+      ≡ length (bothParts v (getD marks p 0) (lineOfRow (rowNumbered words first p))) + countRows v words first marks (suc p) n
   unfolding countRows
   count-turn p n = refl
 
@@ -55,8 +53,8 @@ module _ (v : ℕ) (words : List ℕ) (first : ℕ) (marks came goes : List ℕ)
       ≡ length (forwardOfLine (getD marks p 0) l) + length (backwardOfLine v (getD marks p 0) 0 l) + countRows v words first marks (suc p) n
   count-step l p n c e stands =
       ap (countRows v words first marks p) e ∙ count-turn p n
-      ∙ ap (λ line. length (forwardOfLine (getD marks p 0) line) + length (backwardOfLine v (getD marks p 0) 0 line) + countRows v words first marks (suc p) n)
-      (ap lineOfRow stands ∙ line-back l)
+      ∙ ap (λ line. length (bothParts v (getD marks p 0) line) + countRows v words first marks (suc p) n) (ap lineOfRow stands ∙ line-back l)
+      ∙ ap (λ k. k + countRows v words first marks (suc p) n) (length-append (forwardOfLine (getD marks p 0) l) (backwardOfLine v (getD marks p 0) 0 l))
 
   count-tree : (t : Tree Assignment Test) (ls : List SheetLine) (after before : Table) (p n c e : ℕ)
       → c ≡ rows t + n → e ≡ p + rows t → StandsAt words first (flat t ls) p → Noted marks came goes mark t p

@@ -14,18 +14,18 @@ use Rattle.sets.specs.Marks.{Marked, MarkedTest, numbered}
 use Rattle.table.specs.Adjoint.{Body}
 use Rattle.table.specs.Sizes.{valuesNeeded, turnsNeeded}
 use Rattle.table.specs.inner.MarkedRows.{rowNumbered, Noted}
-use Rattle.table.specs.inner.Needs.{greatestWord, capped, ofSaved, ofBranch, needOfLine, blockEnd, afterRow, needAt, needsFrom, needOver}
+use Rattle.table.specs.inner.Needs.{greatestWord, capped, ofSaved, ofBranch, needOfLine, blockEnd, afterRow, needAt, needsFrom}
 use Rattle.table.specs.declared.needs.Stack.{Stack}
 use Rattle.table.specs.declared.needs.Stack.the-variants as stack
 use Rattle.sheet.proofs.RowsBack.{line-back}
 use Rattle.table.proofs.TreeRows.{StandsAt, tree-stands, stands-after}
 use Rattle.table.proofs.WalkTree.{rows-of-tree}
-use Rattle.table.proofs.TableBounds.{values-within-run, turns-within-run}
+use Rattle.table.proofs.TableBounds.{values-within-run, turns-within-run, marked-run}
 use Rattle.table.proofs.NeedRows.{needs-turn}
 
 -- ---- both stacks as one
 
-abbrev neededOn : Stack → Body → ℕ
+abbrev pub neededOn : Stack → Body → ℕ
 neededOn stack.Values body = valuesNeeded body
 neededOn stack.Turns body = turnsNeeded body
 
@@ -53,14 +53,6 @@ needed-of-again stack.Turns m a k = refl
 needed-within-run : (stack : Stack) (t : Body) → neededOn stack t ≤ longestRun t
 needed-within-run stack.Values t = values-within-run t
 needed-within-run stack.Turns t = turns-within-run t
-
-marked-run : (mark : ℕ → Assignment → Marked) (t : Tree Assignment Test) (p : ℕ) → longestRun (numbered mark t p) ≡ longestRun t
-unfolding numbered longestRun
-marked-run mark done p = refl
-marked-run mark (one b k) p = rw (marked-run mark k (suc p))
-marked-run mark (fork f a b k) p =
-    rw (marked-run mark a (suc p), marked-run mark b (suc (suc p + rows a)), marked-run mark k (suc (suc (suc p + rows a) + rows b)))
-marked-run mark (again n a k) p = rw (marked-run mark a (suc p), marked-run mark k (suc (suc p + rows a)))
 
 -- ---- the rows
 
@@ -211,9 +203,8 @@ module _ (stack : Stack) (words : List ℕ) (first : ℕ) (marks came goes : Lis
         need-tree k ls (suc end) n rest e refl (omega arith) (atEnd .1) (w .1 .1) (omega (arith, whole)),
       )
 
-  need-is-needed : (n : ℕ) (t : Tree Assignment Test) → treeRows t ≡ rowsAt words first n → Noted marks came goes mark t 0
-      → longestRun t ≤ greatestWord → needOver stack words first n marks came goes ≡ neededOn stack (numbered mark t 0)
-  unfolding needOver
+  pub need-is-needed : (n : ℕ) (t : Tree Assignment Test) → treeRows t ≡ rowsAt words first n → Noted marks came goes mark t 0
+      → longestRun t ≤ greatestWord → from 0 n ≡ neededOn stack (numbered mark t 0)
   need-is-needed n t says noted short =
       let counted = rows-of-tree words first n t says in
       let end = from-none n in
@@ -223,12 +214,3 @@ module _ (stack : Stack) (words : List ℕ) (first : ℕ) (marks came goes : Lis
         end,
         need-tree t [] 0 0 n n (omega arith) (omega arith) (tree-stands words first n t says) noted (omega (arith, few, end)),
       )
-
-module _ (words : List ℕ) (first : ℕ) (marks came goes : List ℕ) (mark : ℕ → Assignment → Marked) (n : ℕ) (t : Tree Assignment Test) where
-  pub need-is-values-needed : treeRows t ≡ rowsAt words first n → Noted marks came goes mark t 0 → longestRun t ≤ greatestWord
-      → needOver stack.Values words first n marks came goes ≡ valuesNeeded (numbered mark t 0)
-  need-is-values-needed = need-is-needed stack.Values words first marks came goes mark n t
-
-  pub need-is-turns-needed : treeRows t ≡ rowsAt words first n → Noted marks came goes mark t 0 → longestRun t ≤ greatestWord
-      → needOver stack.Turns words first n marks came goes ≡ turnsNeeded (numbered mark t 0)
-  need-is-turns-needed = need-is-needed stack.Turns words first marks came goes mark n t

@@ -1,73 +1,68 @@
 -- What a plan's notes let the passes over the rows do, and what these come to: R, and the table in the buffer.
-use Prim.Native.Nat.{ℕ, _+_, _*_, _≤_}
+use Prim.Native.Nat.{ℕ, _+_, _≤_}
 use native.Mathlib.Omega.{arith}
 use mathlib.Core.Path.{_≡_, refl, sym, ap, subst, _∙_}
 use mathlib.Core.List.{List}
 use lib.ListN.{length, set}
-use Rattle.sheet.specs.Bounds.{limit}
 use Rattle.sheet.specs.Tree.{rows}
 use Rattle.sheet.specs.Reading.{Sheet, variablesOf}
 use Rattle.sheet.specs.declared.Shape.{Shape}
-use Rattle.sets.specs.Marks.{varied, useful, required, markBy, marked}
+use Rattle.sheet.specs.Rows.{Assignment}
+use Rattle.sets.specs.Marks.{Marked, varied, useful, required, markBy, marked}
 use Rattle.table.specs.declared.Plan.{Plan}
 use Rattle.table.specs.TableRows.{tableWords}
 use Rattle.table.specs.Adjoint.{adjointTable, tableOf}
-use Rattle.table.specs.Sizes.{tableRows, valuesNeeded, turnsNeeded}
+use Rattle.table.specs.Sizes.{mostTableRows, tableRows}
 use Rattle.table.specs.Calls.{tableRoom, overwritten}
-use Rattle.table.specs.inner.MarkedRows.{rowsIn, Readable, Handed, handed, Walkable, Room, Wrote, wholeRows, countRows}
-use Rattle.table.specs.declared.needs.Stack.the-variants as stack
+use Rattle.table.specs.inner.MarkedRows.{rowsIn, Readable, Handed, handed, Walkable, Room, Wrote, wholeRows, countAll}
+use Rattle.table.specs.declared.needs.Stack.{Stack}
 use Rattle.table.specs.inner.Needs.{needOver}
 use Rattle.table.specs.inner.Plans.{SheetNoted, PlanMade}
 use Rattle.table.proofs.TableBounds.{table-rows-bound, marked-rows}
 use Rattle.table.proofs.WalkTree.{rows-of-tree, tree-says, tree-walks}
 use Rattle.table.proofs.WholeTable.{whole-is-table, rows-counted, buffer-overwritten}
 use Rattle.table.proofs.CountTree.{counted-is-table-rows}
-use Rattle.table.proofs.NeedsTree.{need-is-values-needed, need-is-turns-needed}
+use Rattle.table.proofs.NeedsTree.{neededOn, need-is-needed}
 use Rattle.table.proofs.SheetLaid.{Lies, sheet-lies}
 
+-- the marks that the sets give
+abbrev marksOf : Sheet → ℕ → Assignment → Marked
+marksOf sheet = markBy (varied sheet) (useful sheet) (required sheet)
+
 module _ {words : List ℕ} {sheet : Sheet} {shape : Shape} (lies : Lies words sheet shape) where
-  pub readable : (marks : List ℕ) → shape .rows ≤ length marks → Readable words (shape .«first_row») (shape .rows) marks
+  pub readable : (marks : List ℕ) → shape .rows ≤ length marks → Readable words shape marks
   readable marks long =
-      record { within = lies .within; marked = long; says = tree-says words (shape .«first_row») (shape .rows) (sheet .body) (lies .says) }
+      record { few = lies .fewRows; marked = long; says = tree-says words (shape .«first_row») (shape .rows) (sheet .body) (lies .says) }
 
   module _ (marks came goes : List ℕ) (noted : SheetNoted sheet marks came goes) where
     abbrev given : Handed
-    given = handed words (shape .«first_row») (shape .rows) marks came goes (shape .variables)
+    given = handed words shape marks came goes
 
-    pub walkable : shape .rows ≤ length came → shape .rows ≤ length goes → Walkable given
-    walkable longCame longGoes =
+    pub walkable : Walkable given
+    walkable =
         record {
+          few = lies .fewVariables;
           small = lies .small;
-          splits = longCame;
-          ends = longGoes;
-          walks = tree-walks given (markBy (varied sheet) (useful sheet) (required sheet)) (sheet .body) (lies .says) noted;
+          walks = tree-walks given (marksOf sheet) (sheet .body) (lies .says) noted;
         }
 
-    pub rows-right : (r : ℕ) → ((v : ℕ) → r ≡ 1 + countRows v words (shape .«first_row») marks 0 (shape .rows)) → r ≡ tableRows (variablesOf sheet) (marked sheet)
+    pub rows-right : (r : ℕ) → ((v : ℕ) → r ≡ 1 + countAll v words shape marks) → r ≡ tableRows (variablesOf sheet) (marked sheet)
     unfolding marked
     rows-right r counted =
         counted (variablesOf sheet)
-        ∙ counted-is-table-rows (variablesOf sheet) words (shape .«first_row») marks came goes (markBy (varied sheet) (useful sheet) (required sheet))
-        (shape .rows) (sheet .body) (lies .says) noted
+        ∙ counted-is-table-rows (variablesOf sheet) words (shape .«first_row») marks came goes (marksOf sheet) (shape .rows) (sheet .body) (lies .says) noted
 
-    pub values-right : (r : ℕ) → r ≡ needOver stack.Values words (shape .«first_row») (shape .rows) marks came goes → r ≡ valuesNeeded (marked sheet)
-    unfolding marked
-    values-right r e =
+    pub need-right : (stack : Stack) (r : ℕ) → r ≡ needOver stack words shape marks came goes → r ≡ neededOn stack (marked sheet)
+    unfolding marked needOver
+    need-right stack r e =
         e
-        ∙ need-is-values-needed words (shape .«first_row») marks came goes (markBy (varied sheet) (useful sheet) (required sheet)) (shape .rows) (sheet .body)
-        (lies .says) noted (omega (arith, lies .short))
-
-    pub turns-right : (r : ℕ) → r ≡ needOver stack.Turns words (shape .«first_row») (shape .rows) marks came goes → r ≡ turnsNeeded (marked sheet)
-    unfolding marked
-    turns-right r e =
-        e
-        ∙ need-is-turns-needed words (shape .«first_row») marks came goes (markBy (varied sheet) (useful sheet) (required sheet)) (shape .rows) (sheet .body)
-        (lies .says) noted (omega (arith, lies .short))
+        ∙ need-is-needed stack words (shape .«first_row») marks came goes (marksOf sheet) (shape .rows) (sheet .body) (lies .says) noted
+        (omega (arith, lies .short))
 
     whole-right : wholeRows given ≡ rowsIn (tableOf sheet)
     unfolding tableOf marked
     whole-right =
-        whole-is-table given (markBy (varied sheet) (useful sheet) (required sheet)) (sheet .body) (lies .says) noted
+        whole-is-table given (marksOf sheet) (sheet .body) (lies .says) noted
         ∙ ap (λ v. rowsIn (adjointTable v (marked sheet))) (lies .variables)
 
     counts-rows : tableRows (variablesOf sheet) (marked sheet) ≡ rows (tableOf sheet)
@@ -87,14 +82,13 @@ module _ {words : List ℕ} {sheet : Sheet} {shape : Shape} (lies : Lies words s
         (subst (Room buffer 1) whole-right (room-right count buffer right long))
         (subst (λ rs. Wrote (set buffer 0 count) 1 rs after next) whole-right wrote)
 
-  -- "Hence R is at most 9 × 512 + 1"
-  pub rows-few : tableRows (variablesOf sheet) (marked sheet) ≤ 9 * limit .rows + 1
+  pub rows-few : tableRows (variablesOf sheet) (marked sheet) ≤ mostTableRows
   unfolding marked
   rows-few =
       omega (
         arith,
         table-rows-bound (variablesOf sheet) (marked sheet),
-        marked-rows (markBy (varied sheet) (useful sheet) (required sheet)) (sheet .body) 0,
+        marked-rows (marksOf sheet) (sheet .body) 0,
         rows-of-tree words (shape .«first_row») (shape .rows) (sheet .body) (lies .says),
         lies .fewRows,
       )
@@ -104,5 +98,5 @@ pub planned-lies : {words : List ℕ} {plan : Plan} {marks came goes : List ℕ}
     → Lies words (made .sheet) (plan .shape)
 planned-lies {words} made = subst (Lies words (made .sheet)) (sym (made .planned .shape)) (sheet-lies words (made .sheet) (made .accepted))
 
-pub planned-few : {words : List ℕ} {plan : Plan} {marks came goes : List ℕ} → PlanMade words plan marks came goes → plan .rows ≤ 9 * limit .rows + 1
+pub planned-few : {words : List ℕ} {plan : Plan} {marks came goes : List ℕ} → PlanMade words plan marks came goes → plan .rows ≤ mostTableRows
 planned-few made = omega (arith, made .planned .rows, rows-few (planned-lies made))

@@ -41,7 +41,7 @@ module _ (v k : ℕ) (few : v ≤ limit .variables) (constants : k ≤ limit .co
   row-small r place l e = row-small-by r place l (kindOf (r .kind)) e
 
   pub rows-small : (words : List ℕ) (first n place : ℕ) (blocks : List Block) (items : List Item) (t : Tree Assignment Test)
-      → bodyOf v k (rowsAt words first n) place blocks items ≡ given t → (p q : ℕ) → p < n → q ≡ first + 4 * p → Small v (rowAt words q)
+      → bodyOf v k (rowsAt words first n) place blocks items ≡ given t → (p q : ℕ) → p < n → q ≡ first + p * limit .rowWords → Small v (rowAt words q)
   unfolding bodyOf rowsAt
   rows-small words first zero place blocks items t e p q below at = absurd (omega arith)
   rows-small words first (suc n) place blocks items t e p q below at =
@@ -50,7 +50,7 @@ module _ (v k : ℕ) (few : v ≤ limit .variables) (constants : k ≤ limit .co
       by-number p below at (row-small (rowAt words first) place (line .0) (line .1))
       (λ m. rows-small words (first + limit .rowWords) n (place + limit .rowWords) (took .0 .blocks) (took .0 .items) t (took .2) m q)
     where
-      by-number : (p : ℕ) → p < suc n → q ≡ first + 4 * p → Small v (rowAt words first)
-          → ((m : ℕ) → m < n → q ≡ first + limit .rowWords + 4 * m → Small v (rowAt words q)) → Small v (rowAt words q)
+      by-number : (p : ℕ) → p < suc n → q ≡ first + p * limit .rowWords → Small v (rowAt words first)
+          → ((m : ℕ) → m < n → q ≡ first + limit .rowWords + m * limit .rowWords → Small v (rowAt words q)) → Small v (rowAt words q)
       by-number zero below at here after = let start : q ≡ first = omega arith in subst (λ x. Small v (rowAt words x)) (sym start) here
       by-number (suc m) below at here after = after m (omega arith) (omega arith)

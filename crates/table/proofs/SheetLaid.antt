@@ -29,7 +29,6 @@ pub record Lies (words : List ℕ) (sheet : Sheet) (shape : Shape) : Type 0 wher
   pub laid : Laid words (shape .variables) (shape .«first_row») (shape .rows)
   pub says : treeRows (sheet .body) ≡ rowsAt words (shape .«first_row») (shape .rows)
   pub variables : shape .variables ≡ variablesOf sheet
-  pub within : shape .«first_row» + 4 * shape .rows ≤ length words
   pub fewVariables : shape .variables ≤ limit .variables
   pub fewRows : shape .rows ≤ limit .rows
   pub small : (p : ℕ) → p < shape .rows → Small (shape .variables) (rowNumbered words (shape .«first_row») p)
@@ -61,7 +60,6 @@ sheet-lies words sheet e =
       laid = record { sheet = sheet; accepted = e; variablesAre = refl; firstIs = omega arith; rowsAre = rows-of-tree words first _ (sheet .body) says };
       says = says;
       variables = refl;
-      within = omega (arith, shaped .allWords);
       fewVariables = shaped .variablesWithin;
       fewRows = shaped .rowsWithin;
       small = λ p below. rows-small _ _ (shaped .variablesWithin) (shaped .constantsWithin) words first _ _ [] [] (sheet .body) body p _ below refl;

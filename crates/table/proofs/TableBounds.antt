@@ -12,7 +12,7 @@ use Rattle.sets.specs.Transfers.{Activity}
 use Rattle.sets.specs.Marks.{Marked, numbered}
 use Rattle.table.specs.TableRows.{Table, TableRow, Action, saveTurn, turnRound, whether, onTurn, Operation, turning, ofRow, ofTurningRound}
 use Rattle.table.specs.Adjoint.{Body, put, putIf, forwardRow, forwardPart, partsOf, derivativeRows, backwardOf, backwardPart, adjointTable}
-use Rattle.table.specs.Sizes.{tableRows, valuesNeeded, turnsNeeded}
+use Rattle.table.specs.Sizes.{mostRowsEach, tableRows, valuesNeeded, turnsNeeded}
 
 -- ---- R
 
@@ -97,7 +97,7 @@ forward-rows (fork f a b k) rest =
 forward-rows (again n a k) rest = omega (arith, forward-rows k rest, forward-rows a done)
 
 -- "Hence R is at most 9 × 512 + 1"
-pub table-rows-bound : (v : ℕ) (t : Body) → tableRows v t ≤ 9 * rows t + 1
+pub table-rows-bound : (v : ℕ) (t : Body) → tableRows v t ≤ mostRowsEach * rows t + 1
 unfolding tableRows adjointTable rows
 table-rows-bound v t =
     let turn : Table = one (record { origin = ofTurningRound; action = turnRound }) (backwardPart v t done) in

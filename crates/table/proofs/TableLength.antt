@@ -1,9 +1,10 @@
--- A table has 1 + 4R words.
+-- How many words rows have, and that a table has 1 + 4R words.
 use Prim.Native.Nat.{_*_}
 use mathlib.Core.Path.{_≡_, refl}
 use mathlib.Core.List.{List, [], _∷_, map}
 use lib.ListN.{length, length-map}
 use native.Mathlib.Omega.{arith}
+use Rattle.sheet.specs.Bounds.{limit}
 use Rattle.sheet.specs.Tree.{rows}
 use Rattle.sheet.specs.Rows.{Row}
 use Rattle.sheet.specs.Reading.{Sheet, variablesOf}
@@ -14,15 +15,15 @@ use Rattle.table.specs.Adjoint.{tableOf}
 use Rattle.table.specs.Sizes.{tableRows}
 use Rattle.table.specs.Calls.{tableRoom}
 
-four-each : (rs : List Row) → length (wordsOf rs) ≡ 4 * length rs
+pub words-counted : (rs : List Row) → length (wordsOf rs) ≡ limit .rowWords * length rs
 unfolding wordsOf
-four-each [] = refl
-four-each (r ∷ rs) = omega (arith, four-each rs)
+words-counted [] = refl
+words-counted (r ∷ rs) = omega (arith, words-counted rs)
 
 pub table-words : (table : Table) → length (tableWords table) ≡ tableRoom (rows table)
 unfolding tableWords linesOf
 table-words table =
-    omega (arith, four-each (map tableRowOf (linesOf table)), length-map (linesOf table) tableRowOf, lines-counted table)
+    omega (arith, words-counted (map tableRowOf (linesOf table)), length-map (linesOf table) tableRowOf, lines-counted table)
 
 pub table-length : (sheet : Sheet) → length (tableWords (tableOf sheet)) ≡ tableRoom (tableRows (variablesOf sheet) (marked sheet))
 unfolding tableOf tableRows

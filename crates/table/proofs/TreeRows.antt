@@ -3,6 +3,7 @@ use Prim.Native.Nat.{ℕ, zero, suc, _+_, _*_}
 use mathlib.Core.Path.{_≡_, refl, sym, ap, _∙_, subst}
 use mathlib.Core.List.{List, [], _∷_, _++_, append-assoc, map}
 use native.Mathlib.Omega.{arith}
+use Rattle.sheet.specs.Bounds.{limit}
 use Rattle.sheet.specs.Tree.{Tree, done, one, fork, again, Line, elseLine, endIf, endRepeat, flat, rows}
 use Rattle.sheet.specs.Rows.{Assignment, Test, SheetLine, Row, rowOf, sheetRowOf, treeRows}
 use Rattle.sheet.specs.Reading.{rowAt, rowsAt}
@@ -16,14 +17,14 @@ unfoldable pub StandsAt : (words : List ℕ) (first : ℕ) → List SheetLine �
 StandsAt words first [] p = Unit
 StandsAt words first (l ∷ ls) p = (rowNumbered words first p ≡ sheetRowOf l) × StandsAt words first ls (suc p)
 
-stand-from : (words : List ℕ) (first : ℕ) (ls : List SheetLine) (p n place : ℕ) → place ≡ first + 4 * p → map sheetRowOf ls ≡ rowsAt words place n
+stand-from : (words : List ℕ) (first : ℕ) (ls : List SheetLine) (p n place : ℕ) → place ≡ first + p * limit .rowWords → map sheetRowOf ls ≡ rowsAt words place n
     → StandsAt words first ls p
 unfolding StandsAt rowsAt
 stand-from words first [] p n place e h = tt
 stand-from words first (l ∷ ls) p zero place e h = let z : _≡_ {A = ℕ} 0 1 = cc in absurd (omega arith)
 stand-from words first (l ∷ ls) p (suc n) place e h =
     let this : rowAt words place ≡ sheetRowOf l = cc in
-    (ap (rowAt words) (sym e) ∙ this, stand-from words first ls (suc p) n (place + 4) (omega arith) cc)
+    (ap (rowAt words) (sym e) ∙ this, stand-from words first ls (suc p) n (place + limit .rowWords) (omega arith) cc)
 
 pub tree-stands : (words : List ℕ) (first n : ℕ) (t : Tree Assignment Test) → treeRows t ≡ rowsAt words first n → StandsAt words first (flat t []) 0
 unfolding treeRows

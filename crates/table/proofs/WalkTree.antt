@@ -4,8 +4,9 @@ use mathlib.Core.Path.{_≡_, refl, sym, ap, _∙_, subst}
 use mathlib.Core.List.{List, [], _∷_}
 use lib.ListN.{length, length-map, getD}
 use native.Mathlib.Omega.{arith}
+use Rattle.sheet.specs.Bounds.{limit}
 use Rattle.sheet.specs.Tree.{Tree, done, one, fork, again, basic, ifLine, elseLine, endIf, repeat, endRepeat, flat, rows}
-use Rattle.sheet.specs.Rows.{Assignment, Test, less, SheetLine, Row, sheetRowOf, rowOf, rowOfAssignment, rowOfTest, treeRows, _≔_, copy, fixed, sum, difference, product, negation, lineOfRow}
+use Rattle.sheet.specs.Rows.{Assignment, Test, SheetLine, Row, sheetRowOf, rowOf, treeRows, lineOfRow}
 use Rattle.sheet.specs.Reading.{rowsAt}
 use Rattle.sheet.proofs.RowsCounted.{lines-counted}
 use Rattle.sets.specs.Marks.{Marked}
@@ -28,7 +29,7 @@ stands-say words first (l ∷ ls) p (suc q) r e h s = stands-say words first ls 
 rows-at-length : (words : List ℕ) (place n : ℕ) → length (rowsAt words place n) ≡ n
 unfolding rowsAt
 rows-at-length words place zero = refl
-rows-at-length words place (suc n) = omega (arith, rows-at-length words (place + 4) n)
+rows-at-length words place (suc n) = omega (arith, rows-at-length words (place + limit .rowWords) n)
 
 pub rows-of-tree : (words : List ℕ) (first n : ℕ) (t : Tree Assignment Test) → treeRows t ≡ rowsAt words first n → n ≡ rows t
 unfolding treeRows
@@ -41,19 +42,6 @@ tree-says words first n t e p h =
 
 -- ---- the walk
 
-assignment-kind : (b : Assignment) → sheetRowOf (basic b) .kind ≤ 6
-unfolding sheetRowOf rowOf rowOfAssignment
-assignment-kind (d ≔ copy a) = omega arith
-assignment-kind (d ≔ fixed a) = omega arith
-assignment-kind (d ≔ sum a b) = omega arith
-assignment-kind (d ≔ difference a b) = omega arith
-assignment-kind (d ≔ product a b) = omega arith
-assignment-kind (d ≔ negation a) = omega arith
-
-if-kind : (f : Test) → sheetRowOf (ifLine f) .kind ≡ 7
-unfolding sheetRowOf rowOf rowOfTest
-if-kind (less a b) = refl
-
 module _ (given : Handed) (mark : ℕ → Assignment → Marked) where
   walk-turn : (n e : ℕ) → Visited given e → Walks given n (wayBack given (e - 1)) → Walks given (suc n) e
   unfolding Walks
@@ -61,18 +49,11 @@ module _ (given : Handed) (mark : ℕ → Assignment → Marked) where
 
   walk-step : (l : SheetLine) (q next n : ℕ) → rowOfNumber given q ≡ sheetRowOf l
       → stepBack (given .came) (given .goes) q (sheetRowOf l .kind) ≡ next → q < given .rows
-      → (sheetRowOf l .kind ≡ 7 → getD (given .goes) q 0 < given .rows) → (sheetRowOf l .kind ≡ 11 → getD (given .goes) q 0 < given .rows)
       → Walks given n next → Walks given (suc n) (suc q)
-  walk-step l q next n stands goes below branch loop w =
+  walk-step l q next n stands goes below w =
       let here : suc q - 1 ≡ q = omega arith in
       let kind = ap (λ r. r .kind) stands in
-      walk-turn n (suc q)
-      (record {
-        some = omega arith;
-        within = omega arith;
-        branch = rw here (λ e. branch (sym kind ∙ e));
-        loop = rw here (λ e. loop (sym kind ∙ e));
-      })
+      walk-turn n (suc q) (record { some = omega arith; within = omega arith })
       (rw here (subst (Walks given n) (sym (ap (stepBack (given .came) (given .goes) q) kind ∙ goes)) w))
 
   walks-tree : (t : Tree Assignment Test) (ls : List SheetLine) (p n c e : ℕ)
@@ -85,9 +66,7 @@ module _ (given : Handed) (mark : ℕ → Assignment → Marked) where
       let here : e ≡ p = omega arith in
       rw (same, here) h
   walks-tree (one b k) ls p n c e hc he below s w h =
-      let row =
-      walk-step (basic b) p p n (s .0) (step-assignment (given .came) (given .goes) p b) (omega arith)
-      (λ kind. absurd (omega (arith, assignment-kind b))) (λ kind. absurd (omega (arith, assignment-kind b))) h in
+      let row = walk-step (basic b) p p n (s .0) (step-assignment (given .came) (given .goes) p b) (omega arith) h in
       walks-tree k ls (suc p) (suc n) c e (omega arith) (omega arith) below (s .1) (w .1) row
   walks-tree (fork f a b k) ls p n c e hc he below s w h =
       let split = suc p + rows a in
@@ -95,30 +74,24 @@ module _ (given : Handed) (mark : ℕ → Assignment → Marked) where
       let partners = w .0 in
       let atSplit = stands-after (given .words) (given .first) a (elseLine ∷ flat b (endIf ∷ flat k ls)) (suc p) refl (s .1) in
       let atEnd = stands-after (given .words) (given .first) b (endIf ∷ flat k ls) (suc split) refl (atSplit .1) in
-      let elseRow =
-      walk-step elseLine split p n (atSplit .0) (partners .elseCame) (omega arith) (λ kind. absurd (omega arith)) (λ kind. absurd (omega arith)) h in
+      let elseRow = walk-step elseLine split p n (atSplit .0) (partners .elseCame) (omega arith) h in
       let secondBranch =
       walks-tree b (endIf ∷ flat k ls) (suc split) (suc n) (rows b + suc n) end refl refl (omega arith) (atSplit .1) (w .1 .1 .0) elseRow in
       let ifRow =
       walk-step (ifLine f) p end (rows b + suc n) (s .0)
       (step-if (given .came) (given .goes) p f ∙ ap (λ x. getD (given .goes) x 0) (partners .ifGoes) ∙ partners .elseGoes)
-      (omega arith) (λ kind. omega (arith, partners .ifGoes)) (λ kind. absurd (omega (arith, if-kind f))) secondBranch in
+      (omega arith) secondBranch in
       let firstBranch =
       walks-tree a (elseLine ∷ flat b (endIf ∷ flat k ls)) (suc p) (suc (rows b + suc n)) (rows a + suc (rows b + suc n)) split
       refl refl (omega arith) (s .1) (w .1 .0) ifRow in
-      let endRow =
-      walk-step endIf end split (rows a + suc (rows b + suc n)) (atEnd .0) (partners .endCame) (omega arith)
-      (λ kind. absurd (omega arith)) (λ kind. absurd (omega arith)) firstBranch in
+      let endRow = walk-step endIf end split (rows a + suc (rows b + suc n)) (atEnd .0) (partners .endCame) (omega arith) firstBranch in
       walks-tree k ls (suc end) (suc (rows a + suc (rows b + suc n))) c e (omega arith) (omega arith) below (atEnd .1) (w .1 .1 .1) endRow
   walks-tree (again m a k) ls p n c e hc he below s w h =
       let end = suc p + rows a in
       let atEnd = stands-after (given .words) (given .first) a (endRepeat ∷ flat k ls) (suc p) refl (s .1) in
-      let repeatRow =
-      walk-step (repeat m) p p n (s .0) refl (omega arith) (λ kind. absurd (omega arith)) (λ kind. absurd (omega arith)) h in
+      let repeatRow = walk-step (repeat m) p p n (s .0) refl (omega arith) h in
       let body = walks-tree a (endRepeat ∷ flat k ls) (suc p) (suc n) (rows a + suc n) end refl refl (omega arith) (s .1) (w .1 .0) repeatRow in
-      let endRow =
-      walk-step endRepeat end end (rows a + suc n) (atEnd .0) refl (omega arith)
-      (λ kind. absurd (omega arith)) (λ kind. omega (arith, w .0 .endGoes)) body in
+      let endRow = walk-step endRepeat end end (rows a + suc n) (atEnd .0) refl (omega arith) body in
       walks-tree k ls (suc end) (suc (rows a + suc n)) c e (omega arith) (omega arith) below (atEnd .1) (w .1 .1) endRow
 
   walks-none : (e : ℕ) → Walks given 0 e

@@ -16,7 +16,7 @@ use Rattle.table.specs.Adjoint.{Body, put, forwardPart, backwardPart, ad
 use Rattle.table.specs.Calls.{overwritten}
 use Rattle.table.specs.inner.MarkedRows.{row4, Room, Wrote, rowsIn, Handed, wholeRows, Noted}
 use Rattle.table.proofs.AssignmentRows.{rows-of-done}
-use Rattle.table.proofs.WritingLaws.{four-words-each}
+use Rattle.table.proofs.TableLength.{words-counted}
 use Rattle.table.proofs.TreeRows.{rows-of-one, rows-of-fork, rows-of-again}
 use Rattle.table.proofs.ForwardTree.{forward-row, forward-is-forward-part}
 use Rattle.table.proofs.BackwardTree.{backward-is-backward-part}
@@ -69,6 +69,6 @@ unfolding overwritten tableWords rowsIn linesOf
 buffer-overwritten buffer after count next table counted room wrote =
     let ws = wordsOf (rowsIn table) in
     let n : length (linesOf table) ≡ count = lines-counted table ∙ sym counted in
-    let fits : 0 + length (count ∷ ws) ≤ length buffer = omega (arith, room .fits, four-words-each (rowsIn table)) in
+    let fits : 0 + length (count ∷ ws) ≤ length buffer = omega (arith, room .fits, words-counted (rowsIn table)) in
     let zero-first : 0 + length (count ∷ ws) ≡ length (count ∷ ws) = omega arith in
     rw n (wrote .words ∙ sets-eq (count ∷ ws) buffer 0 fits ∙ ap (λ k. (count ∷ ws) ++ drop k buffer) zero-first)

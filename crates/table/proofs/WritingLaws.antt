@@ -1,16 +1,17 @@
 -- Rows written one after another, and the rows that a table says.
-use Prim.Native.Nat.{ℕ, suc, _+_, _*_}
+use Prim.Native.Nat.{ℕ, suc, _+_}
 use mathlib.Core.Path.{_≡_, refl, sym, ap, _∙_, subst}
 use mathlib.Core.List.{List, [], _∷_, _++_, append-nil, append-assoc}
-use lib.ListN.{length, set, length-append}
+use lib.ListN.{length, set, length-append, length-set}
 use lib.Seq.{sets, length-sets}
 use native.Mathlib.Omega.{arith}
 use Rattle.sheet.specs.Rows.{Row}
 use Rattle.table.specs.TableRows.{wordsOf}
 use Rattle.table.specs.inner.MarkedRows.{Room, Wrote}
+use Rattle.table.proofs.TableLength.{words-counted}
 
-pub four-stores : (l : List ℕ) (p k d a b : ℕ) → set (set (set (set l p k) (p + 1) d) (p + 2) a) (p + 3) b ≡ sets l p (k ∷ d ∷ a ∷ b ∷ [])
-four-stores l p k d a b =
+pub row-stores : (l : List ℕ) (p k d a b : ℕ) → set (set (set (set l p k) (p + 1) d) (p + 2) a) (p + 3) b ≡ sets l p (k ∷ d ∷ a ∷ b ∷ [])
+row-stores l p k d a b =
     let one : p + 1 ≡ suc p = omega arith in
     let two : p + 2 ≡ suc (suc p) = omega arith in
     let three : p + 3 ≡ suc (suc (suc p)) = omega arith in
@@ -25,11 +26,6 @@ unfolding wordsOf
 words-append [] rs′ = refl
 words-append (r ∷ rs) rs′ = rw (words-append rs rs′)
 
-pub four-words-each : (rs : List Row) → length (wordsOf rs) ≡ 4 * length rs
-unfolding wordsOf
-four-words-each [] = refl
-four-words-each (r ∷ rs) = omega (arith, four-words-each rs)
-
 pub wrote-none : (l : List ℕ) (p : ℕ) → Wrote l p [] l p
 unfolding wordsOf
 wrote-none l p = record { words = refl; place-after = omega arith }
@@ -39,7 +35,7 @@ wrote-length {l} {l′} {p} {q} {rs} w = ap length (w .words) ∙ length-sets l 
 
 pub wrote-then : {l l′ l″ : List ℕ} {p q r : ℕ} {rs rs′ : List Row} → Wrote l p rs l′ q → Wrote l′ q rs′ l″ r → Wrote l p (rs ++ rs′) l″ r
 wrote-then {l} {l′} {l″} {p} {q} {r} {rs} {rs′} w w′ =
-    let place : q ≡ p + length (wordsOf rs) = omega (arith, w .place-after, four-words-each rs) in
+    let place : q ≡ p + length (wordsOf rs) = omega (arith, w .place-after, words-counted rs) in
     record {
       words =
           w′ .words ∙ ap (λ m. sets m q (wordsOf rs′)) (w .words) ∙ ap (λ n. sets (sets l p (wordsOf rs)) n (wordsOf rs′)) place
@@ -52,6 +48,9 @@ room-first rs rs′ h = record { fits = omega (arith, length-append rs rs′) }
 
 pub room-after : {l l′ : List ℕ} {p q : ℕ} {rs : List Row} (rs′ : List Row) → Wrote l p rs l′ q → Room l p (rs ++ rs′) → Room l′ q rs′
 room-after {rs = rs} rs′ w h = record { fits = omega (arith, wrote-length w, w .place-after, length-append rs rs′) }
+
+pub room-kept : {l : List ℕ} {p : ℕ} {rs : List Row} (at word : ℕ) → Room l p rs → Room (set l at word) p rs
+room-kept {l} at word h = record { fits = omega (arith, h .fits, length-set l at word) }
 
 -- ---- a loop that writes rows: what it has written and what is left make up the whole
 pub record Underway (before : List ℕ) (place : ℕ) (all rest : List Row) (after : List ℕ) (reached : ℕ) : Type 0 where

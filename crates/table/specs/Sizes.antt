@@ -6,8 +6,11 @@ use Rattle.sheet.specs.Tree.{done, one, fork, again, rows}
 use Rattle.table.specs.Adjoint.{Body, adjointTable}
 
 -- "Hence R is at most 9 × 512 + 1": two rows forward and seven backward for each of a sheet's, and row 17
+abbrev pub mostRowsEach : ℕ
+mostRowsEach = 9
+
 abbrev pub mostTableRows : ℕ
-mostTableRows = 9 * limit .rows + 1
+mostTableRows = mostRowsEach * limit .rows + 1
 
 -- R
 unfoldable pub tableRows : (variables : ℕ) → Body → ℕ

@@ -1,13 +1,14 @@
 // R, the number of the table's rows, without writing it.
 ghost use mathlib.Core.Path.{_≡_};
-ghost use Rattle.sheet.specs.Rows.{lineOfRow};
 ghost use mathlib.Core.Bool.{cond};
-ghost use Prim.Native.Nat.{ℕ, _+_, _*_, _≤_, _<_};
-ghost use lib.ListN.{length};
-ghost use Rattle.sheet.specs.Bounds.{limit};
-ghost use Rattle.table.specs.inner.MarkedRows.{row4, Says, Readable, partRows, assignmentBack, forwardOfLine, backwardOfLine, countRows};
-use super::kinds;
+ghost use Prim.Native.Nat.{ℕ, _+_, _≤_};
+ghost use Rattle.sheet.specs.Rows.{lineOfRow};
+ghost use Rattle.sheet.specs.Answers.{rowSaid};
+ghost use Rattle.table.specs.Sizes.{mostRowsEach};
+ghost use Rattle.table.specs.inner.MarkedRows.{Assigns, Says, Readable, partRows, assignmentBack, bothParts, Counted, countAll};
 use super::rows;
+use sheet::RowNumber;
+use sheet::RowWords;
 
 pub fn one(given: bool) -> usize
     ensures { λ r. ⌜ (r ≡ cond given 1 0) × (r ≤ 1) ⌝ }
@@ -19,38 +20,38 @@ pub fn one(given: bool) -> usize
 }
 
 // How many rows an assignment's parts are.
-fn parts_count(kind: u16, first: bool, second: bool) -> usize
-    requires { ⌜ (1 ≤ kind) × (kind ≤ 6) ⌝ }
-    ensures { λ r. ⌜ (((v a b : ℕ) → r ≡ length (partRows v kind a b first second)) × (r ≤ 4)) ⌝ }
+fn parts_count(row: RowWords, mark: u8) -> usize
+    requires { ⌜ Assigns (row .kind) ⌝ }
+    ensures { λ r. ⌜ Counted 4 r (λ v. partRows v (rowSaid row) mark) ⌝ }
 {
+    let first = rows::bit(mark, sets::VARIED_A);
+    let second = rows::bit(mark, sets::VARIED_B);
     let into_a = one(first);
     let into_b = one(second);
-    if kind == sheet::kinds::COPY {
+    if row.kind == sheet::kinds::COPY {
         return into_a;
     }
-    if kind == sheet::kinds::CONSTANT {
+    if row.kind == sheet::kinds::CONSTANT {
         return 0;
     }
-    if kind == sheet::kinds::NEGATION {
+    if row.kind == sheet::kinds::NEGATION {
         return into_a;
     }
-    if kind == sheet::kinds::PRODUCT {
+    if row.kind == sheet::kinds::PRODUCT {
         return 2 * into_a + 2 * into_b;
     }
     into_a + into_b
 }
 
 // How many rows an assignment has in the backward part.
-fn assignment_count(kind: u16, mark: u8) -> usize
-    requires { ⌜ (1 ≤ kind) × (kind ≤ 6) ⌝ }
-    ensures { λ r. ⌜ (((v d a b : ℕ) → r ≡ length (assignmentBack v kind d a b mark)) × (r ≤ 7)) ⌝ }
+fn assignment_count(row: RowWords, mark: u8) -> usize
+    requires { ⌜ Assigns (row .kind) ⌝ }
+    ensures { λ r. ⌜ Counted 7 r (λ v. assignmentBack v (rowSaid row) mark) ⌝ }
 {
     let saved = rows::bit(mark, sets::SAVED);
     let active = rows::bit(mark, sets::ACTIVE);
-    let first = rows::bit(mark, sets::VARIED_A);
-    let second = rows::bit(mark, sets::VARIED_B);
     let taken = one(saved);
-    let parts = parts_count(kind, first, second);
+    let parts = parts_count(row, mark);
     if active {
         return taken + 2 + parts;
     }
@@ -58,36 +59,36 @@ fn assignment_count(kind: u16, mark: u8) -> usize
 }
 
 // How many rows a sheet's row has in both parts.
-fn row_count(kind: u16, mark: u8) -> usize
-    requires { ⌜ 1 ≤ kind ⌝ }
-    ensures { λ r. ⌜ (((v turns d a b : ℕ) → Says (row4 kind d a b)
-        → r ≡ length (forwardOfLine mark (lineOfRow (row4 kind d a b))) + length (backwardOfLine v mark turns (lineOfRow (row4 kind d a b)))) × (r ≤ 9)) ⌝ }
+fn row_count(row: RowWords, mark: u8) -> usize
+    requires { ⌜ Says (rowSaid row) ⌝ }
+    ensures { λ r. ⌜ Counted mostRowsEach r (λ v. bothParts v mark (lineOfRow (rowSaid row))) ⌝ }
 {
-    if kind < sheet::kinds::IF {
+    if row.kind < sheet::kinds::IF {
         let saved = rows::bit(mark, sets::SAVED);
         let forward = one(saved);
-        let backward = assignment_count(kind, mark);
+        let backward = assignment_count(row, mark);
         return forward + 1 + backward;
     }
-    if kind == sheet::kinds::ELSE {
+    if row.kind == sheet::kinds::ELSE {
         return 3;
     }
-    if kind == sheet::kinds::END_IF {
+    if row.kind == sheet::kinds::END_IF {
         return 3;
     }
     2
 }
 
 // R: the rows of both parts and row 17.
-pub fn table_rows(words: &[u16], first: usize, rows: usize, marks: &[u8]) -> usize
-    requires { ⌜ Readable (now words) first rows (now marks) ⌝ ∗ ⌜ rows ≤ limit .rows ⌝ }
-    ensures { λ r. ⌜ ((v : ℕ) → r ≡ 1 + countRows v (now (words .entry)) first (now (marks .entry)) 0 rows) ⌝ }
+pub fn table_rows(words: &[u16], shape: sheet::Shape, marks: &[u8]) -> usize
+    requires { ⌜ Readable (now words) shape (now marks) ⌝ }
+    ensures { λ r. ⌜ ((v : ℕ) → r ≡ 1 + countAll v (now (words .entry)) shape (now (marks .entry))) ⌝ }
 {
+    let rows = shape.rows;
     let mut sum: usize = 1;
     let mut p: usize = 0;
     while p < rows {
-        let start = first + sheet::ROW_WORDS * p;
-        let more = row_count(words[start], marks[p]);
+        let row = sheet::row_words(words, shape.first_row, RowNumber(p));
+        let more = row_count(row, marks[p]);
         sum += more;
         p += 1;
     }

@@ -2,7 +2,6 @@
 ghost use mathlib.Core.Path.{_≡_};
 ghost use Prim.Native.Nat.{_≤_};
 ghost use lib.ListN.{length};
-ghost use Rattle.sheet.specs.Bounds.{limit};
 ghost use Rattle.sheet.specs.Refusals.{given};
 ghost use Rattle.sheet.specs.Reading.{Sheet, read};
 ghost use Rattle.sheet.specs.Answers.{shapeRead};
@@ -10,18 +9,19 @@ ghost use Rattle.sets.specs.inner.Laid.{Laid};
 ghost use Rattle.table.specs.TableRows.{tableWords};
 ghost use Rattle.table.specs.Adjoint.{tableOf};
 ghost use Rattle.table.specs.Calls.{tableRoom, overwritten, checkedSaid, check, Written, write};
-ghost use Rattle.table.specs.inner.MarkedRows.{Readable};
-ghost use Rattle.table.specs.inner.Needs.{needOver};
 ghost use Rattle.table.specs.inner.Plans.{SheetNoted, PlanMade, PlanSays};
 
 mod count;
 pub mod kinds;
 mod needs;
+mod partners;
 mod rows;
 mod sweep;
 
 // "Hence R is at most": two rows forward and seven backward for each of a sheet's, and row 17.
-pub const MAX_TABLE_ROWS: usize = 9 * sheet::MAX_ROWS + 1;
+const MAX_ROWS_EACH: usize = 9;
+
+pub const MAX_TABLE_ROWS: usize = MAX_ROWS_EACH * sheet::MAX_ROWS + 1;
 
 // The numbers of an answer besides those of the reader's refusals.
 pub const DONE: u16 = 0;
@@ -60,25 +60,23 @@ pub enum Planned {
 // Every row's marks and every block row's partners. The sets themselves are not kept.
 fn note(
     words: &[u16],
-    variables: usize,
-    first: usize,
-    rows: usize,
+    shape: sheet::Shape,
     marks: &mut [u8; sheet::MAX_ROWS],
     came: &mut [u16; sheet::MAX_ROWS],
     goes: &mut [u16; sheet::MAX_ROWS],
 )
-    requires { ⌜ Laid (now words) variables first rows ⌝ }
+    requires { ⌜ Laid (now words) (shape .variables) (shape .«first_row») (shape .rows) ⌝ }
     ensures { λ r. ⌜ ((sheet : Sheet) → read (now (words .entry)) ≡ given sheet → SheetNoted sheet (now (marks .exit)) (now (came .exit)) (now (goes .exit))) ⌝ }
 {
     let mut varied = [0u64; sheet::MAX_ROWS + 1];
     let mut useful = [0u64; sheet::MAX_ROWS + 1];
     let mut required = [0u64; sheet::MAX_ROWS + 1];
-    let points = rows + 1;
+    let points = shape.rows + 1;
     sets::mark(
         words,
-        variables,
-        first,
-        rows,
+        shape.variables,
+        shape.first_row,
+        shape.rows,
         came,
         goes,
         &mut varied[..points],
@@ -86,23 +84,6 @@ fn note(
         &mut required[..points],
         marks,
     );
-}
-
-// S or T of rows that are noted.
-fn need_of(
-    stack: needs::Stack,
-    words: &[u16],
-    first: usize,
-    rows: usize,
-    marks: &[u8],
-    came: &[u16],
-    goes: &[u16],
-) -> usize
-    requires { ⌜ Readable (now words) first rows (now marks) ⌝ ∗ ⌜ rows ≤ limit .rows ⌝ ∗ ⌜ (rows ≤ length (now came)) × (rows ≤ length (now goes)) ⌝ }
-    ensures { λ r. ⌜ r ≡ needOver stack (now (words .entry)) first rows (now (marks .entry)) (now (came .entry)) (now (goes .entry)) ⌝ }
-{
-    let mut sums = [0u16; sheet::MAX_ROWS + 1];
-    needs::needed(stack, words, first, rows, marks, came, goes, &mut sums)
 }
 
 // The plan of an accepted sheet.
@@ -116,13 +97,10 @@ fn plan_of(
     requires { ⌜ shapeRead (now words) ≡ given shape ⌝ }
     ensures { λ r. ⌜ PlanMade (now (words .entry)) r (now (marks .exit)) (now (came .exit)) (now (goes .exit)) ⌝ }
 {
-    let variables = shape.variables;
-    let first = shape.first_row;
-    let rows = shape.rows;
-    note(words, variables, first, rows, marks, came, goes);
-    let count = count::table_rows(words, first, rows, marks);
-    let values = need_of(needs::Stack::Values, words, first, rows, marks, came, goes);
-    let turns = need_of(needs::Stack::Turns, words, first, rows, marks, came, goes);
+    note(words, shape, marks, came, goes);
+    let count = count::table_rows(words, shape, marks);
+    let values = needs::needed(needs::Stack::Values, words, shape, marks, came, goes);
+    let turns = needs::needed(needs::Stack::Turns, words, shape, marks, came, goes);
     Plan {
         shape,
         rows: count,
@@ -159,22 +137,7 @@ pub fn write_planned(
     ensures { λ r. ⌜ ((sheet : Sheet) → read (now (words .entry)) ≡ given sheet
         → now (table .exit) ≡ overwritten (tableWords (tableOf sheet)) (now (table .entry))) ⌝ }
 {
-    let shape = plan.shape;
-    let variables = shape.variables as u16;
-    let count = plan.rows as u16;
-    let first = shape.first_row;
-    let rows = shape.rows;
-    sweep::write_table(
-        words,
-        first,
-        rows,
-        marks,
-        came,
-        goes,
-        variables,
-        count,
-        table,
-    );
+    sweep::write_table(words, plan, marks, came, goes, table);
 }
 
 // Any words: the first refusal of 1 to 7, or the sizes of the sheet that they are.

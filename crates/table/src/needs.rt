@@ -1,13 +1,17 @@
 // S and T: what a sheet's rows need of the value stack or of the turn stack.
 ghost use mathlib.Core.Path.{_≡_};
-ghost use Rattle.sheet.specs.Rows.{lineOfRow};
-ghost use Prim.Native.Nat.{ℕ, suc, _-_, _≤_, _<_, max};
+ghost use Prim.Native.Nat.{suc, _-_, _≤_, _<_, max};
 ghost use mathlib.Core.List.{List};
 ghost use lib.ListN.{length};
-ghost use Rattle.table.specs.inner.MarkedRows.{row4, Says, Readable, savedBy};
-ghost use Rattle.table.specs.inner.Needs.{capped, ofSaved, ofBranch, needOfLine, blockEnd, afterRow, HoldsFrom, NeedRoom, needOver};
+ghost use Rattle.sheet.specs.Rows.{lineOfRow};
+ghost use Rattle.sheet.specs.Answers.{rowSaid};
+ghost use Rattle.table.specs.inner.MarkedRows.{Says, Readable, savedBy};
+ghost use Rattle.table.specs.inner.Needs.{capped, ofSaved, ofBranch, needOfLine, blockEnd, LooksUp, needOver};
 use super::count;
+use super::partners;
 use super::rows;
+use sheet::RowNumber;
+use sheet::RowWords;
 
 // Which stack's need is counted.
 pub enum Stack {
@@ -61,89 +65,77 @@ fn of_branches(first: u16, second: u16) -> usize
 }
 
 // What a row and the rows after it in its block need.
-fn of_row(stack: Stack, kind: u16, turns: u16, mark: u8, next: u16, second: u16, beyond: u16) -> u16
-    ensures { λ r. ⌜ ((d b : ℕ) → Says (row4 kind d turns b) → r ≡ capped (needOfLine stack mark (lineOfRow (row4 kind d turns b)) next second beyond)) ⌝ }
+fn of_row(stack: Stack, row: RowWords, mark: u8, next: u16, second: u16, beyond: u16) -> u16
+    requires { ⌜ Says (rowSaid row) ⌝ }
+    ensures { λ r. ⌜ r ≡ capped (needOfLine stack mark (lineOfRow (rowSaid row)) next second beyond) ⌝ }
 {
     let after = beyond as usize;
-    if kind < sheet::kinds::IF {
+    if row.kind < sheet::kinds::IF {
         let own = of_saved(stack, mark);
         return capped(own + next as usize);
     }
-    if kind == sheet::kinds::IF {
+    if row.kind == sheet::kinds::IF {
         let own = of_branch(stack);
         let branches = of_branches(next, second);
         return capped(own + branches + after);
     }
-    if kind == sheet::kinds::REPEAT {
-        let body = turns as usize * next as usize;
+    if row.kind == sheet::kinds::REPEAT {
+        let body = row.a as usize * next as usize;
         return capped(body + after);
     }
     0
 }
 
-// The last row of the block that row q opens.
-fn block_end(came: &[u16], goes: &[u16], q: usize, kind: u16) -> usize
-    requires { ⌜ (q < length (now came)) × (q < length (now goes)) ⌝ }
-    ensures { λ r. ⌜ r ≡ blockEnd (now (came .entry)) (now (goes .entry)) q kind ⌝ }
+// The last row of the block that a row opens.
+fn block_end(came: &[u16], goes: &[u16], row: RowNumber, kind: u16) -> RowNumber
+    ensures { λ r. ⌜ r .0 ≡ blockEnd (now (came .entry)) (now (goes .entry)) (row .0) kind ⌝ }
 {
     if kind == sheet::kinds::REPEAT {
-        return came[q] as usize;
+        return partners::partner(came, row);
     }
-    let split = goes[q] as usize;
-    if split < goes.len() {
-        return goes[split] as usize;
-    }
-    0
+    partners::if_end(goes, row)
 }
 
-// What the rows after a row need, as far as they come after row q.
-fn after_row(sums: &[u16], rows: usize, q: usize, row: usize) -> u16
+// What the rows after a row need, as far as they come after the row in hand.
+fn after_row(sums: &[u16], rows: usize, in_hand: RowNumber, row: RowNumber) -> u16
     requires { ⌜ rows < length (now sums) ⌝ }
-    ensures { λ r. ⌜ ((later : List ℕ) → length later ≡ rows - q → HoldsFrom (now (sums .entry)) (suc q) later → r ≡ afterRow q later row) ⌝ }
+    ensures { λ r. ⌜ LooksUp (now (sums .entry)) rows (in_hand .0) (row .0) r ⌝ }
 {
-    if row < q {
+    let number = row.0;
+    if number < in_hand.0 {
         return 0;
     }
-    if row < rows {
-        return sums[row + 1];
+    if number < rows {
+        return sums[number + 1];
     }
     0
 }
 
-// S or T. `sums` is lent for one number a row and one more.
+// S or T, from the last row to the first: for each row the number that it and the rows after it in its block need.
 pub fn needed(
     stack: Stack,
     words: &[u16],
-    first: usize,
-    rows: usize,
+    shape: sheet::Shape,
     marks: &[u8],
     came: &[u16],
     goes: &[u16],
-    sums: &mut [u16],
 ) -> usize
-    requires { ⌜ Readable (now words) first rows (now marks) ⌝ ∗ ⌜ NeedRoom rows (now came) (now goes) (now sums) ⌝ }
-    ensures { λ r. ⌜ r ≡ needOver stack (now (words .entry)) first rows (now (marks .entry)) (now (came .entry)) (now (goes .entry)) ⌝ }
+    requires { ⌜ Readable (now words) shape (now marks) ⌝ }
+    ensures { λ r. ⌜ r ≡ needOver stack (now (words .entry)) shape (now (marks .entry)) (now (came .entry)) (now (goes .entry)) ⌝ }
 {
-    sums[rows] = 0;
+    let rows = shape.rows;
+    let mut sums = [0u16; sheet::MAX_ROWS + 1];
     let mut left: usize = rows;
     while 0 < left {
         let q = left - 1;
-        let start = first + sheet::ROW_WORDS * q;
-        let kind = words[start];
-        let split = goes[q] as usize;
-        let end = block_end(came, goes, q, kind);
-        let next = after_row(sums, rows, q, q);
-        let second = after_row(sums, rows, q, split);
-        let beyond = after_row(sums, rows, q, end);
-        sums[q] = of_row(
-            stack,
-            kind,
-            words[start + 2],
-            marks[q],
-            next,
-            second,
-            beyond,
-        );
+        let row = RowNumber(q);
+        let line = sheet::row_words(words, shape.first_row, row);
+        let split = partners::partner(goes, row);
+        let end = block_end(came, goes, row, line.kind);
+        let next = after_row(&sums, rows, row, row);
+        let second = after_row(&sums, rows, row, split);
+        let beyond = after_row(&sums, rows, row, end);
+        sums[q] = of_row(stack, line, marks[q], next, second, beyond);
         left = q;
     }
     sums[0] as usize

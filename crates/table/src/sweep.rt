@@ -1,111 +1,90 @@
 // The two parts of the table, each in one pass over the sheet's rows.
 ghost use mathlib.Core.Path.{_≡_};
-ghost use Prim.Native.Nat.{_+_, _*_, _≤_, _<_};
-ghost use lib.ListN.{length, getD, set};
-ghost use Rattle.table.specs.inner.MarkedRows.{Room, Wrote, Readable, forwardRows, stepBack, turnsBack, handed, Walkable, backwardRows, wholeRows};
+ghost use lib.ListN.{set};
+ghost use Prim.Native.Nat.{_≤_};
+ghost use Rattle.table.specs.Sizes.{mostTableRows};
+ghost use Rattle.table.specs.inner.MarkedRows.{Room, Wrote, Readable, forwardAll, stepBack, turnsBack, handed, Walkable, backwardAll, wholeRows};
+use super::Plan;
 use super::kinds;
+use super::partners;
 use super::rows;
+use sheet::RowNumber;
+use sheet::Shape;
 
 // The forward part: each row's rows in the sheet's order, from place on. Answers the place after them.
-pub fn forward_part(
-    words: &[u16],
-    first: usize,
-    rows: usize,
-    marks: &[u8],
-    table: &mut [u16],
-    place: usize,
-) -> usize
-    requires { ⌜ Room (now table) place (forwardRows (now words) first (now marks) 0 rows) ⌝ ∗ ⌜ Readable (now words) first rows (now marks) ⌝ }
-    ensures { λ r. ⌜ Wrote (now (table .entry)) place (forwardRows (now (words .entry)) first (now (marks .entry)) 0 rows) (now (table .exit)) r ⌝ }
+fn forward_part(words: &[u16], shape: Shape, marks: &[u8], table: &mut [u16], place: usize) -> usize
+    requires { ⌜ Room (now table) place (forwardAll (now words) shape (now marks)) ⌝ ∗ ⌜ Readable (now words) shape (now marks) ⌝ }
+    ensures { λ r. ⌜ Wrote (now (table .entry)) place (forwardAll (now (words .entry)) shape (now (marks .entry))) (now (table .exit)) r ⌝ }
 {
+    let rows = shape.rows;
     let mut next: usize = place;
     let mut p: usize = 0;
     while p < rows {
-        let start = first + sheet::ROW_WORDS * p;
-        next = rows::forward_row(
-            table,
-            next,
-            words[start],
-            words[start + 1],
-            words[start + 2],
-            words[start + 3],
-            marks[p],
-        );
+        let row = sheet::row_words(words, shape.first_row, RowNumber(p));
+        next = rows::forward_row(table, next, row, marks[p]);
         p += 1;
     }
     next
 }
 
-// Where the backward walk goes from row q: to the end of what comes next there.
-fn step_back(came: &[u16], goes: &[u16], q: usize, kind: u16) -> usize
-    requires { ⌜ (q < length (now came)) × (q < length (now goes)) ⌝ ∗ ⌜ (kind ≡ 7 → getD (now goes) q 0 < length (now goes)) ⌝ }
-    ensures { λ r. ⌜ r ≡ stepBack (now (came .entry)) (now (goes .entry)) q kind ⌝ }
+// Where the backward walk goes from a row: to the end of what comes next there.
+fn step_back(came: &[u16], goes: &[u16], row: RowNumber, kind: u16) -> usize
+    ensures { λ r. ⌜ r ≡ stepBack (now (came .entry)) (now (goes .entry)) (row .0) kind ⌝ }
 {
     if kind == sheet::kinds::IF {
-        let split = goes[q] as usize;
-        return goes[split] as usize;
+        let end = partners::if_end(goes, row);
+        return end.0;
     }
     if kind == sheet::kinds::ELSE {
-        return came[q] as usize;
+        let start = partners::partner(came, row);
+        return start.0;
     }
     if kind == sheet::kinds::END_IF {
-        return came[q] as usize;
+        let split = partners::partner(came, row);
+        return split.0;
     }
-    q
+    row.0
 }
 
 // The turns of an "end repeat"'s "repeat"; 0 for any other row.
-fn turns_back(words: &[u16], first: usize, goes: &[u16], q: usize, kind: u16) -> u16
-    requires { ⌜ q < length (now goes) ⌝ ∗ ⌜ (kind ≡ 11 → first + 4 * getD (now goes) q 0 + 2 < length (now words)) ⌝ }
-    ensures { λ r. ⌜ r ≡ turnsBack (now (words .entry)) first (now (goes .entry)) q kind ⌝ }
+fn turns_back(words: &[u16], first: usize, goes: &[u16], row: RowNumber, kind: u16) -> u16
+    ensures { λ r. ⌜ r ≡ turnsBack (now (words .entry)) first (now (goes .entry)) (row .0) kind ⌝ }
 {
     if kind == sheet::kinds::END_REPEAT {
-        let p = goes[q] as usize;
-        let start = first + sheet::ROW_WORDS * p;
-        return words[start + 2];
+        let start = partners::partner(goes, row);
+        let opened = sheet::row_words(words, first, start);
+        return opened.a;
     }
     0
 }
 
 // The backward part: each row's rows once, from the last row on, each "if" with its branches in their places and reversed inside.
-pub fn backward_part(
+fn backward_part(
     words: &[u16],
-    first: usize,
-    rows: usize,
+    shape: Shape,
     marks: &[u8],
     came: &[u16],
     goes: &[u16],
-    variables: u16,
     table: &mut [u16],
     place: usize,
 ) -> usize
-    requires { ⌜ Room (now table) place (backwardRows (handed (now words) first rows (now marks) (now came) (now goes) variables) rows rows) ⌝
-        ∗ ⌜ Readable (now words) first rows (now marks) ⌝
-        ∗ ⌜ Walkable (handed (now words) first rows (now marks) (now came) (now goes) variables) ⌝ }
+    requires { ⌜ Room (now table) place (backwardAll (handed (now words) shape (now marks) (now came) (now goes))) ⌝
+        ∗ ⌜ Readable (now words) shape (now marks) ⌝
+        ∗ ⌜ Walkable (handed (now words) shape (now marks) (now came) (now goes)) ⌝ }
     ensures { λ r. ⌜ Wrote (now (table .entry)) place
-        (backwardRows (handed (now (words .entry)) first rows (now (marks .entry)) (now (came .entry)) (now (goes .entry)) variables) rows rows)
+        (backwardAll (handed (now (words .entry)) shape (now (marks .entry)) (now (came .entry)) (now (goes .entry))))
         (now (table .exit)) r ⌝ }
 {
+    let variables = shape.variables as u16;
     let mut next: usize = place;
-    let mut end: usize = rows;
-    let mut left: usize = rows;
+    let mut end: usize = shape.rows;
+    let mut left: usize = shape.rows;
     while 0 < left {
         let q = end - 1;
-        let start = first + sheet::ROW_WORDS * q;
-        let kind = words[start];
-        let turns = turns_back(words, first, goes, q, kind);
-        next = rows::backward_row(
-            table,
-            next,
-            variables,
-            kind,
-            words[start + 1],
-            words[start + 2],
-            words[start + 3],
-            marks[q],
-            turns,
-        );
-        end = step_back(came, goes, q, kind);
+        let row = sheet::row_words(words, shape.first_row, RowNumber(q));
+        let turns = turns_back(words, shape.first_row, goes, RowNumber(q), row.kind);
+        next = rows::backward_row(table, next, variables, row, marks[q], turns);
+        end = step_back(came, goes, RowNumber(q), row.kind);
         left -= 1;
     }
     next
@@ -114,34 +93,23 @@ pub fn backward_part(
 // The whole table: the row count, the forward part, row 17 and the backward part. Answers the place after it.
 pub fn write_table(
     words: &[u16],
-    first: usize,
-    rows: usize,
+    plan: Plan,
     marks: &[u8],
     came: &[u16],
     goes: &[u16],
-    variables: u16,
-    count: u16,
     table: &mut [u16],
 ) -> usize
-    requires { ⌜ Room (now table) 1 (wholeRows (handed (now words) first rows (now marks) (now came) (now goes) variables)) ⌝
-        ∗ ⌜ Readable (now words) first rows (now marks) ⌝
-        ∗ ⌜ Walkable (handed (now words) first rows (now marks) (now came) (now goes) variables) ⌝ }
-    ensures { λ r. ⌜ Wrote (set (now (table .entry)) 0 count) 1
-        (wholeRows (handed (now (words .entry)) first rows (now (marks .entry)) (now (came .entry)) (now (goes .entry)) variables))
+    requires { ⌜ Room (now table) 1 (wholeRows (handed (now words) (plan .shape) (now marks) (now came) (now goes))) ⌝
+        ∗ ⌜ Readable (now words) (plan .shape) (now marks) ⌝
+        ∗ ⌜ Walkable (handed (now words) (plan .shape) (now marks) (now came) (now goes)) ⌝
+        ∗ ⌜ plan .rows ≤ mostTableRows ⌝ }
+    ensures { λ r. ⌜ Wrote (set (now (table .entry)) 0 (plan .rows)) 1
+        (wholeRows (handed (now (words .entry)) (plan .shape) (now (marks .entry)) (now (came .entry)) (now (goes .entry))))
         (now (table .exit)) r ⌝ }
 {
-    table[0] = count;
-    let turned = forward_part(words, first, rows, marks, table, 1);
+    let shape = plan.shape;
+    table[0] = plan.rows as u16;
+    let turned = forward_part(words, shape, marks, table, 1);
     let back = rows::put(table, turned, kinds::TURN_ROUND, 0, 0, 0);
-    backward_part(
-        words,
-        first,
-        rows,
-        marks,
-        came,
-        goes,
-        variables,
-        table,
-        back,
-    )
+    backward_part(words, shape, marks, came, goes, table, back)
 }

@@ -7,29 +7,29 @@ use Rattle.table.proofs.note.Statement.{statement}
 use Rattle.table.proofs.note.Tie as tie
 
 add-points : tie.Need-add-points
-add-points c = record { fits = omega (arith, few-points _ _ _ _ (c .before .pre)) }
+add-points c = record { fits = omega (arith, few-points _ _ _ _ (c .before .before .pre)) }
 
 array-borrow-prefix-varied : tie.Need-array-borrow-prefix-varied
-array-borrow-prefix-varied c = omega (arith, few-points _ _ _ _ (c .before .before .before .pre))
+array-borrow-prefix-varied c = omega (arith, few-points _ _ _ _ (c .before .before .before .before .pre))
 
 slice-aggregate-mark : tie.Need-slice-aggregate-mark
-slice-aggregate-mark c = add-one _ ∙ sym (first-points _ _ _ _ (c .before .before .before .before .pre) _ (omega arith))
+slice-aggregate-mark c = add-one _ ∙ sym (first-points _ _ _ _ (c .before .before .before .before .before .pre) _ (omega arith))
 
 array-borrow-prefix-useful : tie.Need-array-borrow-prefix-useful
-array-borrow-prefix-useful c = omega (arith, few-points _ _ _ _ (c .before .before .before .before .pre))
+array-borrow-prefix-useful c = omega (arith, few-points _ _ _ _ (c .before .before .before .before .before .pre))
 
 slice-aggregate-mark-2 : tie.Need-slice-aggregate-mark-2
-slice-aggregate-mark-2 c = add-one _ ∙ sym (first-points _ _ _ _ (c .before .before .before .before .before .pre) _ (omega arith))
+slice-aggregate-mark-2 c = add-one _ ∙ sym (first-points _ _ _ _ (c .before .before .before .before .before .before .pre) _ (omega arith))
 
 array-borrow-prefix-required : tie.Need-array-borrow-prefix-required
-array-borrow-prefix-required c = omega (arith, few-points _ _ _ _ (c .before .before .before .before .before .pre))
+array-borrow-prefix-required c = omega (arith, few-points _ _ _ _ (c .before .before .before .before .before .before .pre))
 
 slice-aggregate-mark-3 : tie.Need-slice-aggregate-mark-3
-slice-aggregate-mark-3 c = add-one _ ∙ sym (first-points _ _ _ _ (c .before .before .before .before .before .before .pre) _ (omega arith))
+slice-aggregate-mark-3 c = add-one _ ∙ sym (first-points _ _ _ _ (c .before .before .before .before .before .before .before .pre) _ (omega arith))
 
 mark-requires : tie.Need-mark-requires
 mark-requires c κs =
-    let start = c .before .before .before .before .before .before .before in
+    let start = c .before .before .before .before .before .before .before .before in
     let few = few-points _ _ _ _ (start .pre) in
     let room = first-points _ _ _ _ (start .pre) in (
       start .pre,
@@ -45,7 +45,7 @@ mark-requires c κs =
 
 returns : tie.Need-returns
 returns c =
-    let start = c .before .before .before .before .before .before .before .before .before .before .before in
+    let start = c .before .before .before .before .before .before .before .before .before .before .before .before in
     let laid = start .pre in
     let few = few-points _ _ _ _ laid in
     let left = c .before .before .before .mark .ensures in

@@ -1,7 +1,12 @@
 -- `table::plan_of` meets its contract: R, S and T are counted from what is noted.
+use Prim.Native.Nat.{ℕ, _≤_}
+use mathlib.Core.List.{List}
+use lib.ListN.{length}
 use native.Mathlib.Omega.{arith}
+use Rattle.sheet.specs.Bounds.{limit}
 use Rattle.table.proofs.SheetLaid.{SomeSheet, accepted-lies}
-use Rattle.table.proofs.PlanLaws.{readable, rows-right, values-right, turns-right}
+use Rattle.table.proofs.PlanLaws.{readable, rows-right, need-right}
+use Rattle.table.specs.inner.MarkedRows.{Readable}
 use Rattle.table.proofs.plan_of.Statement.{statement}
 use Rattle.table.proofs.plan_of.Tie as tie
 
@@ -9,30 +14,25 @@ use Rattle.table.proofs.plan_of.Tie as tie
 sheet-found : (c : tie.After-note) → let args = c .before .before .before .before .before .args in SomeSheet (args .words .now) (args .shape)
 sheet-found c = accepted-lies _ _ (c .before .before .before .before .before .pre)
 
+rows-readable : (c : tie.After-note) (marks : List ℕ) → limit .rows ≤ length marks → let args = c .before .before .before .before .before .args in Readable (args .words .now) (args .shape) marks
+rows-readable c marks long = let lies = sheet-found c .lies in let few = lies .fewRows in readable lies marks (omega arith)
+
 note-requires : tie.Need-note-requires
 note-requires c κs = accepted-lies _ _ (c .before .before .before .before .pre) .lies .laid
 
 table-rows-requires : tie.Need-table-rows-requires
-table-rows-requires c κs =
-    let lies = sheet-found (c .before .before) .lies in
-    let few = lies .fewRows in
-    (readable lies _ (omega arith), few)
+table-rows-requires c κs = rows-readable (c .before .before) _ (omega arith)
 
-need-of-requires : tie.Need-need-of-requires
-need-of-requires c κs =
-    let lies = sheet-found (c .before .before .before .before .before .before .before .before .before) .lies in
-    let few = lies .fewRows in
-    (readable lies _ (omega arith), (few, (omega arith, omega arith)))
+needed-requires : tie.Need-needed-requires
+needed-requires c κs = rows-readable (c .before .before .before .before .before .before .before .before .before) _ (omega arith)
 
-need-of-requires-2 : tie.Need-need-of-requires-2
-need-of-requires-2 c κs =
-    let lies = sheet-found (c .before .before .before .before .before .before .before .before .before .before .before .before .before .before .before .before) .lies in
-    let few = lies .fewRows in
-    (readable lies _ (omega arith), (few, (omega arith, omega arith)))
+needed-requires-2 : tie.Need-needed-requires-2
+needed-requires-2 c κs = rows-readable (c .before .before .before .before .before .before .before .before .before .before .before .before .before .before .before .before) _ (omega arith)
 
 returns : tie.Need-returns
 returns c =
-    let noting = c .before .before .before .before .before .before .before .before .before .before .before .before .before .before .before .before .before in
+    let counting = c .before .before .before .before .before .before .before .before .before .before .before .before .before .before in
+    let noting = counting .before .before .before in
     let found = sheet-found noting in
     let lies = found .lies in
     let noted = noting .note .ensures (found .sheet) (lies .is) in
@@ -41,9 +41,9 @@ returns c =
       accepted = lies .is;
       planned = record {
         shape = lies .shapeIs;
-        rows = rows-right lies _ _ _ noted _ (c .before .before .before .before .before .before .before .before .before .before .before .before .before .before .table-rows .ensures);
-        values = values-right lies _ _ _ noted _ (c .before .before .before .before .before .before .before .need-of .ensures);
-        turns = turns-right lies _ _ _ noted _ (c .need-of2 .ensures);
+        rows = rows-right lies _ _ _ noted _ (counting .table-rows .ensures);
+        values = need-right lies _ _ _ noted _ _ (c .before .before .before .before .before .before .before .needed .ensures);
+        turns = need-right lies _ _ _ noted _ _ (c .needed2 .ensures);
         noted = noted;
       };
     }
@@ -51,4 +51,9 @@ returns c =
 pub plan-of-spec : {M : Type 1} → statement M
 plan-of-spec =
     tie.close
-    (tie.spec note-requires table-rows-requires need-of-requires need-of-requires-2 returns)
+    (tie.spec
+    note-requires
+    table-rows-requires
+    needed-requires
+    needed-requires-2
+    returns)

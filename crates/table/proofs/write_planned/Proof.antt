@@ -10,20 +10,14 @@ use Rattle.table.proofs.PlanLaws.{readable, walkable, room-right, table
 use Rattle.table.proofs.write_planned.Statement.{statement}
 use Rattle.table.proofs.write_planned.Tie as tie
 
-cast-variables : tie.Need-cast-variables
-cast-variables c = record { fits = omega (arith, planned-lies (c .before .before .before .before .pre .0) .fewVariables) }
-
-cast-count : tie.Need-cast-count
-cast-count c = record { fits = omega (arith, planned-few (c .before .before .before .before .before .pre .0)) }
-
 write-table-requires : tie.Need-write-table-requires
 write-table-requires c κs =
-    let start = c .before .before .before .before .before .before .before .before .before in
+    let start = c .before .before .before .before .before .before in
     let made = start .pre .0 in
     let lies = planned-lies made in
     let few = lies .fewRows in (
       room-right lies _ _ _ (made .planned .noted) _ _ (made .planned .rows) (start .pre .1),
-      (readable lies _ (omega arith), walkable lies _ _ _ (made .planned .noted) (omega arith) (omega arith)),
+      (readable lies _ (omega arith), (walkable lies _ _ _ (made .planned .noted), planned-few made)),
     )
 
 same-length : tie.Need-same-length
@@ -31,7 +25,7 @@ same-length c = search needs
 
 returns : tie.Need-returns
 returns c =
-    let start = c .before .before .before .before .before .before .before .before .before .before .before .before in
+    let start = c .before .before .before .before .before .before .before .before .before in
     let made = start .pre .0 in
     let buffer = start .args .table .now in
     let wrote = table-written (planned-lies made) _ _ _ (made .planned .noted) _ buffer _ _ (made .planned .rows) (start .pre .1) (c .before .before .write-table .ensures) in
@@ -39,4 +33,8 @@ returns c =
 
 pub write-planned-spec : {M : Type 1} → statement M
 write-planned-spec =
-    tie.close (tie.spec cast-variables cast-count write-table-requires same-length returns)
+    tie.close
+    (tie.spec
+    write-table-requires
+    same-length
+    returns)

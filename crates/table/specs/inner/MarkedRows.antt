@@ -12,10 +12,11 @@ use Rattle.sheet.specs.Reading.{rowAt}
 use Rattle.sheet.specs.Bounds.{limit}
 use Rattle.sheet.specs.Tree.{Tree, done, one, fork, again, rows, RowNumber, basic, ifLine, elseLine, endIf, repeat, endRepeat}
 use Rattle.sheet.specs.Rows.{Assignment, Test, _≔_, Source, fixed, SheetLine, Row, rowOfTest, sheetRowOf, lineOfRow}
+use Rattle.sheet.specs.declared.Shape.{Shape}
 use Rattle.sets.specs.Transfers.{Activity}
 use Rattle.sets.specs.Marks.{Marked}
 use Rattle.table.specs.TableRows.{Table, linesOf, tableRowOf, wordsOf, rowOfAction, saveTurn, onTurn}
-use Rattle.table.specs.Adjoint.{forwardRow, partsOf, backwardOf}
+use Rattle.table.specs.Adjoint.{forwardRow, partsOf, derivativeRows, backwardOf}
 
 -- ---- rows in a buffer
 
@@ -24,12 +25,12 @@ row4 kind d a b = record { kind = kind; d = d; a = a; b = b }
 
 -- a buffer has room for rows from a place on
 pub record Room (buffer : List ℕ) (place : ℕ) (rs : List Row) : Type 0 where
-  pub fits : place + 4 * length rs ≤ length buffer
+  pub fits : place + limit .rowWords * length rs ≤ length buffer
 
 -- the buffer holds the rows' words from a place on and is else as it was; `reached` is the place after them
 pub record Wrote (before : List ℕ) (place : ℕ) (rs : List Row) (after : List ℕ) (reached : ℕ) : Type 0 where
   pub words : after ≡ sets before place (wordsOf rs)
-  pub place-after : reached ≡ place + 4 * length rs
+  pub place-after : reached ≡ place + limit .rowWords * length rs
 
 -- a row, only if
 abbrev pub rowIf : Bool → Row → List Row
@@ -83,20 +84,28 @@ sourceSaid endIf = fixed 0
 sourceSaid (repeat m) = fixed 0
 sourceSaid endRepeat = fixed 0
 
+-- an assignment's kinds
+pub record Assigns (kind : ℕ) : Type 0 where
+  pub some : 1 ≤ kind
+  pub most : kind ≤ 6
+
 -- what an assignment's row reads
-unfoldable pub sourceOf : (kind a b : ℕ) → Source
+unfoldable pub sourceOf : Row → Source
 unfolding lineOfRow
-sourceOf kind a b = sourceSaid (lineOfRow (row4 kind 0 a b))
+sourceOf r = sourceSaid (lineOfRow r)
 
--- the rows of an assignment's parts, and all its backward rows
-unfoldable pub partRows : (variables kind a b : ℕ) → (variedA variedB : Bool) → List Row
+-- the rows of an assignment's parts, its derivative rows, and all its backward rows
+unfoldable pub partRows : (variables : ℕ) → Row → (mark : ℕ) → List Row
 unfolding sourceOf partsOf rowsIn
-partRows v kind a b variedA variedB =
-    rowsIn (partsOf v (sourceOf kind a b) anyRow (record { variedA = variedA; variedB = variedB; active = true }) done)
+partRows v r mark = rowsIn (partsOf v (sourceOf r) anyRow (knownBy mark) done)
 
-unfoldable pub assignmentBack : (variables kind d a b mark : ℕ) → List Row
+unfoldable pub derivativesOf : (variables : ℕ) → Row → (mark : ℕ) → List Row
+unfolding sourceOf derivativeRows rowsIn
+derivativesOf v r mark = rowsIn (derivativeRows v (knownBy mark .active) (r .d) (sourceOf r) anyRow (knownBy mark) done)
+
+unfoldable pub assignmentBack : (variables : ℕ) → Row → (mark : ℕ) → List Row
 unfolding sourceOf backwardOf rowsIn
-assignmentBack v kind d a b mark = rowsIn (backwardOf v (d ≔ sourceOf kind a b) anyRow (knownBy mark) (savedBy mark) done)
+assignmentBack v r mark = rowsIn (backwardOf v (r .d ≔ sourceOf r) anyRow (knownBy mark) (savedBy mark) done)
 
 -- a sheet row's rows in the forward part
 unfoldable pub forwardOfLine : (mark : ℕ) → SheetLine → List Row
@@ -118,28 +127,44 @@ backwardOfLine v mark turns endIf = tableRowOf (ifLine onTurn) ∷ []
 backwardOfLine v mark turns (repeat m) = tableRowOf endRepeat ∷ []
 backwardOfLine v mark turns endRepeat = row4 10 0 turns 0 ∷ []
 
+-- in both parts; how many they are doesn't hang on the turns
+abbrev pub bothParts : (variables mark : ℕ) → SheetLine → List Row
+bothParts v mark l = forwardOfLine mark l ++ backwardOfLine v mark 0 l
+
+-- so many rows, whatever the number of variables, and how many they can be
+pub record Counted (most count : ℕ) (rowsFor : (variables : ℕ) → List Row) : Type 0 where
+  pub within : count ≤ most
+  pub is : (v : ℕ) → count ≡ length (rowsFor v)
+
 -- ---- all rows
 
-module _ (words : List ℕ) (first : ℕ) where
-  abbrev pub rowNumbered : ℕ → Row
-  rowNumbered p = rowAt words (first + 4 * p)
+abbrev pub rowNumbered : (words : List ℕ) (first p : ℕ) → Row
+rowNumbered words first p = rowAt words (first + p * limit .rowWords)
 
-  -- what the reader has made sure of: the rows are there, each says a line, and a mark is there for each
-  pub record Readable (rows : ℕ) (marks : List ℕ) : Type 0 where
-    pub within : first + 4 * rows ≤ length words
-    pub marked : rows ≤ length marks
-    pub says : (p : ℕ) → p < rows → Says (rowNumbered p)
+-- what the reader has made sure of: the rows are few, each says a line, and a mark is there for each
+pub record Readable (words : List ℕ) (shape : Shape) (marks : List ℕ) : Type 0 where
+  pub few : shape .rows ≤ limit .rows
+  pub marked : shape .rows ≤ length marks
+  pub says : (p : ℕ) → p < shape .rows → Says (rowNumbered words (shape .«first_row») p)
 
-  -- the forward part's rows, for so many rows from row p on
-  unfoldable pub forwardRows : (marks : List ℕ) (p count : ℕ) → List Row
-  unfolding forwardOfLine lineOfRow rowAt
-  forwardRows marks p zero = []
-  forwardRows marks p (suc n) = forwardOfLine (getD marks p 0) (lineOfRow (rowNumbered p)) ++ forwardRows marks (suc p) n
+-- the forward part's rows, for so many rows from row p on, and for all of them
+unfoldable pub forwardRows : (words : List ℕ) (first : ℕ) (marks : List ℕ) (p count : ℕ) → List Row
+unfolding forwardOfLine lineOfRow rowAt
+forwardRows words first marks p zero = []
+forwardRows words first marks p (suc n) =
+    forwardOfLine (getD marks p 0) (lineOfRow (rowNumbered words first p)) ++ forwardRows words first marks (suc p) n
+
+abbrev pub forwardAll : (words : List ℕ) → Shape → (marks : List ℕ) → List Row
+forwardAll words shape marks = forwardRows words (shape .«first_row») marks 0 (shape .rows)
+
+-- the last row of the if block that row q opens
+abbrev pub ifEnd : (goes : List ℕ) (q : ℕ) → ℕ
+ifEnd goes q = getD goes (getD goes q 0) 0
 
 -- The backward part walks over the rows from the last on. From a row of a kind it goes to the end of what comes next, which is
 -- the row before; but "end if" to the first branch, "if" to the second, "else" to what is before the block.
 unfoldable pub stepBack : (came goes : List ℕ) (q kind : ℕ) → ℕ
-stepBack came goes q kind = cond (eqb kind 7) (getD goes (getD goes q 0) 0) (cond (eqb kind 8 || eqb kind 9) (getD came q 0) q)
+stepBack came goes q kind = cond (eqb kind 7) (ifEnd goes q) (cond (eqb kind 8 || eqb kind 9) (getD came q 0) q)
 
 -- the turns of an "end repeat"'s "repeat"
 unfoldable pub turnsBack : (words : List ℕ) (first : ℕ) (goes : List ℕ) (q kind : ℕ) → ℕ
@@ -156,9 +181,17 @@ pub record Handed : Type 0 where
   pub goes : List ℕ
   pub variables : ℕ
 
-abbrev pub handed : (words : List ℕ) (first rows : ℕ) (marks came goes : List ℕ) (variables : ℕ) → Handed
-handed words first rows marks came goes variables =
-    record { words = words; first = first; rows = rows; marks = marks; came = came; goes = goes; variables = variables }
+abbrev pub handed : (words : List ℕ) → Shape → (marks came goes : List ℕ) → Handed
+handed words shape marks came goes =
+    record {
+      words = words;
+      first = shape .«first_row»;
+      rows = shape .rows;
+      marks = marks;
+      came = came;
+      goes = goes;
+      variables = shape .variables;
+    }
 
 module _ (given : Handed) where
   abbrev pub rowOfNumber : ℕ → Row
@@ -178,12 +211,13 @@ module _ (given : Handed) where
   backwardRows zero end = []
   backwardRows (suc n) end = backwardAt (end - 1) ++ backwardRows n (wayBack (end - 1))
 
-  -- the row before `end` is there, and so are the partners that are looked at there
+  abbrev pub backwardAll : List Row
+  backwardAll = backwardRows (given .rows) (given .rows)
+
+  -- the row before `end` is there
   pub record Visited (end : ℕ) : Type 0 where
     pub some : 1 ≤ end
     pub within : end ≤ given .rows
-    pub branch : rowOfNumber (end - 1) .kind ≡ 7 → getD (given .goes) (end - 1) 0 < given .rows
-    pub loop : rowOfNumber (end - 1) .kind ≡ 11 → getD (given .goes) (end - 1) 0 < given .rows
 
   -- the walk stays on the rows for so many of them
   unfoldable pub Walks : (count end : ℕ) → Type 0
@@ -193,25 +227,25 @@ module _ (given : Handed) where
 
   -- what the reader has made sure of besides
   pub record Walkable : Type 0 where
+    pub few : given .variables ≤ limit .variables
     pub small : (p : ℕ) → p < given .rows → Small (given .variables) (rowOfNumber p)
-    pub splits : given .rows ≤ length (given .came)
-    pub ends : given .rows ≤ length (given .goes)
     pub walks : Walks (given .rows) (given .rows)
 
 -- the forward part, row 17 and the backward part
 unfoldable pub wholeRows : Handed → List Row
 unfolding forwardRows backwardRows
 wholeRows given =
-    forwardRows (given .words) (given .first) (given .marks) 0 (given .rows) ++ (row4 17 0 0 0 ∷ backwardRows given (given .rows) (given .rows))
+    forwardRows (given .words) (given .first) (given .marks) 0 (given .rows) ++ (row4 17 0 0 0 ∷ backwardAll given)
 
 -- how many rows so many rows from row p on give in both parts
 unfoldable pub countRows : (variables : ℕ) (words : List ℕ) (first : ℕ) (marks : List ℕ) (p count : ℕ) → ℕ
 unfolding forwardOfLine backwardOfLine lineOfRow rowAt
 countRows v words first marks p zero = 0
 countRows v words first marks p (suc n) =
-    length (forwardOfLine (getD marks p 0) (lineOfRow (rowNumbered words first p)))
-    + length (backwardOfLine v (getD marks p 0) 0 (lineOfRow (rowNumbered words first p)))
-    + countRows v words first marks (suc p) n
+    length (bothParts v (getD marks p 0) (lineOfRow (rowNumbered words first p))) + countRows v words first marks (suc p) n
+
+abbrev pub countAll : (variables : ℕ) (words : List ℕ) → Shape → (marks : List ℕ) → ℕ
+countAll v words shape marks = countRows v words (shape .«first_row») marks 0 (shape .rows)
 
 -- ---- what the arrays hold, of a sheet's tree
 

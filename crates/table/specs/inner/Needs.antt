@@ -1,5 +1,5 @@
 -- S and T row by row, from the last row to the first: what each row and the rows after it in its block need of a stack.
-use Prim.Native.Nat.{ℕ, zero, suc, _+_, _*_, _-_, _≤_, _<_, min, max}
+use Prim.Native.Nat.{ℕ, zero, suc, _+_, _*_, _-_, _<_, min, max}
 use mathlib.Core.Path.{_≡_}
 use mathlib.Core.Bool.{Bool, cond}
 use mathlib.Core.List.{List, [], _∷_}
@@ -8,7 +8,8 @@ use lib.Dec.{eqb, ltb}
 use Rattle.sheet.specs.Tree.{basic, ifLine, elseLine, endIf, repeat, endRepeat}
 use Rattle.sheet.specs.Rows.{SheetLine, lineOfRow}
 use Rattle.sheet.specs.Reading.{rowAt}
-use Rattle.table.specs.inner.MarkedRows.{savedBy, rowNumbered}
+use Rattle.sheet.specs.declared.Shape.{Shape}
+use Rattle.table.specs.inner.MarkedRows.{savedBy, rowNumbered, ifEnd}
 use Rattle.table.specs.declared.needs.Stack.{Stack}
 use Rattle.table.specs.declared.needs.Stack.the-variants as stack
 
@@ -40,7 +41,7 @@ needOfLine stack mark endRepeat next second beyond = 0
 
 -- the last row of the block that row q opens: a "repeat"'s partner, the partner of an "if"'s "else"
 unfoldable pub blockEnd : (came goes : List ℕ) (q kind : ℕ) → ℕ
-blockEnd came goes q kind = cond (eqb kind 10) (getD came q 0) (getD goes (getD goes q 0) 0)
+blockEnd came goes q kind = cond (eqb kind 10) (getD came q 0) (ifEnd goes q)
 
 -- what the rows after `row` need, of a list that has it for the rows after q, the next one first
 unfoldable pub afterRow : (q : ℕ) (later : List ℕ) (row : ℕ) → ℕ
@@ -50,11 +51,9 @@ afterRow q later row = cond (ltb row q) 0 (getD later (row - q) 0)
 pub record HoldsFrom (buffer : List ℕ) (place : ℕ) (list : List ℕ) : Type 0 where
   pub each : (k : ℕ) → k < length list → getD buffer (place + k) 0 ≡ getD list k 0
 
--- room for a row's partners and for its need, with one more for what is after the last row
-pub record NeedRoom (rows : ℕ) (came goes sums : List ℕ) : Type 0 where
-  pub splits : rows ≤ length came
-  pub ends : rows ≤ length goes
-  pub needs : rows < length sums
+-- what is found after `row` among the needs that are kept of the rows after q, for whichever list they are
+abbrev pub LooksUp : (sums : List ℕ) (rows q row found : ℕ) → Type 0
+LooksUp sums rows q row found = (later : List ℕ) → length later ≡ rows - q → HoldsFrom sums (suc q) later → found ≡ afterRow q later row
 
 module _ (stack : Stack) (words : List ℕ) (first : ℕ) (marks came goes : List ℕ) where
   -- row q, by what the rows after it need
@@ -71,6 +70,6 @@ module _ (stack : Stack) (words : List ℕ) (first : ℕ) (marks came goes : Lis
   needsFrom q (suc n) = needAt q (needsFrom (suc q) n) ∷ needsFrom (suc q) n
 
 -- S or T of all rows
-unfoldable pub needOver : Stack → (words : List ℕ) (first rows : ℕ) (marks came goes : List ℕ) → ℕ
+unfoldable pub needOver : Stack → (words : List ℕ) → Shape → (marks came goes : List ℕ) → ℕ
 unfolding needsFrom
-needOver stack words first rows marks came goes = getD (needsFrom stack words first marks came goes 0 rows) 0 0
+needOver stack words shape marks came goes = getD (needsFrom stack words (shape .«first_row») marks came goes 0 (shape .rows)) 0 0

@@ -1,7 +1,9 @@
 -- `table::count::assignment_count` meets its contract.
 use borrow.Author.Needs.{needs}
 use native.Mathlib.Omega.{arith}
-use Rattle.table.proofs.RowCounts.{assignment-length}
+use mathlib.Core.Path.{sym, _∙_}
+use Rattle.sheet.specs.Answers.{rowSaid}
+use Rattle.table.proofs.RowCounts.{active-count, inactive-count}
 use Rattle.table.proofs.count.assignment_count.Statement.{statement}
 use Rattle.table.proofs.count.assignment_count.Tie as tie
 
@@ -10,12 +12,6 @@ bit-requires c κs = search needs
 
 bit-requires-2 : tie.Need-bit-requires-2
 bit-requires-2 c κs = search needs
-
-bit-requires-3 : tie.Need-bit-requires-3
-bit-requires-3 c κs = search needs
-
-bit-requires-4 : tie.Need-bit-requires-4
-bit-requires-4 c κs = search needs
 
 one-requires : tie.Need-one-requires
 one-requires c κs = search needs
@@ -31,26 +27,26 @@ add-result-2 c = search needs
 
 returns : tie.Need-returns
 returns c =
-    let x = c .before .before .before .before .before .before .before .args in (
-      λ v d a b.
-          let all = assignment-length v (x .kind) d a b (x .mark) (c .before .before .before .before .before .before .bit .ensures) (c .before .before .before .before .before .bit2 .ensures) (c .before .before .before .before .bit3 .ensures) (c .before .before .before .bit4 .ensures) in
-          let these = rw (c .if1 .taken) at all in
-          omega (arith, these, c .before .before .one .ensures .0, c .before .parts-count .ensures .0 v a b),
-      omega (arith, c .before .before .one .ensures .1, c .before .parts-count .ensures .1),
-    )
+    let x = c .before .before .before .before .before .args in
+    let parts = c .before .parts-count .ensures in
+    let active = sym (c .before .before .before .bit2 .ensures) ∙ c .if1 .taken in
+    record {
+      within = omega (arith, parts .within, c .before .before .one .ensures);
+      is = λ v. omega (arith, active-count v (rowSaid (x .row)) (x .mark) (c .before .before .before .before .bit .ensures) active, c .before .before .one .ensures, parts .is v);
+    }
 
 add-result-3 : tie.Need-add-result-3
 add-result-3 c = search needs
 
 returns-2 : tie.Need-returns-2
 returns-2 c =
-    let x = c .before .before .before .before .before .before .before .args in (
-      λ v d a b.
-          let all = assignment-length v (x .kind) d a b (x .mark) (c .before .before .before .before .before .before .bit .ensures) (c .before .before .before .before .before .bit2 .ensures) (c .before .before .before .before .bit3 .ensures) (c .before .before .before .bit4 .ensures) in
-          let these = rw (c .if1 .left) at all in
-          omega (arith, these, c .before .before .one .ensures .0),
-      omega (arith, c .before .before .one .ensures .1, c .before .parts-count .ensures .1),
-    )
+    let x = c .before .before .before .before .before .args in
+    let parts = c .before .parts-count .ensures in
+    let active = sym (c .before .before .before .bit2 .ensures) ∙ c .if1 .left in
+    record {
+      within = omega (arith, parts .within, c .before .before .one .ensures);
+      is = λ v. omega (arith, inactive-count v (rowSaid (x .row)) (x .mark) (c .before .before .before .before .bit .ensures) active, c .before .before .one .ensures, parts .is v);
+    }
 
 pub assignment-count-spec : {M : Type 1} → statement M
 assignment-count-spec =
@@ -58,8 +54,6 @@ assignment-count-spec =
     (tie.spec
     bit-requires
     bit-requires-2
-    bit-requires-3
-    bit-requires-4
     one-requires
     parts-count-requires
     add-result

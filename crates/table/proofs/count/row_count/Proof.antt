@@ -1,10 +1,8 @@
--- `table::count::row_count` meets its contract.
+-- `table::count::row_count` meets its contract, kind by kind.
 use borrow.Author.Needs.{needs}
-use mathlib.Core.Path.{ap}
 use native.Mathlib.Omega.{arith}
-use lib.ListN.{length}
-use Rattle.table.proofs.LineRows.{assignment-backward, else-forward, end-if-forward, plain-forward}
-use Rattle.table.proofs.RowCounts.{saved-length, one-back}
+use Rattle.table.proofs.LineRows.{says-assigns}
+use Rattle.table.proofs.RowCounts.{assignment-both, else-both, end-if-both, plain-both}
 use Rattle.table.proofs.count.row_count.Statement.{statement}
 use Rattle.table.proofs.count.row_count.Tie as tie
 
@@ -15,7 +13,7 @@ one-requires : tie.Need-one-requires
 one-requires c κs = search needs
 
 assignment-count-requires : tie.Need-assignment-count-requires
-assignment-count-requires c κs = search needs
+assignment-count-requires c κs = says-assigns (c .before .before .before .before .pre) (c .before .before .if1 .taken)
 
 add-result : tie.Need-add-result
 add-result c = search needs
@@ -25,41 +23,28 @@ add-result-2 c = search needs
 
 returns : tie.Need-returns
 returns c =
-    let x = c .before .before .before .before .args in (
-      λ v turns d a b says.
-          omega (
-            arith,
-            saved-length (x .mark) says (c .before .before .bit .ensures) (omega (arith, c .before .before .before .if1 .taken)),
-            c .before .one .ensures .0,
-            c .assignment-count .ensures .0 v d a b,
-            ap length (assignment-backward v (x .mark) turns (x .kind) d a b (c .before .before .before .before .pre) (omega (arith, c .before .before .before .if1 .taken))),
-          ),
-      omega (arith, c .before .one .ensures .1, c .assignment-count .ensures .1),
-    )
+    let start = c .before .before .before .before .before in
+    let back = c .assignment-count .ensures in
+    let saved = c .before .one .ensures in
+    record {
+      within = omega (arith, back .within, saved);
+      is = λ v. omega (arith, assignment-both v (start .args .mark) (start .pre) (c .before .before .bit .ensures) (c .before .before .before .if1 .taken), saved, back .is v);
+    }
 
 returns-2 : tie.Need-returns-2
 returns-2 c =
-    let x = c .before .before .args in (
-      λ v turns d a b says.
-          omega (arith, ap length (else-forward (x .mark) says (c .if2 .taken)), one-back (x .kind) v (x .mark) turns d a b (omega (arith, c .before .if1 .left))),
-      omega arith,
-    )
+    let start = c .before .before .before .before in
+    record { within = omega arith; is = λ v. omega (arith, else-both v (start .args .mark) (start .pre) (c .if2 .taken)) }
 
 returns-3 : tie.Need-returns-3
 returns-3 c =
-    let x = c .before .before .before .args in (
-      λ v turns d a b says.
-          omega (arith, ap length (end-if-forward (x .mark) says (c .if3 .taken)), one-back (x .kind) v (x .mark) turns d a b (omega (arith, c .before .before .if1 .left))),
-      omega arith,
-    )
+    let start = c .before .before .before .before .before .before in
+    record { within = omega arith; is = λ v. omega (arith, end-if-both v (start .args .mark) (start .pre) (c .if3 .taken)) }
 
 returns-4 : tie.Need-returns-4
 returns-4 c =
-    let x = c .before .before .before .args in (
-      λ v turns d a b says.
-          omega (arith, ap length (plain-forward (x .mark) says (c .before .before .if1 .left) (c .before .if2 .left) (c .if3 .left)), one-back (x .kind) v (x .mark) turns d a b (omega (arith, c .before .before .if1 .left))),
-      omega arith,
-    )
+    let start = c .before .before .before .before .before .before in
+    record { within = omega arith; is = λ v. omega (arith, plain-both v (start .args .mark) (start .pre) (c .before .before .before .before .if1 .left) (c .before .before .if2 .left) (c .if3 .left)) }
 
 pub row-count-spec : {M : Type 1} → statement M
 row-count-spec =

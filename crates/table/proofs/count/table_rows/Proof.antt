@@ -1,84 +1,67 @@
 -- `table::count::table_rows` meets its contract. The invariant: the sum and what the rows from p on still count make up the whole.
 use Prim.Native.Nat.{ℕ, _+_, _*_, _-_, _≤_}
-use mathlib.Core.Path.{_≡_, ap}
+use mathlib.Core.Path.{_≡_, ap, sym, subst}
+use mathlib.Core.List.{List}
+use borrow.Author.Needs.{needs}
 use native.Mathlib.Omega.{arith}
-use lib.ListN.{getD}
-use Rattle.sheet.specs.Reading.{rowAt}
-use Rattle.table.specs.inner.MarkedRows.{countRows}
-use Rattle.table.proofs.LineRows.{some-kind}
-use Rattle.table.proofs.RowCounts.{count-next, count-none}
+use Rattle.sheet.specs.declared.Shape.{Shape}
+use Rattle.table.specs.Sizes.{mostRowsEach}
+use Rattle.table.specs.inner.MarkedRows.{Says, countRows, countAll}
+use Rattle.table.proofs.RowCounts.{count-more, count-done}
 use Rattle.table.proofs.count.table_rows.Statement.{statement}
 use Rattle.table.proofs.count.table_rows.Tie as tie
 
+record Counting (words : List ℕ) (shape : Shape) (marks : List ℕ) (sum p : ℕ) : Type 0 where
+  within : p ≤ shape .rows
+  few : sum ≤ 1 + mostRowsEach * p
+  whole : (v : ℕ) → sum + countRows v words (shape .«first_row») marks p (shape .rows - p) ≡ 1 + countAll v words shape marks
+
 abbrev Inv-loop : tie.InvT-loop
-Inv-loop words first rows marks sum₀ p₀ sum p =
-    (p ≤ rows) × ((sum ≤ 1 + 9 * p) × ((v : ℕ) → sum + countRows v words first marks p (rows - p) ≡ 1 + countRows v words first marks 0 rows))
+Inv-loop words shape marks rows sum₀ p₀ sum p = Counting words shape marks sum p
 
 abbrev μ-loop : tie.MeasureT-loop
-μ-loop words first rows marks sum₀ p₀ sum p = rows - p
+μ-loop words shape marks rows sum₀ p₀ sum p = shape .rows - p
 
 loop-holds : tie.Need-loop-holds Inv-loop μ-loop
 loop-holds c =
     let x = c .before .before .args in
-    (omega arith, (omega arith, λ v. ap (λ n. 1 + countRows v (x .words .now) (x .first) (x .marks .now) 0 n) (omega arith)))
+    record {
+      within = omega arith;
+      few = omega arith;
+      whole = λ v. ap (λ n. 1 + countRows v (x .words .now) (x .shape .«first_row») (x .marks .now) 0 n) (omega arith);
+    }
 
-mul-start : tie.Need-mul-start Inv-loop μ-loop
-mul-start c = omega (arith, c .before .before .before .before .pre .0)
-
-add-start : tie.Need-add-start Inv-loop μ-loop
-add-start c = omega (arith, c .before .before .before .before .pre .0)
-
-mul-row-count : tie.Need-mul-row-count Inv-loop μ-loop
-mul-row-count c = omega (arith, c .before .before .before .before .pre .0)
+row-words-requires : tie.Need-row-words-requires Inv-loop μ-loop
+row-words-requires c κs = search needs
 
 shared-slice-read-row-count : tie.Need-shared-slice-read-row-count Inv-loop μ-loop
-shared-slice-read-row-count c = omega (arith, c .before .before .before .before .before .pre .0)
-
-shared-slice-read-row-count-2 : tie.Need-shared-slice-read-row-count-2 Inv-loop μ-loop
-shared-slice-read-row-count-2 c = omega (arith, c .before .before .before .before .before .before .pre .0)
+shared-slice-read-row-count c = omega (arith, c .before .before .before .before .before .before .pre .marked, c .before .before .loop-test .taken)
 
 row-count-requires : tie.Need-row-count-requires Inv-loop μ-loop
-unfolding rowAt
-row-count-requires c κs =
-    let x = c .before .before .before .before .before .before .args in
-    let p = c .before .before .before .loop .p in
-    let word : ℕ → ℕ = λ k. getD (x .words .now) (x .first + 4 * p + k) 0 in
-    let says = c .before .before .before .before .before .before .pre .0 .says p (c .before .before .loop-test .taken) in
-    some-kind (getD (x .words .now) (x .first + 4 * p) 0) (word 1) (word 2) (word 3) says
+row-count-requires c κs = subst Says (sym (c .before .row-words .ensures)) (c .before .before .before .before .before .before .pre .says _ (c .before .before .loop-test .taken))
 
 add-sum : tie.Need-add-sum Inv-loop μ-loop
-add-sum c = omega (arith, c .row-count .ensures .1, c .before .before .before .before .loop .inv .1 .0, c .before .before .before .before .before .before .before .pre .1)
+add-sum c = omega (arith, c .before .before .before .before .loop .inv, c .row-count .ensures .within, c .before .before .before .before .before .before .before .pre .few)
 
 add-p : tie.Need-add-p Inv-loop μ-loop
-add-p c = omega (arith, c .before .before .before .before .before .before .before .pre .0)
+add-p c = omega (arith, c .before .before .before .loop-test .taken, c .before .before .before .before .before .before .before .pre .few)
 
 loop-less : tie.Need-loop-less Inv-loop μ-loop
-loop-less c = omega (arith, c .before .before .before .before .before .before .before .pre .0)
+loop-less c = omega (arith, c .before .before .before .loop-test .taken)
 
 loop-again : tie.Need-loop-again Inv-loop μ-loop
-unfolding rowAt
 loop-again c =
-    let x = c .before .before .before .before .before .before .before .args in
-    let p = c .before .before .before .before .loop .p in
-    let word : ℕ → ℕ = λ k. getD (x .words .now) (x .first + 4 * p + k) 0 in
-    let says = c .before .before .before .before .before .before .before .pre .0 .says p (c .before .before .before .loop-test .taken) in (
-      omega (arith, c .before .before .before .loop-test .taken),
-      (
-        omega (arith, c .row-count .ensures .1, c .before .before .before .before .loop .inv .1 .0),
-        λ v.
-            omega (
-              arith,
-              c .before .before .before .before .loop .inv .1 .1 v,
-              count-next v (x .words .now) (x .first) (x .marks .now) p (x .rows) (c .before .before .before .loop-test .taken),
-              c .row-count .ensures .0 v 0 (word 1) (word 2) (word 3) says,
-            ),
-      ),
-    )
+    let turn = c .before .before .before in
+    let sofar = turn .before .loop .inv in
+    let counted = c .row-count .ensures in
+    record {
+      within = omega (arith, turn .loop-test .taken);
+      few = omega (arith, sofar .few, counted .within);
+      whole = λ v. count-more v _ _ _ _ _ _ (sofar .whole v) (turn .loop-test .taken) (c .before .before .row-words .ensures) (counted .is v);
+    }
 
 returns : tie.Need-returns Inv-loop μ-loop
-returns c =
-    let x = c .before .before .before .before .args in
-    λ v. omega (arith, c .before .loop .inv .1 .1 v, count-none v (x .words .now) (x .first) (x .marks .now) (c .before .loop .p) (x .rows) (c .loop-test .left))
+returns c = λ v. count-done v _ _ _ _ _ _ (c .before .loop .inv .whole v) (c .loop-test .left)
 
 pub table-rows-spec : {M : Type 1} → statement M
 table-rows-spec =
@@ -87,11 +70,8 @@ table-rows-spec =
     Inv-loop
     μ-loop
     loop-holds
-    mul-start
-    add-start
-    mul-row-count
+    row-words-requires
     shared-slice-read-row-count
-    shared-slice-read-row-count-2
     row-count-requires
     add-sum
     add-p

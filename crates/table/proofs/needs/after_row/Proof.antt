@@ -1,13 +1,15 @@
 -- `table::needs::after_row` meets its contract.
+use borrow.Author.Needs.{needs}
 use native.Mathlib.Omega.{arith}
 use mathlib.Core.Path.{sym}
 use Rattle.table.proofs.NeedRows.{after-before, after-held, after-beyond}
-use borrow.Author.Needs.{needs}
 use Rattle.table.proofs.needs.after_row.Statement.{statement}
 use Rattle.table.proofs.needs.after_row.Tie as tie
 
 returns : tie.Need-returns
-returns c = let x = c .before .args in λ later counted held. sym (after-before (x .q) (x .row) later (c .if1 .taken))
+returns c =
+    let x = c .before .before .args in
+    λ later counted held. sym (after-before (x .in-hand .0) (x .row .0) later (c .if1 .taken))
 
 add-result : tie.Need-add-result
 add-result c = search needs
@@ -20,15 +22,21 @@ shared-slice-read-result c = search needs
 
 returns-2 : tie.Need-returns-2
 returns-2 c =
-    let x = c .before .before .before .args in
-    λ later counted held.
-    sym (after-held (x .q) (x .row) later (c .before .before .if1 .left) (omega (arith, c .before .if2 .taken, c .before .before .if1 .left, counted)) held)
+    let x = c .before .before .before .before .args in
+    λ later counted held. sym (after-held (x .in-hand .0) (x .row .0) later (c .before .before .if1 .left) (omega (arith, c .before .if2 .taken, c .before .before .if1 .left, counted)) held)
 
 returns-3 : tie.Need-returns-3
 returns-3 c =
-    let x = c .before .before .args in
-    λ later counted held. sym (after-beyond (x .q) (x .row) later (omega (arith, c .if2 .left, c .before .if1 .left, counted)))
+    let x = c .before .before .before .args in
+    λ later counted held. sym (after-beyond (x .in-hand .0) (x .row .0) later (omega (arith, c .if2 .left, c .before .if1 .left, counted)))
 
 pub after-row-spec : {M : Type 1} → statement M
 after-row-spec =
-    tie.close (tie.spec returns add-result mul-result shared-slice-read-result returns-2 returns-3)
+    tie.close
+    (tie.spec
+    returns
+    add-result
+    mul-result
+    shared-slice-read-result
+    returns-2
+    returns-3)

@@ -1,168 +1,120 @@
 -- `table::needs::needed` meets its contract. The invariant: from row `left` on `sums` holds each row's need.
-use Prim.Native.Nat.{ℕ, _+_, _*_, _-_, _≤_, _<_}
+use Prim.Native.Nat.{ℕ, _+_, _-_, _≤_, _<_}
+use mathlib.Core.Path.{_≡_, refl, sym, subst}
+use mathlib.Core.List.{List}
 use borrow.Author.Needs.{needs}
 use native.Mathlib.Omega.{arith}
-use mathlib.Core.List.{List}
-use lib.ListN.{length, getD, length-set}
-use mathlib.Core.Path.{_≡_, refl}
-use Rattle.sheet.specs.Reading.{rowAt}
-use Rattle.table.specs.inner.Needs.{HoldsFrom, needsFrom}
-use Rattle.table.proofs.NeedRows.{needs-held-none, needs-held-more, needs-held-all}
+use lib.ListN.{length, length-set, getD}
+use Rattle.sheet.specs.Bounds.{limit}
+use Rattle.sheet.specs.declared.Shape.{Shape}
+use Rattle.table.specs.inner.MarkedRows.{Says}
+use Rattle.table.specs.inner.Needs.{HoldsFrom, needsFrom, needOver}
+use Rattle.table.specs.declared.needs.Stack.{Stack}
+use Rattle.table.proofs.NeedRows.{needs-held-none, needs-held-more, needs-held-all, need-fits}
 use Rattle.table.proofs.needs.needed.Statement.{statement}
 use Rattle.table.proofs.needs.needed.Tie as tie
 
+record Kept (stack : Stack) (words : List ℕ) (shape : Shape) (marks came goes sums : List ℕ) (left : ℕ) : Type 0 where
+  within : left ≤ shape .rows
+  places : length sums ≡ limit .rows + 1
+  held : HoldsFrom sums left (needsFrom stack words (shape .«first_row») marks came goes left (shape .rows - left))
+
 abbrev Inv-loop : tie.InvT-loop
-Inv-loop stack words first rows marks came goes sums₀ left₀ sums left =
-    (left ≤ rows) × ((rows < length sums) × ((length sums ≡ length sums₀) × HoldsFrom sums left (needsFrom stack words first marks came goes left (rows - left))))
+Inv-loop stack words shape marks came goes rows sums₀ left₀ sums left = Kept stack words shape marks came goes sums left
 
 abbrev μ-loop : tie.MeasureT-loop
-μ-loop stack words first rows marks came goes sums₀ left₀ sums left = left
+μ-loop stack words shape marks came goes rows sums₀ left₀ sums left = left
 
-mul-sums : tie.Need-mul-sums Inv-loop μ-loop
-mul-sums c = omega (arith, c .before .before .before .before .before .pre .0 .within)
+row-there : (c : tie.In-loop Inv-loop μ-loop) → c .before .loop .left - 1 < c .before .before .before .before .before .before .args .shape .rows
+row-there c = omega (arith, c .loop-test .taken, c .before .loop .inv .within)
 
-slice-write-sums : tie.Need-slice-write-sums Inv-loop μ-loop
-slice-write-sums c = omega (arith, c .before .before .before .before .before .pre .1 .needs)
+first-need : (c : tie.After-loop Inv-loop μ-loop) →
+    let x = c .before .before .before .before .before .before .args in
+    getD (c .before .loop .sums) 0 0 ≡ getD (needsFrom (x .stack) (x .words .now) (x .shape .«first_row») (x .marks .now) (x .came .now) (x .goes .now) 0 (x .shape .rows)) 0 0
+first-need c = let x = c .before .before .before .before .before .before .args in needs-held-all (x .stack) (x .words .now) (x .shape .«first_row») (x .marks .now) (x .came .now) (x .goes .now) _ _ (c .loop-test .left) (c .before .loop .inv .held)
 
 loop-holds : tie.Need-loop-holds Inv-loop μ-loop
 loop-holds c =
-    let x = c .before .before .before .before .before .args in (
-      omega arith,
-      (
-        simp length-set (c .before .before .before .before .before .pre .1 .needs),
-        (
-          refl,
-          needs-held-none (x .stack) (x .words .now) (x .first) (x .marks .now) (x .came .now) (x .goes .now) (x .sums .now) (x .rows) _ (omega arith)
-              (c .before .before .before .before .before .pre .1 .needs),
-        ),
-      ),
-    )
-
--- what a turn knows of its row, the one before `left`
-record RowThere (first rows left : ℕ) (words marks came goes sums : List ℕ) : Type 0 where
-  some : 1 ≤ left
-  below : left ≤ rows
-  row : first + 4 * left ≤ length words
-  mark : left ≤ length marks
-  split : left ≤ length came
-  end : left ≤ length goes
-  need : left < length sums
-
-row-there : (c : tie.In-loop Inv-loop μ-loop) →
-    let x = c .before .before .before .before .before .before .before .args in
-    RowThere (x .first) (x .rows) (c .before .loop .left) (x .words .now) (x .marks .now) (x .came .now) (x .goes .now) (c .before .loop .sums)
-row-there c =
-    let given = c .before .before .before .before .before .before .before .pre in
-    let held = c .before .loop .inv in
+    let start = c .before .before .before .before in
+    let x = start .args in
     record {
-      some = c .loop-test .taken;
-      below = held .0;
-      row = omega (arith, held .0, given .0 .within);
-      mark = omega (arith, held .0, given .0 .marked);
-      split = omega (arith, held .0, given .1 .splits);
-      end = omega (arith, held .0, given .1 .ends);
-      need = omega (arith, held .0, held .1 .0);
+      within = omega arith;
+      places = refl;
+      held = needs-held-none (x .stack) (x .words .now) (x .shape .«first_row») (x .marks .now) (x .came .now) (x .goes .now) (limit .rows + 1) (x .shape .rows) _ (omega arith) (omega (arith, start .pre .few));
     }
 
 sub-q : tie.Need-sub-q Inv-loop μ-loop
-sub-q c = omega (arith, row-there c)
+sub-q c = omega (arith, c .loop-test .taken)
 
-mul-start : tie.Need-mul-start Inv-loop μ-loop
-mul-start c = omega (arith, row-there c)
+row-words-requires : tie.Need-row-words-requires Inv-loop μ-loop
+row-words-requires c κs = search needs
 
-add-start : tie.Need-add-start Inv-loop μ-loop
-add-start c = omega (arith, row-there c)
-
-mul-kind : tie.Need-mul-kind Inv-loop μ-loop
-mul-kind c = omega (arith, row-there c)
-
-shared-slice-read-kind : tie.Need-shared-slice-read-kind Inv-loop μ-loop
-shared-slice-read-kind c = omega (arith, row-there (c .before))
-
-mul-split : tie.Need-mul-split Inv-loop μ-loop
-mul-split c = omega (arith, row-there (c .before))
-
-shared-slice-read-split : tie.Need-shared-slice-read-split Inv-loop μ-loop
-shared-slice-read-split c = omega (arith, row-there (c .before .before))
-
-cast-split : tie.Need-cast-split Inv-loop μ-loop
-cast-split c = omega (arith, c .shared-slice-known6 .given (c .before .before .before .loop .left - 1))
+partner-requires : tie.Need-partner-requires Inv-loop μ-loop
+partner-requires c κs = search needs
 
 block-end-requires : tie.Need-block-end-requires Inv-loop μ-loop
-block-end-requires c κs = omega (arith, row-there (c .before .before))
+block-end-requires c κs = search needs
+
+slice-aggregate-after-row : tie.Need-slice-aggregate-after-row Inv-loop μ-loop
+slice-aggregate-after-row c = sym (c .before .before .before .before .before .loop .inv .places)
 
 after-row-requires : tie.Need-after-row-requires Inv-loop μ-loop
-after-row-requires c κs = c .before .before .before .before .before .loop .inv .1 .0
+after-row-requires c κs = omega (arith, c .before .before .before .before .before .loop .inv .places, c .before .before .before .before .before .before .before .before .before .before .pre .few)
+
+slice-aggregate-after-row-2 : tie.Need-slice-aggregate-after-row-2 Inv-loop μ-loop
+slice-aggregate-after-row-2 c = sym (c .before .before .before .before .before .before .before .loop .inv .places)
 
 after-row-requires-2 : tie.Need-after-row-requires-2 Inv-loop μ-loop
-after-row-requires-2 c κs = c .before .before .before .before .before .before .before .loop .inv .1 .0
+after-row-requires-2 c κs = omega (arith, c .before .before .before .before .before .before .before .loop .inv .places, c .before .before .before .before .before .before .before .before .before .before .before .before .pre .few)
+
+slice-aggregate-after-row-3 : tie.Need-slice-aggregate-after-row-3 Inv-loop μ-loop
+slice-aggregate-after-row-3 c = sym (c .before .before .before .before .before .before .before .before .before .loop .inv .places)
 
 after-row-requires-3 : tie.Need-after-row-requires-3 Inv-loop μ-loop
-after-row-requires-3 c κs = c .before .before .before .before .before .before .before .before .before .loop .inv .1 .0
-
-add-of-row : tie.Need-add-of-row Inv-loop μ-loop
-add-of-row c = omega (arith, row-there (c .before .before .before .before .before .before .before .before .before))
-
-mul-of-row : tie.Need-mul-of-row Inv-loop μ-loop
-mul-of-row c = omega (arith, row-there (c .before .before .before .before .before .before .before .before .before))
+after-row-requires-3 c κs = omega (arith, c .before .before .before .before .before .before .before .before .before .loop .inv .places, c .before .before .before .before .before .before .before .before .before .before .before .before .before .before .pre .few)
 
 shared-slice-read-of-row : tie.Need-shared-slice-read-of-row Inv-loop μ-loop
-shared-slice-read-of-row c = omega (arith, row-there (c .before .before .before .before .before .before .before .before .before .before))
-
-shared-slice-read-of-row-2 : tie.Need-shared-slice-read-of-row-2 Inv-loop μ-loop
-shared-slice-read-of-row-2 c = omega (arith, row-there (c .before .before .before .before .before .before .before .before .before .before .before))
+shared-slice-read-of-row c = omega (arith, row-there (c .before .before .before .before .before .before .before .before .before .before), c .before .before .before .before .before .before .before .before .before .before .before .before .before .before .before .before .pre .marked)
 
 of-row-requires : tie.Need-of-row-requires Inv-loop μ-loop
-of-row-requires c κs = search needs
+of-row-requires c κs = subst Says (sym (c .before .before .before .before .before .before .before .before .before .row-words .ensures)) (c .before .before .before .before .before .before .before .before .before .before .before .before .before .before .before .before .pre .says _ (row-there (c .before .before .before .before .before .before .before .before .before .before)))
 
-mul-sums-2 : tie.Need-mul-sums-2 Inv-loop μ-loop
-mul-sums-2 c = omega (arith, row-there (c .before .before .before .before .before .before .before .before .before .before .before .before))
+mul-sums : tie.Need-mul-sums Inv-loop μ-loop
+mul-sums c = omega (arith, row-there (c .before .before .before .before .before .before .before .before .before .before .before), c .before .before .before .before .before .before .before .before .before .before .before .before .before .before .before .before .before .pre .few)
 
-slice-write-sums-2 : tie.Need-slice-write-sums-2 Inv-loop μ-loop
-slice-write-sums-2 c = omega (arith, row-there (c .before .before .before .before .before .before .before .before .before .before .before .before))
+array-write-sums : tie.Need-array-write-sums Inv-loop μ-loop
+array-write-sums c = omega (arith, row-there (c .before .before .before .before .before .before .before .before .before .before .before), c .before .before .before .before .before .before .before .before .before .before .before .before .before .before .before .before .before .pre .few)
 
 loop-less : tie.Need-loop-less Inv-loop μ-loop
-loop-less c = omega (arith, row-there (c .before .before .before .before .before .before .before .before .before .before .before .before))
+loop-less c = omega (arith, c .before .before .before .before .before .before .before .before .before .before .before .loop-test .taken)
 
 loop-again : tie.Need-loop-again Inv-loop μ-loop
-unfolding rowAt
 loop-again c =
-    let found = c .before .before .before .before .before .before .before .before .before in
+    let found = c .before .before .before .before .before .before .before .before in
     let turn = found .before .before .before in
-    let there = row-there turn in
-    let held = turn .before .loop .inv in
-    let start = turn .before .before .before .before .before .before .before in
+    let kept = turn .before .loop .inv in
+    let start = turn .before .before .before .before .before .before in
     let x = start .args in
-    let left = turn .before .loop .left in
-    let q = left - 1 in
-    let word : ℕ → ℕ = λ k. getD (x .words .now) (x .first + 4 * q + k) 0 in
-    let says = start .pre .0 .says q (omega (arith, there)) in (
-      omega (arith, there),
-      (
-        simp length-set (held .1 .0),
-        (
-          simp length-set (simp length-set at (held .1 .1 .0)),
-          needs-held-more (x .stack) (x .words .now) (x .first) (x .marks .now) (x .came .now) (x .goes .now) q left (x .rows) (found .block-end .result)
-              (omega (arith, there)) (held .0) (omega (arith, there)) (held .1 .1 .1) (c .of-row .ensures (word 1) (word 3) says) (found .block-end .ensures)
-              (c .before .before .before .before .before .before .before .after-row .ensures) (c .before .before .before .before .before .after-row2 .ensures) (c .before .before .before .after-row3 .ensures),
-        ),
-      ),
-    )
+    let there = row-there turn in
+    record {
+      within = omega (arith, there);
+      places = simp length-set (kept .places);
+      held = needs-held-more (x .stack) (x .words .now) (x .shape .«first_row») (x .marks .now) (x .came .now) (x .goes .now) (turn .before .loop .left - 1) _ _ (omega (arith, turn .loop-test .taken)) (kept .within)
+          (omega (arith, there, kept .places, start .pre .few)) (kept .held) (found .before .before .row-words .ensures) (found .before .partner .ensures)
+          (found .block-end .ensures) (c .of-row .ensures) (c .before .before .before .before .before .before .after-row .ensures) (c .before .before .before .before .after-row2 .ensures) (c .before .before .after-row3 .ensures);
+    }
 
-slice-read-result : tie.Need-slice-read-result Inv-loop μ-loop
-slice-read-result c = omega (arith, c .before .before .loop .inv .1 .0)
+array-read-result : tie.Need-array-read-result Inv-loop μ-loop
+array-read-result c = search needs
 
 cast-result : tie.Need-cast-result Inv-loop μ-loop
-cast-result c = omega (arith, c .slice-known2 .given 0)
-
-same-length : tie.Need-same-length Inv-loop μ-loop
-same-length c = simp length-set at (c .before .before .loop .inv .1 .1 .0)
+cast-result c =
+    let x = c .before .before .before .before .before .before .args in
+    record { fits = omega (arith, first-need c, need-fits (x .stack) (x .words .now) (x .shape .«first_row») (x .marks .now) (x .came .now) (x .goes .now) 0 (x .shape .rows)) }
 
 returns : tie.Need-returns Inv-loop μ-loop
-returns c =
-    let x = c .before .before .before .before .before .before .before .before .args in
-    needs-held-all (x .stack) (x .words .now) (x .first) (x .marks .now) (x .came .now) (x .goes .now) (c .before .before .loop .left) (x .rows) (c .before .loop-test .left)
-    (c .before .before .loop .inv .1 .1 .1)
+unfolding needOver
+returns c = first-need c
 
 pub needed-spec : {M : Type 1} → statement M
 needed-spec =
@@ -170,31 +122,23 @@ needed-spec =
     (tie.spec
     Inv-loop
     μ-loop
-    mul-sums
-    slice-write-sums
     loop-holds
     sub-q
-    mul-start
-    add-start
-    mul-kind
-    shared-slice-read-kind
-    mul-split
-    shared-slice-read-split
-    cast-split
+    row-words-requires
+    partner-requires
     block-end-requires
+    slice-aggregate-after-row
     after-row-requires
+    slice-aggregate-after-row-2
     after-row-requires-2
+    slice-aggregate-after-row-3
     after-row-requires-3
-    add-of-row
-    mul-of-row
     shared-slice-read-of-row
-    shared-slice-read-of-row-2
     of-row-requires
-    mul-sums-2
-    slice-write-sums-2
+    mul-sums
+    array-write-sums
     loop-less
     loop-again
-    slice-read-result
+    array-read-result
     cast-result
-    same-length
     returns)

@@ -1,12 +1,19 @@
 -- `table::needs::of_row` meets its contract, kind by kind.
 use Prim.Native.Nat.{_*_, _≤_}
 use native.Mathlib.Nat.{mul-le-mul}
+use borrow.Author.Needs.{needs}
 use native.Mathlib.Omega.{arith}
 use Rattle.table.specs.inner.Needs.{greatestWord}
 use Rattle.table.proofs.NeedRows.{assignment-need, if-need, repeat-need, closing-need}
-use borrow.Author.Needs.{needs}
 use Rattle.table.proofs.needs.of_row.Statement.{statement}
 use Rattle.table.proofs.needs.of_row.Tie as tie
+
+body-fits : (c : tie.After-struct-known4) → let x = c .before .before .before .before .before .before .before .args in x .row .a * x .next ≤ greatestWord * greatestWord
+body-fits c =
+    let start = c .before .before .before .before .before .before .before in
+    let turns : start .args .row .a ≤ greatestWord = omega (arith, c .struct-known4) in
+    let next : start .args .next ≤ greatestWord = omega (arith, start .fits) in
+    mul-le-mul turns next
 
 of-saved-requires : tie.Need-of-saved-requires
 of-saved-requires c κs = search needs
@@ -19,14 +26,9 @@ capped-requires c κs = search needs
 
 returns : tie.Need-returns
 returns c =
-    let x = c .before .before .before .args in
-    λ d b says.
-    omega (
-      arith,
-      c .capped .ensures,
-      c .before .of-saved .ensures .0,
-      assignment-need (x .stack) (x .mark) (x .next) (x .second) (x .beyond) says (omega (arith, c .before .before .if1 .taken)),
-    )
+    let x = c .before .before .before .before .args in
+    let need = assignment-need (x .stack) (x .mark) (x .next) (x .second) (x .beyond) (c .before .before .before .before .pre) (c .before .before .if1 .taken) in
+    omega (arith, c .capped .ensures, c .before .of-saved .ensures .0, need)
 
 of-branch-requires : tie.Need-of-branch-requires
 of-branch-requires c κs = search needs
@@ -45,22 +47,12 @@ capped-requires-2 c κs = search needs
 
 returns-2 : tie.Need-returns-2
 returns-2 c =
-    let x = c .before .before .before .before .before .args in
-    λ d b says.
-    omega (
-      arith,
-      c .capped2 .ensures,
-      c .before .of-branches .ensures,
-      c .before .before .of-branch .ensures .0,
-      if-need (x .stack) (x .mark) (x .next) (x .second) (x .beyond) says (c .before .before .before .if2 .taken),
-    )
+    let x = c .before .before .before .before .before .before .before .args in
+    let need = if-need (x .stack) (x .mark) (x .next) (x .second) (x .beyond) (c .before .before .before .before .before .before .before .pre) (c .before .before .before .if2 .taken) in
+    omega (arith, c .capped2 .ensures, c .before .of-branches .ensures, c .before .before .of-branch .ensures .0, need)
 
-body-fits : (c : tie.Then3) → c .before .before .before .args .turns * c .before .before .before .args .next ≤ greatestWord * greatestWord
-body-fits c =
-    let fits = c .before .before .before .fits in
-    let turns : c .before .before .before .args .turns ≤ greatestWord = omega (arith, fits .turns) in
-    let next : c .before .before .before .args .next ≤ greatestWord = omega (arith, fits .next) in
-    mul-le-mul turns next
+cast-body : tie.Need-cast-body
+cast-body c = search needs
 
 mul-body : tie.Need-mul-body
 mul-body c = record { fits = omega (arith, body-fits c) }
@@ -73,18 +65,15 @@ capped-requires-3 c κs = search needs
 
 returns-3 : tie.Need-returns-3
 returns-3 c =
-    let x = c .before .before .before .before .args in
-    λ d b says.
-    omega (arith, c .capped3 .ensures, repeat-need (x .stack) (x .mark) (x .next) (x .second) (x .beyond) says (c .before .if3 .taken))
+    let x = c .before .before .before .before .before .before .before .before .args in
+    let need = repeat-need (x .stack) (x .mark) (x .next) (x .second) (x .beyond) (c .before .before .before .before .before .before .before .before .pre) (c .before .before .if3 .taken) in
+    omega (arith, c .capped3 .ensures, need)
 
 returns-4 : tie.Need-returns-4
 returns-4 c =
-    let x = c .before .before .before .args in
-    λ d b says.
-    omega (
-      arith,
-      closing-need (x .stack) (x .mark) (x .next) (x .second) (x .beyond) says (c .before .before .if1 .left) (c .before .if2 .left) (c .if3 .left),
-    )
+    let x = c .before .before .before .before .before .before .args in
+    let need = closing-need (x .stack) (x .mark) (x .next) (x .second) (x .beyond) (c .before .before .before .before .before .before .pre) (c .before .before .before .before .if1 .left) (c .before .before .if2 .left) (c .if3 .left) in
+    omega (arith, need)
 
 pub of-row-spec : {M : Type 1} → statement M
 of-row-spec =
@@ -100,6 +89,7 @@ of-row-spec =
     add-capped-3
     capped-requires-2
     returns-2
+    cast-body
     mul-body
     add-capped-4
     capped-requires-3

@@ -1,101 +1,90 @@
 -- `table::rows::backward_row` meets its contract, kind by kind.
+use Prim.Native.Nat.{_≤_}
 use borrow.Author.Needs.{needs}
 use native.Mathlib.Omega.{arith}
-use Rattle.table.proofs.LineRows.{some-kind, assignment-backward, if-backward, else-backward, end-if-backward, repeat-backward, end-repeat-backward}
+use Rattle.table.proofs.LineRows.{says-assigns, assignment-backward, if-backward, else-backward, end-if-backward, repeat-backward, end-repeat-backward}
 use Rattle.table.proofs.rows.backward_row.Statement.{statement}
 use Rattle.table.proofs.rows.backward_row.Tie as tie
 
 assignment-back-requires : tie.Need-assignment-back-requires
 assignment-back-requires c κs =
-    let x = c .before .before .before .args in
-    let kind = some-kind (x .kind) (x .d) (x .a) (x .b) (c .before .before .before .pre .1 .0) in
-    let rows = assignment-backward (x .variables) (x .mark) (x .turns) (x .kind) (x .d) (x .a) (x .b) kind (omega (arith, c .before .if1 .taken)) in
-    (rw rows at (c .before .before .before .pre .0), (c .before .before .before .pre .1 .1, (kind, omega (arith, c .before .if1 .taken))))
+    let start = c .before .before .before .before in
+    let assigns = says-assigns (start .pre .1 .0) (c .before .if1 .taken) in
+    (rw assignment-backward at (start .pre .0), (start .pre .1 .1, assigns))
 
 same-length : tie.Need-same-length
 same-length c = search needs
 
 returns : tie.Need-returns
 returns c =
-    let x = c .before .before .before .before .before .before .args in
-    let kind = some-kind (x .kind) (x .d) (x .a) (x .b) (c .before .before .before .before .before .before .pre .1 .0) in
-    let rows = assignment-backward (x .variables) (x .mark) (x .turns) (x .kind) (x .d) (x .a) (x .b) kind (omega (arith, c .before .before .before .before .if1 .taken)) in
-    rw rows (c .before .before .assignment-back .ensures)
+    let assigns = says-assigns (c .before .before .before .before .before .before .before .pre .1 .0) (c .before .before .before .before .if1 .taken) in
+    rw assignment-backward (c .before .before .assignment-back .ensures)
 
 put-requires : tie.Need-put-requires
 put-requires c κs =
-    let x = c .before .before .before .before .args in
-    let rows = if-backward (x .variables) (x .mark) (x .turns) (x .kind) (x .d) (x .a) (x .b) (c .before .if2 .taken) in
-    rw rows at (c .before .before .before .before .pre .0)
+    let chosen = c .before .if2 .taken in
+    rw if-backward at (c .before .before .before .before .before .before .pre .0)
 
 same-length-2 : tie.Need-same-length-2
 same-length-2 c = search needs
 
 returns-2 : tie.Need-returns-2
 returns-2 c =
-    let x = c .before .before .before .before .before .before .before .args in
-    let rows = if-backward (x .variables) (x .mark) (x .turns) (x .kind) (x .d) (x .a) (x .b) (c .before .before .before .before .if2 .taken) in
-    rw rows (c .before .before .put .ensures)
+    let chosen = c .before .before .before .before .if2 .taken in
+    rw if-backward (c .before .before .put .ensures)
 
 put-requires-2 : tie.Need-put-requires-2
 put-requires-2 c κs =
-    let x = c .before .before .before .before .before .args in
-    let rows = else-backward (x .variables) (x .mark) (x .turns) (x .kind) (x .d) (x .a) (x .b) (c .before .if3 .taken) in
-    rw rows at (c .before .before .before .before .before .pre .0)
+    let chosen = c .before .if3 .taken in
+    rw else-backward at (c .before .before .before .before .before .before .before .before .pre .0)
 
 same-length-3 : tie.Need-same-length-3
 same-length-3 c = search needs
 
 returns-3 : tie.Need-returns-3
 returns-3 c =
-    let x = c .before .before .before .before .before .before .before .before .args in
-    let rows = else-backward (x .variables) (x .mark) (x .turns) (x .kind) (x .d) (x .a) (x .b) (c .before .before .before .before .if3 .taken) in
-    rw rows (c .before .before .put2 .ensures)
+    let chosen = c .before .before .before .before .if3 .taken in
+    rw else-backward (c .before .before .put2 .ensures)
 
 put-requires-3 : tie.Need-put-requires-3
 put-requires-3 c κs =
-    let x = c .before .before .before .before .before .before .args in
-    let rows = end-if-backward (x .variables) (x .mark) (x .turns) (x .kind) (x .d) (x .a) (x .b) (c .before .if4 .taken) in
-    rw rows at (c .before .before .before .before .before .before .pre .0)
+    let chosen = c .before .if4 .taken in
+    rw end-if-backward at (c .before .before .before .before .before .before .before .before .before .before .pre .0)
 
 same-length-4 : tie.Need-same-length-4
 same-length-4 c = search needs
 
 returns-4 : tie.Need-returns-4
 returns-4 c =
-    let x = c .before .before .before .before .before .before .before .before .before .args in
-    let rows = end-if-backward (x .variables) (x .mark) (x .turns) (x .kind) (x .d) (x .a) (x .b) (c .before .before .before .before .if4 .taken) in
-    rw rows (c .before .before .put3 .ensures)
+    let chosen = c .before .before .before .before .if4 .taken in
+    rw end-if-backward (c .before .before .put3 .ensures)
 
 put-requires-4 : tie.Need-put-requires-4
 put-requires-4 c κs =
-    let x = c .before .before .before .before .before .before .before .args in
-    let rows = repeat-backward (x .variables) (x .mark) (x .turns) (x .kind) (x .d) (x .a) (x .b) (c .before .if5 .taken) in
-    rw rows at (c .before .before .before .before .before .before .before .pre .0)
+    let chosen = c .before .if5 .taken in
+    rw repeat-backward at (c .before .before .before .before .before .before .before .before .before .before .before .before .pre .0)
 
 same-length-5 : tie.Need-same-length-5
 same-length-5 c = search needs
 
 returns-5 : tie.Need-returns-5
 returns-5 c =
-    let x = c .before .before .before .before .before .before .before .before .before .before .args in
-    let rows = repeat-backward (x .variables) (x .mark) (x .turns) (x .kind) (x .d) (x .a) (x .b) (c .before .before .before .before .if5 .taken) in
-    rw rows (c .before .before .put4 .ensures)
+    let chosen = c .before .before .before .before .if5 .taken in
+    rw repeat-backward (c .before .before .put4 .ensures)
 
 put-requires-5 : tie.Need-put-requires-5
 put-requires-5 c κs =
-    let x = c .before .before .before .before .before .before .before .args in
-    let rows = end-repeat-backward (x .variables) (x .mark) (x .turns) (x .kind) (x .d) (x .a) (x .b) (omega arith) in
-    rw rows at (c .before .before .before .before .before .before .before .pre .0)
+    let start = c .before .before .before .before .before .before .before .before .before .before .before .before in
+    let last : 11 ≤ start .args .row .kind = omega arith in
+    rw end-repeat-backward at (start .pre .0)
 
 same-length-6 : tie.Need-same-length-6
 same-length-6 c = search needs
 
 returns-6 : tie.Need-returns-6
 returns-6 c =
-    let x = c .before .before .before .before .before .before .before .before .before .before .args in
-    let rows = end-repeat-backward (x .variables) (x .mark) (x .turns) (x .kind) (x .d) (x .a) (x .b) (omega arith) in
-    rw rows (c .before .before .put5 .ensures)
+    let last : 11 ≤ c .before .before .before .before .before .before .before .before .before .before .before .before .before .before .before .args .row .kind = omega arith in
+    rw end-repeat-backward (c .before .before .put5 .ensures)
 
 pub backward-row-spec : {M : Type 1} → statement M
 backward-row-spec =

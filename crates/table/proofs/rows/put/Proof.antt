@@ -1,9 +1,9 @@
--- `table::rows::put` meets its contract: four stores are the row's four words.
+-- `table::rows::put` meets its contract: its stores are the row's words.
 use borrow.Author.Needs.{needs}
 use native.Mathlib.Omega.{arith}
 use lib.ListN.{length-set}
 use Rattle.table.specs.TableRows.{wordsOf}
-use Rattle.table.proofs.WritingLaws.{four-stores}
+use Rattle.table.proofs.WritingLaws.{row-stores}
 use Rattle.table.proofs.rows.put.Statement.{statement}
 use Rattle.table.proofs.rows.put.Tie as tie
 
@@ -50,7 +50,7 @@ returns : tie.Need-returns
 unfolding wordsOf
 returns c =
     let x = c .args in
-    record { words = four-stores (x .table .now) (x .place) (x .kind) (x .d) (x .a) (x .b); place-after = omega arith }
+    record { words = row-stores (x .table .now) (x .place) (x .kind) (x .d) (x .a) (x .b); place-after = omega arith }
 
 pub put-spec : {M : Type 1} → statement M
 put-spec =

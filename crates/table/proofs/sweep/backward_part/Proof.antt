@@ -1,196 +1,75 @@
--- `table::sweep::backward_part` meets its contract. The invariant: the walk stays on the rows, and what is written and what the rest of the
--- walk gives make up the whole.
+-- `table::sweep::backward_part` meets its contract. The invariant: the walk stays on the rows, and what is written and what the rest of the walk
+-- gives make up the whole.
 use Prim.Native.Nat.{_<_, _-_}
+use mathlib.Core.Path.{refl, sym, subst}
+use borrow.Author.Needs.{needs}
 use native.Mathlib.Omega.{arith}
-use mathlib.Core.Path.{refl}
-use lib.ListN.{length}
-use Rattle.sheet.specs.Reading.{rowAt}
-use Rattle.table.specs.inner.MarkedRows.{handed, backwardRows, Walks}
+use Rattle.sheet.specs.Rows.{Row}
+use Rattle.table.specs.inner.MarkedRows.{Says, Small, Handed, handed, backwardAll, backwardRows, Visited, Walks}
 use Rattle.table.proofs.WritingLaws.{Underway, underway-start, underway-room, underway-next, underway-end, underway-length, room-first}
 use Rattle.table.proofs.BackwardOver.{backward-next, backward-none, visit-now, walk-on}
 use Rattle.table.proofs.sweep.backward_part.Statement.{statement}
 use Rattle.table.proofs.sweep.backward_part.Tie as tie
 
 abbrev Inv-loop : tie.InvT-loop
-Inv-loop words first rows marks came goes variables table₀ place next₀ end₀ left₀ table next end left =
-    let given = handed words first rows marks came goes variables in
-    Walks given left end × Underway table₀ place (backwardRows given rows rows) (backwardRows given left end) table next
+Inv-loop words shape marks came goes table₀ place variables next₀ end₀ left₀ table next end left =
+    let given = handed words shape marks came goes in
+    Walks given left end × Underway table₀ place (backwardAll given) (backwardRows given left end) table next
 
 abbrev μ-loop : tie.MeasureT-loop
-μ-loop words first rows marks came goes variables table₀ place next₀ end₀ left₀ table next end left = left
+μ-loop words shape marks came goes table₀ place variables next₀ end₀ left₀ table next end left = left
+
+abbrev handedTo : tie.In-loop Inv-loop μ-loop → Handed
+handedTo c =
+    let x = c .before .before .before .before .before .before .before .before .args in
+    handed (x .words .now) (x .shape) (x .marks .now) (x .came .now) (x .goes .now)
+
+visit : (c : tie.In-loop Inv-loop μ-loop) → Visited (handedTo c) (c .before .loop .end)
+visit c = visit-now (handedTo c) _ _ (c .loop-test .taken) (c .before .loop .inv .0)
+
+cast-variables : tie.Need-cast-variables Inv-loop μ-loop
+cast-variables c = record { fits = omega (arith, c .before .before .before .before .before .before .pre .1 .1 .few) }
 
 loop-holds : tie.Need-loop-holds Inv-loop μ-loop
-loop-holds c =
-    (c .before .before .before .before .before .pre .1 .1 .walks, underway-start _ _ refl)
+loop-holds c = (c .before .before .before .before .before .before .pre .1 .1 .walks, underway-start _ _ refl)
 
 sub-q : tie.Need-sub-q Inv-loop μ-loop
-sub-q c =
-    let x = c .before .before .before .before .before .before .before .args in
-    let given = handed (x .words .now) (x .first) (x .rows) (x .marks .now) (x .came .now) (x .goes .now) (x .variables) in
-    let l = c .before .loop in
-    let visit = visit-now given (l .left) (l .end) (c .loop-test .taken) (l .inv .0) in
-    omega (arith, visit .some, visit .within, c .before .before .before .before .before .before .before .pre .1 .0)
+sub-q c = omega (arith, visit c)
 
-mul-start : tie.Need-mul-start Inv-loop μ-loop
-mul-start c =
-    let x = c .before .before .before .before .before .before .before .args in
-    let given = handed (x .words .now) (x .first) (x .rows) (x .marks .now) (x .came .now) (x .goes .now) (x .variables) in
-    let l = c .before .loop in
-    let visit = visit-now given (l .left) (l .end) (c .loop-test .taken) (l .inv .0) in
-    omega (arith, visit .some, visit .within, c .before .before .before .before .before .before .before .pre .1 .0)
-
-add-start : tie.Need-add-start Inv-loop μ-loop
-add-start c =
-    let x = c .before .before .before .before .before .before .before .args in
-    let given = handed (x .words .now) (x .first) (x .rows) (x .marks .now) (x .came .now) (x .goes .now) (x .variables) in
-    let l = c .before .loop in
-    let visit = visit-now given (l .left) (l .end) (c .loop-test .taken) (l .inv .0) in
-    omega (arith, visit .some, visit .within, c .before .before .before .before .before .before .before .pre .1 .0)
-
-mul-kind : tie.Need-mul-kind Inv-loop μ-loop
-mul-kind c =
-    let x = c .before .before .before .before .before .before .before .args in
-    let given = handed (x .words .now) (x .first) (x .rows) (x .marks .now) (x .came .now) (x .goes .now) (x .variables) in
-    let l = c .before .loop in
-    let visit = visit-now given (l .left) (l .end) (c .loop-test .taken) (l .inv .0) in
-    omega (arith, visit .some, visit .within, c .before .before .before .before .before .before .before .pre .1 .0)
-
-shared-slice-read-kind : tie.Need-shared-slice-read-kind Inv-loop μ-loop
-shared-slice-read-kind c =
-    let x = c .before .before .before .before .before .before .before .before .args in
-    let given = handed (x .words .now) (x .first) (x .rows) (x .marks .now) (x .came .now) (x .goes .now) (x .variables) in
-    let l = c .before .before .loop in
-    let visit = visit-now given (l .left) (l .end) (c .before .loop-test .taken) (l .inv .0) in
-    omega (arith, visit .some, visit .within, c .before .before .before .before .before .before .before .before .pre .1 .0)
+row-words-requires : tie.Need-row-words-requires Inv-loop μ-loop
+row-words-requires c κs = search needs
 
 turns-back-requires : tie.Need-turns-back-requires Inv-loop μ-loop
-unfolding rowAt
-turns-back-requires c κs =
-    let x = c .before .before .before .before .before .before .before .before .args in
-    let given = handed (x .words .now) (x .first) (x .rows) (x .marks .now) (x .came .now) (x .goes .now) (x .variables) in
-    let l = c .before .before .loop in
-    let visit = visit-now given (l .left) (l .end) (c .before .loop-test .taken) (l .inv .0) in
-    (omega (arith, visit .some, visit .within, c .before .before .before .before .before .before .before .before .pre .1 .1 .ends), λ end-repeat. omega (arith, visit .loop end-repeat, c .before .before .before .before .before .before .before .before .pre .1 .0 .within))
-
-add-backward-row : tie.Need-add-backward-row Inv-loop μ-loop
-add-backward-row c =
-    let x = c .before .before .before .before .before .before .before .before .before .before .args in
-    let given = handed (x .words .now) (x .first) (x .rows) (x .marks .now) (x .came .now) (x .goes .now) (x .variables) in
-    let l = c .before .before .before .before .loop in
-    let visit = visit-now given (l .left) (l .end) (c .before .before .before .loop-test .taken) (l .inv .0) in
-    omega (arith, visit .some, visit .within, c .before .before .before .before .before .before .before .before .before .before .pre .1 .0)
-
-mul-backward-row : tie.Need-mul-backward-row Inv-loop μ-loop
-mul-backward-row c =
-    let x = c .before .before .before .before .before .before .before .before .before .before .args in
-    let given = handed (x .words .now) (x .first) (x .rows) (x .marks .now) (x .came .now) (x .goes .now) (x .variables) in
-    let l = c .before .before .before .before .loop in
-    let visit = visit-now given (l .left) (l .end) (c .before .before .before .loop-test .taken) (l .inv .0) in
-    omega (arith, visit .some, visit .within, c .before .before .before .before .before .before .before .before .before .before .pre .1 .0)
+turns-back-requires c κs = search needs
 
 shared-slice-read-backward-row : tie.Need-shared-slice-read-backward-row Inv-loop μ-loop
-shared-slice-read-backward-row c =
-    let x = c .before .before .before .before .before .before .before .before .before .before .before .args in
-    let given = handed (x .words .now) (x .first) (x .rows) (x .marks .now) (x .came .now) (x .goes .now) (x .variables) in
-    let l = c .before .before .before .before .before .loop in
-    let visit = visit-now given (l .left) (l .end) (c .before .before .before .before .loop-test .taken) (l .inv .0) in
-    omega (arith, visit .some, visit .within, c .before .before .before .before .before .before .before .before .before .before .before .pre .1 .0)
-
-add-backward-row-2 : tie.Need-add-backward-row-2 Inv-loop μ-loop
-add-backward-row-2 c =
-    let x = c .before .before .before .before .before .before .before .before .before .before .before .args in
-    let given = handed (x .words .now) (x .first) (x .rows) (x .marks .now) (x .came .now) (x .goes .now) (x .variables) in
-    let l = c .before .before .before .before .before .loop in
-    let visit = visit-now given (l .left) (l .end) (c .before .before .before .before .loop-test .taken) (l .inv .0) in
-    omega (arith, visit .some, visit .within, c .before .before .before .before .before .before .before .before .before .before .before .pre .1 .0)
-
-mul-backward-row-2 : tie.Need-mul-backward-row-2 Inv-loop μ-loop
-mul-backward-row-2 c =
-    let x = c .before .before .before .before .before .before .before .before .before .before .before .args in
-    let given = handed (x .words .now) (x .first) (x .rows) (x .marks .now) (x .came .now) (x .goes .now) (x .variables) in
-    let l = c .before .before .before .before .before .loop in
-    let visit = visit-now given (l .left) (l .end) (c .before .before .before .before .loop-test .taken) (l .inv .0) in
-    omega (arith, visit .some, visit .within, c .before .before .before .before .before .before .before .before .before .before .before .pre .1 .0)
-
-shared-slice-read-backward-row-2 : tie.Need-shared-slice-read-backward-row-2 Inv-loop μ-loop
-shared-slice-read-backward-row-2 c =
-    let x = c .before .before .before .before .before .before .before .before .before .before .before .before .args in
-    let given = handed (x .words .now) (x .first) (x .rows) (x .marks .now) (x .came .now) (x .goes .now) (x .variables) in
-    let l = c .before .before .before .before .before .before .loop in
-    let visit = visit-now given (l .left) (l .end) (c .before .before .before .before .before .loop-test .taken) (l .inv .0) in
-    omega (arith, visit .some, visit .within, c .before .before .before .before .before .before .before .before .before .before .before .before .pre .1 .0)
-
-add-backward-row-3 : tie.Need-add-backward-row-3 Inv-loop μ-loop
-add-backward-row-3 c =
-    let x = c .before .before .before .before .before .before .before .before .before .before .before .before .args in
-    let given = handed (x .words .now) (x .first) (x .rows) (x .marks .now) (x .came .now) (x .goes .now) (x .variables) in
-    let l = c .before .before .before .before .before .before .loop in
-    let visit = visit-now given (l .left) (l .end) (c .before .before .before .before .before .loop-test .taken) (l .inv .0) in
-    omega (arith, visit .some, visit .within, c .before .before .before .before .before .before .before .before .before .before .before .before .pre .1 .0)
-
-mul-backward-row-3 : tie.Need-mul-backward-row-3 Inv-loop μ-loop
-mul-backward-row-3 c =
-    let x = c .before .before .before .before .before .before .before .before .before .before .before .before .args in
-    let given = handed (x .words .now) (x .first) (x .rows) (x .marks .now) (x .came .now) (x .goes .now) (x .variables) in
-    let l = c .before .before .before .before .before .before .loop in
-    let visit = visit-now given (l .left) (l .end) (c .before .before .before .before .before .loop-test .taken) (l .inv .0) in
-    omega (arith, visit .some, visit .within, c .before .before .before .before .before .before .before .before .before .before .before .before .pre .1 .0)
-
-shared-slice-read-backward-row-3 : tie.Need-shared-slice-read-backward-row-3 Inv-loop μ-loop
-shared-slice-read-backward-row-3 c =
-    let x = c .before .before .before .before .before .before .before .before .before .before .before .before .before .args in
-    let given = handed (x .words .now) (x .first) (x .rows) (x .marks .now) (x .came .now) (x .goes .now) (x .variables) in
-    let l = c .before .before .before .before .before .before .before .loop in
-    let visit = visit-now given (l .left) (l .end) (c .before .before .before .before .before .before .loop-test .taken) (l .inv .0) in
-    omega (arith, visit .some, visit .within, c .before .before .before .before .before .before .before .before .before .before .before .before .before .pre .1 .0)
-
-shared-slice-read-backward-row-4 : tie.Need-shared-slice-read-backward-row-4 Inv-loop μ-loop
-shared-slice-read-backward-row-4 c =
-    let x = c .before .before .before .before .before .before .before .before .before .before .before .before .before .before .args in
-    let given = handed (x .words .now) (x .first) (x .rows) (x .marks .now) (x .came .now) (x .goes .now) (x .variables) in
-    let l = c .before .before .before .before .before .before .before .before .loop in
-    let visit = visit-now given (l .left) (l .end) (c .before .before .before .before .before .before .before .loop-test .taken) (l .inv .0) in
-    omega (arith, visit .some, visit .within, c .before .before .before .before .before .before .before .before .before .before .before .before .before .before .pre .1 .0)
+shared-slice-read-backward-row c = omega (arith, visit (c .before .before .before .before), c .before .before .before .before .before .before .before .before .before .before .before .before .pre .1 .0 .marked)
 
 backward-row-requires : tie.Need-backward-row-requires Inv-loop μ-loop
-unfolding rowAt
 backward-row-requires c κs =
-    let x = c .before .before .before .before .before .before .before .before .before .before .before .before .before .before .args in
-    let given = handed (x .words .now) (x .first) (x .rows) (x .marks .now) (x .came .now) (x .goes .now) (x .variables) in
-    let l = c .before .before .before .before .before .before .before .before .loop in
-    let visit = visit-now given (l .left) (l .end) (c .before .before .before .before .before .before .before .loop-test .taken) (l .inv .0) in
-    let left = backward-next given (l .left) (l .end) (c .before .before .before .before .before .before .before .loop-test .taken) in
-    let below : l .end - 1 < x .rows = omega (arith, visit .some, visit .within) in
-    rw (c .before .before .before .before .before .turns-back .ensures)
-    (room-first _ _ (rw left at (underway-room (l .inv .1) (c .before .before .before .before .before .before .before .before .before .before .before .before .before .before .pre .0))), (c .before .before .before .before .before .before .before .before .before .before .before .before .before .before .pre .1 .0 .says (l .end - 1) below, c .before .before .before .before .before .before .before .before .before .before .before .before .before .before .pre .1 .1 .small (l .end - 1) below))
+    let turn = c .before .before .before .before in
+    let given = turn .before .before .before .before .before .before .before .before .pre in
+    let left = backward-next (handedTo turn) _ _ (turn .loop-test .taken) (c .before .before .before .row-words .ensures) (c .before .before .turns-back .ensures) refl in
+    let there : turn .before .loop .end - 1 < handedTo turn .rows = omega (arith, visit turn) in (
+      room-first _ _ (rw left at (underway-room (turn .before .loop .inv .1) (given .0))),
+      subst (λ r. Says r × Small (handedTo turn .variables) r) (sym (c .before .before .before .row-words .ensures)) (given .1 .0 .says _ there, given .1 .1 .small _ there),
+    )
 
 step-back-requires : tie.Need-step-back-requires Inv-loop μ-loop
-unfolding rowAt
-step-back-requires c κs =
-    let x = c .before .before .before .before .before .before .before .before .before .before .before .before .before .before .before .before .before .args in
-    let given = handed (x .words .now) (x .first) (x .rows) (x .marks .now) (x .came .now) (x .goes .now) (x .variables) in
-    let l = c .before .before .before .before .before .before .before .before .before .before .before .loop in
-    let visit = visit-now given (l .left) (l .end) (c .before .before .before .before .before .before .before .before .before .before .loop-test .taken) (l .inv .0) in
-    let splits : l .end - 1 < length (x .came .now) = omega (arith, visit .some, visit .within, c .before .before .before .before .before .before .before .before .before .before .before .before .before .before .before .before .before .pre .1 .1 .splits) in
-    let ends : l .end - 1 < length (x .goes .now) = omega (arith, visit .some, visit .within, c .before .before .before .before .before .before .before .before .before .before .before .before .before .before .before .before .before .pre .1 .1 .ends) in
-    ((splits, ends), λ if-row. omega (arith, visit .branch if-row, c .before .before .before .before .before .before .before .before .before .before .before .before .before .before .before .before .before .pre .1 .1 .ends))
+step-back-requires c κs = search needs
 
 sub-left : tie.Need-sub-left Inv-loop μ-loop
-sub-left c = omega arith
+sub-left c = omega (arith, c .before .before .before .before .before .before .before .before .loop-test .taken)
 
 loop-less : tie.Need-loop-less Inv-loop μ-loop
-loop-less c = omega arith
+loop-less c = omega (arith, c .before .before .before .before .before .before .before .before .loop-test .taken)
 
 loop-again : tie.Need-loop-again Inv-loop μ-loop
-unfolding rowAt
 loop-again c =
-    let x = c .before .before .before .before .before .before .before .before .before .before .before .before .before .before .before .before .before .before .args in
-    let given = handed (x .words .now) (x .first) (x .rows) (x .marks .now) (x .came .now) (x .goes .now) (x .variables) in
-    let l = c .before .before .before .before .before .before .before .before .before .before .before .before .loop in
-    let left = backward-next given (l .left) (l .end) (c .before .before .before .before .before .before .before .before .before .before .before .loop-test .taken) in
-    rw (c .step-back .ensures) (
-      walk-on given (l .left) (l .end) (c .before .before .before .before .before .before .before .before .before .before .before .loop-test .taken) (l .inv .0),
-      underway-next _ (l .inv .1) left (rw (c .before .before .before .before .before .before .before .before .before .turns-back .ensures) at (c .before .before .before .backward-row .ensures)),
+    let turn = c .before .before .before .before .before .before .before .before in
+    let left = backward-next (handedTo turn) _ _ (turn .loop-test .taken) (c .before .before .before .before .before .before .before .row-words .ensures) (c .before .before .before .before .before .before .turns-back .ensures) (c .step-back .ensures) in (
+      walk-on (handedTo turn) _ _ (turn .loop-test .taken) (c .before .before .before .before .before .before .before .row-words .ensures) (c .step-back .ensures) (turn .before .loop .inv .0),
+      underway-next _ (turn .before .loop .inv .1) left (c .before .before .before .backward-row .ensures),
     )
 
 same-length : tie.Need-same-length Inv-loop μ-loop
@@ -198,10 +77,9 @@ same-length c = underway-length (c .before .loop .inv .1)
 
 returns : tie.Need-returns Inv-loop μ-loop
 returns c =
-    let x = c .before .before .before .before .before .before .before .args in
-    let given = handed (x .words .now) (x .first) (x .rows) (x .marks .now) (x .came .now) (x .goes .now) (x .variables) in
-    let l = c .before .loop in
-    underway-end (l .inv .1) (backward-none given (l .left) (l .end) (c .loop-test .left))
+    let x = c .before .before .before .before .before .before .before .before .args in
+    let given = handed (x .words .now) (x .shape) (x .marks .now) (x .came .now) (x .goes .now) in
+    underway-end (c .before .loop .inv .1) (backward-none given _ _ (c .loop-test .left))
 
 pub backward-part-spec : {M : Type 1} → statement M
 backward-part-spec =
@@ -209,23 +87,12 @@ backward-part-spec =
     (tie.spec
     Inv-loop
     μ-loop
+    cast-variables
     loop-holds
     sub-q
-    mul-start
-    add-start
-    mul-kind
-    shared-slice-read-kind
+    row-words-requires
     turns-back-requires
-    add-backward-row
-    mul-backward-row
     shared-slice-read-backward-row
-    add-backward-row-2
-    mul-backward-row-2
-    shared-slice-read-backward-row-2
-    add-backward-row-3
-    mul-backward-row-3
-    shared-slice-read-backward-row-3
-    shared-slice-read-backward-row-4
     backward-row-requires
     step-back-requires
     sub-left

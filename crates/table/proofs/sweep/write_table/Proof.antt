@@ -1,12 +1,14 @@
 -- `table::sweep::write_table` meets its contract: the parts one after another.
 use borrow.Author.Needs.{needs}
 use mathlib.Core.Path.{_∙_}
-use native.Mathlib.Omega.{arith}
-use lib.ListN.{set, length-set}
-use Rattle.table.specs.inner.MarkedRows.{Room, handed, wholeRows}
-use Rattle.table.proofs.WritingLaws.{wrote-length, wrote-then, room-first, room-after}
+use lib.ListN.{length-set}
+use Rattle.table.specs.inner.MarkedRows.{wholeRows}
+use Rattle.table.proofs.WritingLaws.{wrote-length, wrote-then, room-first, room-after, room-kept}
 use Rattle.table.proofs.sweep.write_table.Statement.{statement}
 use Rattle.table.proofs.sweep.write_table.Tie as tie
+
+cast-table : tie.Need-cast-table
+cast-table c = search needs
 
 slice-write-table : tie.Need-slice-write-table
 slice-write-table c = search needs
@@ -14,44 +16,45 @@ slice-write-table c = search needs
 forward-part-requires : tie.Need-forward-part-requires
 unfolding wholeRows
 forward-part-requires c κs =
-    let x = c .before .before .before .before .before .before .args in
-    let given = handed (x .words .now) (x .first) (x .rows) (x .marks .now) (x .came .now) (x .goes .now) (x .variables) in
-    let room : Room (set (x .table .now) 0 (x .count)) 1 (wholeRows given) =
-    record { fits = omega (arith, c .before .before .before .before .before .before .pre .0 .fits, length-set (x .table .now) 0 (x .count)) } in
-    (room-first _ _ room, c .before .before .before .before .before .before .pre .1 .0)
+    let start = c .before .before .before .before .before .before .before .before in
+    (room-first _ _ (room-kept 0 _ (start .pre .0)), start .pre .1 .0)
 
 put-requires : tie.Need-put-requires
 unfolding wholeRows
 put-requires c κs =
-    let x = c .before .before .before .before .before .before .before .before .before .before .args in
-    let given = handed (x .words .now) (x .first) (x .rows) (x .marks .now) (x .came .now) (x .goes .now) (x .variables) in
-    let room : Room (set (x .table .now) 0 (x .count)) 1 (wholeRows given) =
-    record { fits = omega (arith, c .before .before .before .before .before .before .before .before .before .before .pre .0 .fits, length-set (x .table .now) 0 (x .count)) } in
-    room-first _ _ (room-after _ (c .before .before .before .forward-part .ensures) room)
+    let start = c .before .before .before .before .before .before .before .before .before .before .before .before in
+    room-first _ _ (room-after _ (c .before .before .before .forward-part .ensures) (room-kept 0 _ (start .pre .0)))
 
 backward-part-requires : tie.Need-backward-part-requires
 unfolding wholeRows
 backward-part-requires c κs =
-    let x = c .before .before .before .before .before .before .before .before .before .before .before .before .before .before .args in
-    let given = handed (x .words .now) (x .first) (x .rows) (x .marks .now) (x .came .now) (x .goes .now) (x .variables) in
-    let room : Room (set (x .table .now) 0 (x .count)) 1 (wholeRows given) =
-    record { fits = omega (arith, c .before .before .before .before .before .before .before .before .before .before .before .before .before .before .pre .0 .fits, length-set (x .table .now) 0 (x .count)) } in
-    (room-after _ (c .before .before .before .put .ensures) (room-after _ (c .before .before .before .before .before .before .before .forward-part .ensures) room), (c .before .before .before .before .before .before .before .before .before .before .before .before .before .before .pre .1 .0, c .before .before .before .before .before .before .before .before .before .before .before .before .before .before .pre .1 .1))
+    let turned = c .before .before .before in
+    let forward = turned .before .before .before .before in
+    let start = forward .before .before .before .before .before .before .before .before .before in (
+      room-after _ (turned .put .ensures) (room-after _ (forward .forward-part .ensures) (room-kept 0 _ (start .pre .0))),
+      (start .pre .1 .0, start .pre .1 .1 .0),
+    )
 
 same-length : tie.Need-same-length
 same-length c =
-    let x = c .before .before .before .before .before .before .before .before .before .before .before .before .before .before .before .before .before .args in
-    wrote-length (c .before .before .backward-part .ensures) ∙ wrote-length (c .before .before .before .before .before .before .put .ensures) ∙ wrote-length (c .before .before .before .before .before .before .before .before .before .before .forward-part .ensures)
-    ∙ length-set (x .table .now) 0 (x .count)
+    let back = c .before .before in
+    let turned = back .before .before .before .before in
+    let forward = turned .before .before .before .before in
+    wrote-length (back .backward-part .ensures) ∙ wrote-length (turned .put .ensures) ∙ wrote-length (forward .forward-part .ensures) ∙ simp length-set
 
 returns : tie.Need-returns
 unfolding wholeRows
-returns c = wrote-then (c .before .before .before .before .before .before .before .before .before .before .forward-part .ensures) (wrote-then (c .before .before .before .before .before .before .put .ensures) (c .before .before .backward-part .ensures))
+returns c =
+    let back = c .before .before in
+    let turned = back .before .before .before .before in
+    let forward = turned .before .before .before .before in
+    wrote-then (forward .forward-part .ensures) (wrote-then (turned .put .ensures) (back .backward-part .ensures))
 
 pub write-table-spec : {M : Type 1} → statement M
 write-table-spec =
     tie.close
     (tie.spec
+    cast-table
     slice-write-table
     forward-part-requires
     put-requires

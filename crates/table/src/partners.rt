@@ -1,0 +1,21 @@
+// A block's rows, found by the partners that are noted for them.
+ghost use mathlib.Core.Path.{_≡_};
+ghost use lib.ListN.{getD};
+ghost use Rattle.table.specs.inner.MarkedRows.{ifEnd};
+use sheet::RowNumber;
+
+// A row's partner; row 0 where none is noted.
+pub fn partner(noted: &[u16], row: RowNumber) -> RowNumber
+    ensures { λ r. ⌜ r .0 ≡ getD (now (noted .entry)) (row .0) 0 ⌝ }
+{
+    let word = sheet::word_at(noted, row.0);
+    RowNumber(word as usize)
+}
+
+// The last row of the if block that a row opens: the partner of its "else".
+pub fn if_end(goes: &[u16], row: RowNumber) -> RowNumber
+    ensures { λ r. ⌜ r .0 ≡ ifEnd (now (goes .entry)) (row .0) ⌝ }
+{
+    let split = partner(goes, row);
+    partner(goes, split)
+}
