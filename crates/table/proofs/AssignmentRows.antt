@@ -2,14 +2,14 @@
 use Prim.Native.Nat.{ℕ, _+_, _*_, _≤_}
 use mathlib.Core.Path.{_≡_, refl, ap, _∙_}
 use mathlib.Core.Bool.{Bool, true, false}
-use mathlib.Core.List.{List, [], _∷_, _++_}
+use mathlib.Core.List.{List, [], _∷_, _++_, append-assoc}
 use native.Mathlib.Decide.{ℕ-discrete}
 use native.Mathlib.Omega.{arith}
 use Rattle.sheet.specs.Tree.{flat, done, RowNumber}
 use Rattle.sheet.specs.Rows.{Row, kindOf, rowOf, rowOfAssignment, lineOfRow}
 use Rattle.table.specs.TableRows.{Table, Action, Operation, linesOf, tableRowOf, rowOfAction}
 use Rattle.table.specs.Adjoint.{put, putIf, partsOf, derivativeRows, backwardOf}
-use Rattle.table.specs.inner.MarkedRows.{row4, rowIf, rowsIn, anyRow, knownBy, sourceOf, partRows, derivativesOf, assignmentBack, bitOf}
+use Rattle.table.specs.inner.MarkedRows.{row4, rowIf, rowsIn, anyRow, knownBy, sourceOf, scaledRows, partRows, derivativesOf, assignmentBack, bitOf}
 
 pub rows-of-put : (row : RowNumber) (operation : Operation) (action : Action) (rest : Table)
     → rowsIn (put row operation action rest) ≡ rowOfAction action ∷ rowsIn rest
@@ -24,6 +24,9 @@ rows-of-put-if false row operation action rest = refl
 pub rows-of-done : rowsIn done ≡ []
 unfolding rowsIn linesOf tableRowOf flat
 rows-of-done = refl
+
+pub none-before : (after : List Row) → rowsIn done ++ after ≡ after
+none-before after = rw rows-of-done
 
 -- the last row of some
 pub last-if : (test : Bool) (row : RowNumber) (operation : Operation) (action : Action)
@@ -52,10 +55,10 @@ module _ (v : ℕ) (r : Row) (mark : ℕ) where
 
     module _ {second : Bool} (varied-b : second ≡ bitOf mark 2) where
       -- a sum and a difference add into ā, and into b̄ do as they do themselves
-      pub two-rows : 3 ≤ r .kind → r .kind ≤ 4
+      pub two-rows : (3 ≤ r .kind) × (r .kind ≤ 4)
           → partRows v r mark ≡ rowIf first (row4 3 (v + r .a) (v + r .a) (2 * v)) ++ rowIf second (row4 (r .kind) (v + r .b) (v + r .b) (2 * v))
       unfolding partRows sourceOf lineOfRow kindOf partsOf rowOfAction rowOfAssignment
-      two-rows h g = by (ℕ-discrete (r .kind) 3)
+      two-rows h = by (ℕ-discrete (r .kind) 3)
         where
           by : Dec (r .kind ≡ 3)
               → partRows v r mark ≡ rowIf first (row4 3 (v + r .a) (v + r .a) (2 * v)) ++ rowIf second (row4 (r .kind) (v + r .b) (v + r .b) (2 * v))
@@ -64,20 +67,11 @@ module _ (v : ℕ) (r : Row) (mark : ℕ) where
               let e : r .kind ≡ 4 = omega arith in
               rw (varied-a, varied-b, kind-is r 4 e, rows-of-put-if (bitOf mark 1), last-if (bitOf mark 2))
 
-      pub product-rows : r .kind ≡ 5 → partRows v r mark
-          ≡ rowIf first (row4 5 (2 * v + 1) (r .b) (2 * v)) ++ (rowIf first (row4 3 (v + r .a) (v + r .a) (2 * v + 1))
-          ++ (rowIf second (row4 5 (2 * v + 1) (r .a) (2 * v)) ++ rowIf second (row4 3 (v + r .b) (v + r .b) (2 * v + 1))))
+      pub product-rows : r .kind ≡ 5 → partRows v r mark ≡ scaledRows v first (r .b) (r .a) ++ scaledRows v second (r .a) (r .b)
       unfolding partRows sourceOf lineOfRow kindOf partsOf rowOfAction rowOfAssignment
       product-rows e =
-          rw (
-            varied-a,
-            varied-b,
-            kind-is r 5 e,
-            rows-of-put-if (bitOf mark 1),
-            rows-of-put-if (bitOf mark 1),
-            rows-of-put-if (bitOf mark 2),
-            last-if (bitOf mark 2),
-          )
+          rw (varied-a, varied-b, kind-is r 5 e, rows-of-put-if (bitOf mark 1), rows-of-put-if (bitOf mark 1), rows-of-put-if (bitOf mark 2))
+          (rw (last-if (bitOf mark 2)) (simp append-assoc))
 
 -- ---- what stands around them
 

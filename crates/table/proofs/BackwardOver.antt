@@ -7,17 +7,19 @@ use native.Mathlib.Omega.{arith}
 use Rattle.sheet.specs.Rows.{Row, lineOfRow}
 use Rattle.table.specs.inner.MarkedRows.{Handed, rowOfNumber, backwardOfLine, stepBack, turnsBack, backwardAt, wayBack, backwardRows, Visited, Walks}
 
-turn : (given : Handed) (n end : ℕ) → backwardRows given (suc n) end ≡ backwardAt given (end - 1) ++ backwardRows given n (wayBack given (end - 1))
+pub backward-turn : (given : Handed) (n end : ℕ)
+    → backwardRows given (suc n) end ≡ backwardAt given (end - 1) ++ backwardRows given n (wayBack given (end - 1))
 unfolding backwardRows
-turn given n end = refl
+backward-turn given n end = refl
 
 -- one turn of the walk, by the row that was read there
 pub backward-next : (given : Handed) (left end : ℕ) {r : Row} {turns next : ℕ} → 0 < left → r ≡ rowOfNumber given (end - 1)
-    → turns ≡ turnsBack (given .words) (given .first) (given .goes) (end - 1) (r .kind) → next ≡ stepBack (given .came) (given .goes) (end - 1) (r .kind)
+    → turns ≡ turnsBack (given .words) (given .first) (given .goes) (end - 1) (r .kind)
+    → next ≡ stepBack (given .came) (given .goes) (end - 1) (r .kind)
     → backwardRows given left end
     ≡ backwardOfLine (given .variables) (getD (given .marks) (end - 1) 0) turns (lineOfRow r) ++ backwardRows given (left - 1) next
 backward-next given zero end h is turns-are goes = absurd (omega arith)
-backward-next given (suc n) end h is turns-are goes = let less : suc n - 1 ≡ n = omega arith in rw (less, turns-are, goes, is) (turn given n end)
+backward-next given (suc n) end h is turns-are goes = let less : suc n - 1 ≡ n = omega arith in rw (less, turns-are, goes, is) (backward-turn given n end)
 
 pub backward-none : (given : Handed) (left end : ℕ) → left ≤ 0 → backwardRows given left end ≡ []
 unfolding backwardRows

@@ -13,7 +13,8 @@ use Rattle.sets.specs.Marks.{Marked, numbered}
 use Rattle.table.specs.TableRows.{Table, tableRowOf, rowOfAction, rowOfTableTest, onTurn, assign, clear, takeBack, t, u, adjointOf}
 use Rattle.table.specs.Adjoint.{addInto, subtractFrom, scaled, partsOf, derivativeRows, backwardOf, backwardPart}
 use Rattle.table.specs.inner.MarkedRows.{row4, rowIf, rowsIn, backwardOfLine, stepBack, turnsBack, Handed, rowOfNumber, backwardAt, wayBack, backwardRows, MarkSays, Noted, anyRow, knownBy, savedBy}
-use Rattle.table.proofs.AssignmentRows.{rows-of-put, rows-of-put-if, rows-of-done}
+use Rattle.table.proofs.AssignmentRows.{rows-of-put, rows-of-put-if, rows-of-done, none-before}
+use Rattle.table.proofs.BackwardOver.{backward-turn}
 use Rattle.sheet.proofs.RowsBack.{line-back}
 use Rattle.table.proofs.TreeRows.{StandsAt, tree-stands, stands-after, fork-before, again-before}
 
@@ -89,34 +90,28 @@ pub step-if : (came goes : List ℕ) (q : ℕ) (f : Test) → stepBack came goes
 unfolding stepBack sheetRowOf rowOf rowOfTest
 step-if came goes q (less a b) = refl
 
-none-before : (after : List Row) → rowsIn done ++ after ≡ after
-none-before after = rw rows-of-done
-
 module _ (given : Handed) (mark : ℕ → Assignment → Marked) where
-  backward-turn : (n e : ℕ) → backwardRows given (suc n) e ≡ backwardAt given (e - 1) ++ backwardRows given n (wayBack given (e - 1))
-  unfolding backwardRows
-  backward-turn n e = refl
+  -- a line's rows at row q, which has the kind
+  abbrev rowsAtRow : (q kind : ℕ) → SheetLine → List Row
+  rowsAtRow q kind l =
+      backwardOfLine (given .variables) (getD (given .marks) q 0) (turnsBack (given .words) (given .first) (given .goes) q kind) l
 
-  -- the rows of a line at row q, then those from `next` on
+  -- these, then those from `next` on
   backward-step : (l : SheetLine) (q next n : ℕ) → rowOfNumber given q ≡ sheetRowOf l
       → stepBack (given .came) (given .goes) q (sheetRowOf l .kind) ≡ next
-      → backwardRows given (suc n) (suc q)
-      ≡ backwardOfLine (given .variables) (getD (given .marks) q 0) (turnsBack (given .words) (given .first) (given .goes) q (sheetRowOf l .kind)) l
-      ++ backwardRows given n next
+      → backwardRows given (suc n) (suc q) ≡ rowsAtRow q (sheetRowOf l .kind) l ++ backwardRows given n next
   backward-step l q next n stands goes =
       let here : suc q - 1 ≡ q = omega arith in
-      backward-turn n (suc q)
+      let kind = sheetRowOf l .kind in
+      backward-turn given n (suc q)
       ∙ ap (λ p. backwardAt given p ++ backwardRows given n (wayBack given p)) here
-      ∙ ap (λ r. backwardOfLine (given .variables) (getD (given .marks) q 0) (turnsBack (given .words) (given .first) (given .goes) q (r .kind)) (lineOfRow r)
-      ++ backwardRows given n (stepBack (given .came) (given .goes) q (r .kind))) stands
-      ∙ ap (λ line. backwardOfLine (given .variables) (getD (given .marks) q 0) (turnsBack (given .words) (given .first) (given .goes) q (sheetRowOf l .kind)) line
-      ++ backwardRows given n (stepBack (given .came) (given .goes) q (sheetRowOf l .kind))) (line-back l)
-      ∙ ap (λ p. backwardOfLine (given .variables) (getD (given .marks) q 0) (turnsBack (given .words) (given .first) (given .goes) q (sheetRowOf l .kind)) l
-      ++ backwardRows given n p) goes
+      ∙ ap (λ r. rowsAtRow q (r .kind) (lineOfRow r) ++ backwardRows given n (stepBack (given .came) (given .goes) q (r .kind))) stands
+      ∙ ap (λ line. rowsAtRow q kind line ++ backwardRows given n (stepBack (given .came) (given .goes) q kind)) (line-back l)
+      ∙ ap (λ p. rowsAtRow q kind l ++ backwardRows given n p) goes
 
   -- an "end repeat" at row q whose "repeat" is at row p becomes that "repeat"
   repeat-back : (m p q : ℕ) → getD (given .goes) q 0 ≡ p → rowOfNumber given p ≡ sheetRowOf (repeat m)
-      → backwardOfLine (given .variables) (getD (given .marks) q 0) (turnsBack (given .words) (given .first) (given .goes) q 11) endRepeat ≡ row4 10 0 (suc m) 0 ∷ []
+      → rowsAtRow q 11 endRepeat ≡ row4 10 0 (suc m) 0 ∷ []
   unfolding backwardOfLine turnsBack sheetRowOf rowOf
   repeat-back m p q opens stands = ap (λ n. row4 10 0 n 0 ∷ []) (ap (λ x. rowOfNumber given x .a) opens ∙ ap (λ r. r .a) stands)
 
@@ -165,7 +160,8 @@ module _ (given : Handed) (mark : ℕ → Assignment → Marked) where
       let endRow =
       backward-step endIf end split (rows a + suc (rows b + suc n)) (atEnd .0) (partners .endCame) ∙ ap (λ l. row4 15 0 0 0 ∷ l) firstBranch
       ∙ sym (fork-before onTurn A B rest after) in
-      backward-tree k ls (fork onTurn A B rest) after (suc end) (suc (rows a + suc (rows b + suc n))) c e (omega arith) (omega arith) (atEnd .1) (w .1 .1 .1) endRow
+      backward-tree k ls (fork onTurn A B rest) after (suc end) (suc (rows a + suc (rows b + suc n))) c e (omega arith) (omega arith) (atEnd .1)
+      (w .1 .1 .1) endRow
   backward-tree (again m a k) ls rest after p n c e hc he s w h =
       let v = given .variables in
       let end = suc p + rows a in

@@ -69,7 +69,8 @@ module _ (words : List ℕ) where
       unfolding write readFor numberIn placeIn tableIn numberOf placeOf
       write-small short =
           let rows = ap tableRoom (made .planned .rows) in
-          let small : leb (tableRoom (tableRows (variablesOf sheet) (marked sheet))) (length buffer) ≡ false = lt-leb _ _ (subst (λ n. length buffer < n) rows short) in
+          let small : leb (tableRoom (tableRows (variablesOf sheet) (marked sheet))) (length buffer) ≡ false =
+          lt-leb _ _ (subst (λ n. length buffer < n) rows short) in
           rw (made .accepted, small)
 
       pub write-made : (after : List ℕ) → tableRoom (plan .rows) ≤ length buffer
@@ -78,5 +79,6 @@ module _ (words : List ℕ) where
       unfolding write readFor numberIn placeIn tableIn
       write-made after long wrote =
           let rows = ap tableRoom (made .planned .rows) in
-          let fits : leb (tableRoom (tableRows (variablesOf sheet) (marked sheet))) (length buffer) ≡ true = le-leb _ _ (subst (λ n. n ≤ length buffer) rows long) in
+          let fits : leb (tableRoom (tableRows (variablesOf sheet) (marked sheet))) (length buffer) ≡ true =
+          le-leb _ _ (subst (λ n. n ≤ length buffer) rows long) in
           rw (made .accepted, fits, wrote sheet (made .accepted))

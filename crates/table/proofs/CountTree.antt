@@ -52,9 +52,11 @@ module _ (v : ℕ) (words : List ℕ) (first : ℕ) (marks came goes : List ℕ)
       → countRows v words first marks p c
       ≡ length (forwardOfLine (getD marks p 0) l) + length (backwardOfLine v (getD marks p 0) 0 l) + countRows v words first marks (suc p) n
   count-step l p n c e stands =
+      let mark = getD marks p 0 in
+      let rest = countRows v words first marks (suc p) n in
       ap (countRows v words first marks p) e ∙ count-turn p n
-      ∙ ap (λ line. length (bothParts v (getD marks p 0) line) + countRows v words first marks (suc p) n) (ap lineOfRow stands ∙ line-back l)
-      ∙ ap (λ k. k + countRows v words first marks (suc p) n) (length-append (forwardOfLine (getD marks p 0) l) (backwardOfLine v (getD marks p 0) 0 l))
+      ∙ ap (λ line. length (bothParts v mark line) + rest) (ap lineOfRow stands ∙ line-back l)
+      ∙ ap (λ k. k + rest) (length-append (forwardOfLine mark l) (backwardOfLine v mark 0 l))
 
   count-tree : (t : Tree Assignment Test) (ls : List SheetLine) (after before : Table) (p n c e : ℕ)
       → c ≡ rows t + n → e ≡ p + rows t → StandsAt words first (flat t ls) p → Noted marks came goes mark t p
@@ -86,9 +88,11 @@ module _ (v : ℕ) (words : List ℕ) (first : ℕ) (marks came goes : List ℕ)
       omega (
         arith,
         count-step (ifLine f) p (rows a + suc second) c (omega arith) (s .0),
-        count-tree a (elseLine ∷ flat b (endIf ∷ flat k ls)) (put (record { index = p }) turning (saveTurn true) done) done (suc p) (suc second) (rows a + suc second) split refl refl (s .1) (w .1 .0),
+        count-tree a (elseLine ∷ flat b (endIf ∷ flat k ls)) (put (record { index = p }) turning (saveTurn true) done) done (suc p) (suc second)
+            (rows a + suc second) split refl refl (s .1) (w .1 .0),
         count-step elseLine split second (suc second) refl (atSplit .0),
-        count-tree b (endIf ∷ flat k ls) (put (record { index = p }) turning (saveTurn false) done) done (suc split) (suc (rows k + n)) second end refl refl (atSplit .1) (w .1 .1 .0),
+        count-tree b (endIf ∷ flat k ls) (put (record { index = p }) turning (saveTurn false) done) done (suc split) (suc (rows k + n)) second end
+            refl refl (atSplit .1) (w .1 .1 .0),
         count-step endIf end (rows k + n) (suc (rows k + n)) refl (atEnd .0),
         count-tree k ls after (fork onTurn A B before) (suc end) n (rows k + n) e refl (omega arith) (atEnd .1) (w .1 .1 .1),
       )

@@ -12,7 +12,7 @@ use Rattle.sets.specs.Marks.{Marked, numbered}
 use Rattle.table.specs.TableRows.{Table, tableRowOf, rowOfAction, rowOfTableTest, whether, saveTurn, turning}
 use Rattle.table.specs.Adjoint.{put, targetOf, forwardRow, forwardPart}
 use Rattle.table.specs.inner.MarkedRows.{row4, rowIf, rowsIn, rowNumbered, forwardOfLine, forwardRows, MarkSays, Noted}
-use Rattle.table.proofs.AssignmentRows.{rows-of-put, rows-of-put-if, rows-of-done}
+use Rattle.table.proofs.AssignmentRows.{rows-of-put, rows-of-put-if, rows-of-done, none-before}
 use Rattle.sheet.proofs.RowsBack.{line-back}
 use Rattle.table.proofs.TreeRows.{StandsAt, tree-stands, stands-after, fork-before, again-before}
 
@@ -28,10 +28,8 @@ unfolding forwardOfLine
 marked-forward {byte} {b} {m} says rest =
     rw (forward-row, says .saved, says .assignment, forward-row, rows-of-done) (simp append-assoc)
 
-none-before : (after : List Row) → rowsIn done ++ after ≡ after
-none-before after = rw rows-of-done
-
-turn-before : (row : RowNumber) (first : Bool) (after : List Row) → rowsIn (put row turning (saveTurn first) done) ++ after ≡ rowOfAction (saveTurn first) ∷ after
+turn-before : (row : RowNumber) (first : Bool) (after : List Row)
+    → rowsIn (put row turning (saveTurn first) done) ++ after ≡ rowOfAction (saveTurn first) ∷ after
 turn-before row first after = rw (rows-of-put row turning (saveTurn first) done, rows-of-done)
 
 module _ (words : List ℕ) (first : ℕ) (marks came goes : List ℕ) (mark : ℕ → Assignment → Marked) where
@@ -73,7 +71,8 @@ module _ (words : List ℕ) (first : ℕ) (marks came goes : List ℕ) (mark : �
       let whatFollows = forward-tree k ls rest after (suc end) n (rows k + n) e refl (omega arith) (atEnd .1) (w .1 .1 .1) h in
       let ended =
       forward-step endIf end (rows k + n) (suc (rows k + n)) refl (atEnd .0)
-      ∙ ap (λ rs. row4 14 0 0 0 ∷ row4 9 0 0 0 ∷ rs) whatFollows ∙ sym (turn-before (record { index = p }) false (row4 9 0 0 0 ∷ (rowsIn K ++ after))) in
+      ∙ ap (λ rs. row4 14 0 0 0 ∷ row4 9 0 0 0 ∷ rs) whatFollows
+      ∙ sym (turn-before (record { index = p }) false (row4 9 0 0 0 ∷ (rowsIn K ++ after))) in
       let secondBranch =
       forward-tree b (endIf ∷ flat k ls) (put (record { index = p }) turning (saveTurn false) done) (row4 9 0 0 0 ∷ (rowsIn K ++ after))
       (suc split) (suc (rows k + n)) second end refl refl (atSplit .1) (w .1 .1 .0) ended in

@@ -61,7 +61,8 @@ module _ (r : Row) where
   pub block-line : 7 ≤ r .kind → (P : SheetLine → Type 0)
       → (r .kind ≡ 7 → P (ifLine (less (r .a) (r .b)))) → (r .kind ≡ 8 → P elseLine) → (r .kind ≡ 9 → P endIf)
       → (r .kind ≡ 10 → P (repeat (pred (r .a)))) → P endRepeat → P (lineOfRow r)
-  block-line h P if else end-if again end-repeat = by (ℕ-discrete (r .kind) 7) (ℕ-discrete (r .kind) 8) (ℕ-discrete (r .kind) 9) (ℕ-discrete (r .kind) 10)
+  block-line h P if else end-if again end-repeat =
+      by (ℕ-discrete (r .kind) 7) (ℕ-discrete (r .kind) 8) (ℕ-discrete (r .kind) 9) (ℕ-discrete (r .kind) 10)
     where
       by : Dec (r .kind ≡ 7) → Dec (r .kind ≡ 8) → Dec (r .kind ≡ 9) → Dec (r .kind ≡ 10) → P (lineOfRow r)
       by (yes e) is-else is-end is-repeat = subst P (sym (if-line e)) (if e)

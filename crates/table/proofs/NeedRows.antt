@@ -35,7 +35,8 @@ module _ (stack : Stack) (mark next second beyond : ℕ) {r : Row} (says : Says 
   pub closing-need : 7 ≤ r .kind → (r .kind ≡ 7 → ⊥) → (r .kind ≡ 10 → ⊥) → needOfLine stack mark (lineOfRow r) next second beyond ≡ 0
   unfolding needOfLine
   closing-need h not-if not-repeat =
-      block-line r h (λ l. needOfLine stack mark l next second beyond ≡ 0) (λ e. absurd (not-if e)) (λ e. refl) (λ e. refl) (λ e. absurd (not-repeat e)) refl
+      block-line r h (λ l. needOfLine stack mark l next second beyond ≡ 0) (λ e. absurd (not-if e)) (λ e. refl) (λ e. refl)
+      (λ e. absurd (not-repeat e)) refl
 
 -- ---- the rows after it
 
@@ -56,7 +57,8 @@ module _ (q row : ℕ) (later : List ℕ) where
   unfolding afterRow
   after-before h = simp (lt-ltb row q h)
 
-  pub after-held : {buffer : List ℕ} → q ≤ row → row < q + length later → HoldsFrom buffer (suc q) later → afterRow q later row ≡ getD buffer (row + 1) 0
+  pub after-held : {buffer : List ℕ} → q ≤ row → row < q + length later → HoldsFrom buffer (suc q) later
+      → afterRow q later row ≡ getD buffer (row + 1) 0
   unfolding afterRow
   after-held {buffer} h below held =
       simp (le-ltb row q h) (sym (held .each (row - q) (omega arith)) ∙ ap (λ i. getD buffer i 0) (omega arith))

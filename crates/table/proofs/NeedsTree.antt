@@ -100,11 +100,13 @@ module _ (stack : Stack) (words : List ℕ) (first : ℕ) (marks came goes : Lis
   -- a line that stands at row p, with its block's split and end
   from-line : (l : SheetLine) (p n c split end : ℕ) → c ≡ suc n → rowNumbered words first p ≡ sheetRowOf l
       → getD goes p 0 ≡ split → blockEnd came goes p (sheetRowOf l .kind) ≡ end
-      → from p c ≡ capped (needOfLine stack (getD marks p 0) l (afterRow p (needs (suc p) n) p) (afterRow p (needs (suc p) n) split) (afterRow p (needs (suc p) n) end))
+      → let later = needs (suc p) n in
+      from p c ≡ capped (needOfLine stack (getD marks p 0) l (afterRow p later p) (afterRow p later split) (afterRow p later end))
   from-line l p n c split end hc stands is-split is-end =
       let later = needs (suc p) n in
       ap (from p) hc ∙ from-turn p n
-      ∙ ap (λ r. capped (needOfLine stack (getD marks p 0) (lineOfRow r) (afterRow p later p) (afterRow p later (getD goes p 0)) (afterRow p later (blockEnd came goes p (r .kind))))) stands
+      ∙ ap (λ r. capped (needOfLine stack (getD marks p 0) (lineOfRow r) (afterRow p later p) (afterRow p later (getD goes p 0))
+      (afterRow p later (blockEnd came goes p (r .kind))))) stands
       ∙ rw (line-back l, is-split, is-end)
 
   -- a line that closes a block or its first branch
@@ -177,7 +179,8 @@ module _ (stack : Stack) (words : List ℕ) (first : ℕ) (marks came goes : Lis
         from-after p end first-on rest (suc end) (omega arith) (omega arith) refl,
         noElse,
         noEnd,
-        need-tree a (elseLine ∷ flat b (endIf ∷ flat k ls)) (suc p) (suc second) first-on split refl refl (s .1) (w .1 .0) (omega (arith, whole, noElse)),
+        need-tree a (elseLine ∷ flat b (endIf ∷ flat k ls)) (suc p) (suc second) first-on split refl refl (s .1) (w .1 .0)
+            (omega (arith, whole, noElse)),
         need-tree b (endIf ∷ flat k ls) (suc split) (suc rest) second end refl refl (atSplit .1) (w .1 .1 .0) (omega (arith, whole, noEnd)),
         need-tree k ls (suc end) n rest e refl (omega arith) (atEnd .1) (w .1 .1 .1) (omega (arith, whole)),
       )

@@ -50,7 +50,8 @@ module _ {words : List ℕ} {sheet : Sheet} {shape : Shape} (lies : Lies words s
     unfolding marked
     rows-right r counted =
         counted (variablesOf sheet)
-        ∙ counted-is-table-rows (variablesOf sheet) words (shape .«first_row») marks came goes (marksOf sheet) (shape .rows) (sheet .body) (lies .says) noted
+        ∙ counted-is-table-rows (variablesOf sheet) words (shape .«first_row») marks came goes (marksOf sheet) (shape .rows) (sheet .body)
+        (lies .says) noted
 
     pub need-right : (stack : Stack) (r : ℕ) → r ≡ needOver stack words shape marks came goes → r ≡ neededOn stack (marked sheet)
     unfolding marked needOver

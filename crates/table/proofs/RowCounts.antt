@@ -29,8 +29,8 @@ module _ (v : ℕ) (r : Row) (mark : ℕ) where
       pub product-count : r .kind ≡ 5 → length (partRows v r mark) ≡ 2 * cond first 1 0 + 2 * cond second 1 0
       product-count e = ap length (product-rows v r mark varied-a varied-b e) ∙ simp (length-append, one-if) (omega arith)
 
-      pub two-count : 3 ≤ r .kind → r .kind ≤ 4 → length (partRows v r mark) ≡ cond first 1 0 + cond second 1 0
-      two-count h g = ap length (two-rows v r mark varied-a varied-b h g) ∙ simp (length-append, one-if)
+      pub two-count : (3 ≤ r .kind) × (r .kind ≤ 4) → length (partRows v r mark) ≡ cond first 1 0 + cond second 1 0
+      two-count h = ap length (two-rows v r mark varied-a varied-b h) ∙ simp (length-append, one-if)
 
   -- an assignment's rows backward: the take back if it is saved, two more where it is active
   module _ {saved : Bool} (is-saved : saved ≡ bitOf mark 8) where
@@ -45,7 +45,8 @@ module _ (v : ℕ) (r : Row) (mark : ℕ) where
 
 -- ---- both parts
 
-both-length : (v mark : ℕ) (r : Row) → length (bothParts v mark (lineOfRow r)) ≡ length (forwardOfLine mark (lineOfRow r)) + length (backwardOfLine v mark 0 (lineOfRow r))
+both-length : (v mark : ℕ) (r : Row)
+    → length (bothParts v mark (lineOfRow r)) ≡ length (forwardOfLine mark (lineOfRow r)) + length (backwardOfLine v mark 0 (lineOfRow r))
 both-length v mark r = length-append (forwardOfLine mark (lineOfRow r)) (backwardOfLine v mark 0 (lineOfRow r))
 
 -- a block's row has one row backward

@@ -45,7 +45,8 @@ sheet-lies words sheet e =
     let counted = counts words sheet parts in
     let lines = flat (sheet .body) [] in
     let first = 3 + length (sheet .roles) + length (sheet .constants) in
-    let shaped : Shaped words (shapeOf sheet) = accepted-shape words (reading.Accepted (shapeOf sheet)) (shapeOf sheet) (sym (shape-read words sheet e)) refl in
+    let shaped : Shaped words (shapeOf sheet) =
+    accepted-shape words (reading.Accepted (shapeOf sheet)) (shapeOf sheet) (sym (shape-read words sheet e)) refl in
     let stands = body-stands words sheet e in
     let begins : first + 0 * limit .rowWords ≡ first = omega arith in
     let many : length lines ≡ length (sheet .rows) = sym (length-map lines sheetRowOf) ∙ ap length (reading-exact words sheet e .says) in
@@ -57,7 +58,13 @@ sheet-lies words sheet e =
     record {
       is = e;
       shapeIs = refl;
-      laid = record { sheet = sheet; accepted = e; variablesAre = refl; firstIs = omega arith; rowsAre = rows-of-tree words first _ (sheet .body) says };
+      laid = record {
+        sheet = sheet;
+        accepted = e;
+        variablesAre = refl;
+        firstIs = omega arith;
+        rowsAre = rows-of-tree words first _ (sheet .body) says;
+      };
       says = says;
       variables = refl;
       fewVariables = shaped .variablesWithin;

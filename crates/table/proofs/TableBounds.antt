@@ -42,15 +42,19 @@ module _ (weight : ℕ) (count : Table → ℕ) (each : EachRow weight count) wh
   parts-rows v (copy a) row known = at-most-more {n = weight + 0} (4 * weight) (omega arith) (at-most-if (known .variedA) row _ _ at-most-none)
   parts-rows v (fixed c) row known = at-most-more {n = 0} (4 * weight) (omega arith) at-most-none
   parts-rows v (sum a b) row known =
-      at-most-more {n = weight + (weight + 0)} (4 * weight) (omega arith) (at-most-if (known .variedA) row _ _ (at-most-if (known .variedB) row _ _ at-most-none))
+      at-most-more {n = weight + (weight + 0)} (4 * weight) (omega arith)
+      (at-most-if (known .variedA) row _ _ (at-most-if (known .variedB) row _ _ at-most-none))
   parts-rows v (difference a b) row known =
-      at-most-more {n = weight + (weight + 0)} (4 * weight) (omega arith) (at-most-if (known .variedA) row _ _ (at-most-if (known .variedB) row _ _ at-most-none))
+      at-most-more {n = weight + (weight + 0)} (4 * weight) (omega arith)
+      (at-most-if (known .variedA) row _ _ (at-most-if (known .variedB) row _ _ at-most-none))
   parts-rows v (product a b) row known =
       at-most-more {n = weight + (weight + (weight + (weight + 0)))} (4 * weight) (omega arith)
-      (at-most-if (known .variedA) row _ _ (at-most-if (known .variedA) row _ _ (at-most-if (known .variedB) row _ _ (at-most-if (known .variedB) row _ _ at-most-none))))
+      (at-most-if (known .variedA) row _ _ (at-most-if (known .variedA) row _ _
+      (at-most-if (known .variedB) row _ _ (at-most-if (known .variedB) row _ _ at-most-none))))
   parts-rows v (negation a) row known = at-most-more {n = weight + 0} (4 * weight) (omega arith) (at-most-if (known .variedA) row _ _ at-most-none)
 
-  derivative-rows : (v : ℕ) (active : Bool) (d : ℕ) (source : Source) (row : RowNumber) (known : Activity) → AtMost count (6 * weight) (derivativeRows v active d source row known)
+  derivative-rows : (v : ℕ) (active : Bool) (d : ℕ) (source : Source) (row : RowNumber) (known : Activity)
+      → AtMost count (6 * weight) (derivativeRows v active d source row known)
   unfolding derivativeRows
   derivative-rows v false d source row known = at-most-more {n = weight + 0} (6 * weight) (omega arith) (at-most-if true row _ _ at-most-none)
   derivative-rows v true d source row known =
@@ -58,10 +62,12 @@ module _ (weight : ℕ) (count : Table → ℕ) (each : EachRow weight count) wh
       (at-most-if true row _ _ (at-most-if true row _ _ (parts-rows v source row known)))
 
   -- seven rows backward and two forward for an assignment, fewer for the rows of a block
-  pub backward-row : (v : ℕ) (b : Assignment) (row : RowNumber) (known : Activity) (saved : Bool) → AtMost count (7 * weight) (backwardOf v b row known saved)
+  pub backward-row : (v : ℕ) (b : Assignment) (row : RowNumber) (known : Activity) (saved : Bool)
+      → AtMost count (7 * weight) (backwardOf v b row known saved)
   unfolding backwardOf
   backward-row v (d ≔ source) row known saved =
-      at-most-more {n = weight + 6 * weight} (7 * weight) (omega arith) (at-most-if saved row _ _ (derivative-rows v (known .active) d source row known))
+      at-most-more {n = weight + 6 * weight} (7 * weight) (omega arith)
+      (at-most-if saved row _ _ (derivative-rows v (known .active) d source row known))
 
   pub forward-row : (m : Marked) → AtMost count (2 * weight) (forwardRow m)
   unfolding forwardRow
@@ -84,7 +90,8 @@ backward-rows v (one m k) rest =
     let this = backwardOf v (m .assignment) (m .row) (m .known) (m .saved) rest in
     omega (arith, backward-rows v k this, backward-row 1 rows row-counted v (m .assignment) (m .row) (m .known) (m .saved) .few rest)
 backward-rows v (fork f a b k) rest =
-    omega (arith, backward-rows v k (fork onTurn (backwardPart v a done) (backwardPart v b done) rest), backward-rows v a done, backward-rows v b done)
+    let turned = fork onTurn (backwardPart v a done) (backwardPart v b done) rest in
+    omega (arith, backward-rows v k turned, backward-rows v a done, backward-rows v b done)
 backward-rows v (again n a k) rest = omega (arith, backward-rows v k (again n (backwardPart v a done) rest), backward-rows v a done)
 
 forward-rows : (t : Body) (rest : Table) → rows (forwardPart t rest) ≤ 2 * rows t + rows rest
@@ -92,8 +99,9 @@ unfolding forwardPart rows
 forward-rows done rest = omega arith
 forward-rows (one m k) rest = omega (arith, forward-row 1 rows row-counted m .few (forwardPart k rest), forward-rows k rest)
 forward-rows (fork f a b k) rest =
-    omega
-    (arith, forward-rows k rest, forward-rows a (put (f .row) turning (saveTurn true) done), forward-rows b (put (f .row) turning (saveTurn false) done))
+    let a-turn = put (f .row) turning (saveTurn true) done in
+    let b-turn = put (f .row) turning (saveTurn false) done in
+    omega (arith, forward-rows k rest, forward-rows a a-turn, forward-rows b b-turn)
 forward-rows (again n a k) rest = omega (arith, forward-rows k rest, forward-rows a done)
 
 -- "Hence R is at most 9 × 512 + 1"
@@ -164,7 +172,8 @@ forward-deep most (fork f a b k) rest h g =
     let b-turn = put (f .row) turning (saveTurn false) done in
     let first = forward-deep (deep a) a a-turn (omega arith) (omega arith) in
     let second = forward-deep (deep b) b b-turn (omega arith) (omega arith) in
-    fork-deep most (whether (f .test)) (forwardPart a a-turn) (forwardPart b b-turn) (forwardPart k rest) (omega (arith, parts .0)) (omega (arith, parts .1)) (forward-deep most k rest (parts .2) g)
+    fork-deep most (whether (f .test)) (forwardPart a a-turn) (forwardPart b b-turn) (forwardPart k rest)
+    (omega (arith, parts .0)) (omega (arith, parts .1)) (forward-deep most k rest (parts .2) g)
 forward-deep most (again n a k) rest h g =
     let body = forward-deep (deep a) a done (omega arith) (omega arith) in
     let after = forward-deep most k rest (omega arith) g in

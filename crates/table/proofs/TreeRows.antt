@@ -17,7 +17,8 @@ unfoldable pub StandsAt : (words : List ℕ) (first : ℕ) → List SheetLine �
 StandsAt words first [] p = Unit
 StandsAt words first (l ∷ ls) p = (rowNumbered words first p ≡ sheetRowOf l) × StandsAt words first ls (suc p)
 
-stand-from : (words : List ℕ) (first : ℕ) (ls : List SheetLine) (p n place : ℕ) → place ≡ first + p * limit .rowWords → map sheetRowOf ls ≡ rowsAt words place n
+stand-from : (words : List ℕ) (first : ℕ) (ls : List SheetLine) (p n place : ℕ) → place ≡ first + p * limit .rowWords
+    → map sheetRowOf ls ≡ rowsAt words place n
     → StandsAt words first ls p
 unfolding StandsAt rowsAt
 stand-from words first [] p n place e h = tt

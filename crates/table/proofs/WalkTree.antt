@@ -20,7 +20,8 @@ use Rattle.table.proofs.BackwardTree.{step-assignment, step-if}
 line-says : {r : Row} (l : SheetLine) → r ≡ sheetRowOf l → Says r
 line-says l e = record { back = ap sheetRowOf (ap lineOfRow e ∙ line-back l) ∙ sym e }
 
-stands-say : (words : List ℕ) (first : ℕ) (ls : List SheetLine) (p q r : ℕ) → r ≡ p + q → q < length ls → StandsAt words first ls p → Says (rowNumbered words first r)
+stands-say : (words : List ℕ) (first : ℕ) (ls : List SheetLine) (p q r : ℕ) → r ≡ p + q → q < length ls → StandsAt words first ls p
+    → Says (rowNumbered words first r)
 unfolding StandsAt
 stands-say words first [] p q r e h s = absurd (omega arith)
 stands-say words first (l ∷ ls) p zero r e h s = let here : r ≡ p = omega arith in rw here (line-says l (s .0))
@@ -36,9 +37,11 @@ unfolding treeRows
 rows-of-tree words first n t e =
     sym (rows-at-length words first n) ∙ ap length (sym e) ∙ length-map (flat t []) sheetRowOf ∙ lines-counted t
 
-pub tree-says : (words : List ℕ) (first n : ℕ) (t : Tree Assignment Test) → treeRows t ≡ rowsAt words first n → (p : ℕ) → p < n → Says (rowNumbered words first p)
+pub tree-says : (words : List ℕ) (first n : ℕ) (t : Tree Assignment Test) → treeRows t ≡ rowsAt words first n
+    → (p : ℕ) → p < n → Says (rowNumbered words first p)
 tree-says words first n t e p h =
-    stands-say words first (flat t []) 0 p p (omega arith) (omega (arith, rows-of-tree words first n t e, lines-counted t)) (tree-stands words first n t e)
+    stands-say words first (flat t []) 0 p p (omega arith) (omega (arith, rows-of-tree words first n t e, lines-counted t))
+    (tree-stands words first n t e)
 
 -- ---- the walk
 

@@ -11,7 +11,7 @@ use Rattle.sheet.specs.Rows.{Assignment, Test, treeRows}
 use Rattle.sheet.specs.Reading.{rowsAt}
 use Rattle.sheet.proofs.RowsCounted.{lines-counted}
 use Rattle.sets.specs.Marks.{Marked, numbered}
-use Rattle.table.specs.TableRows.{Table, tableRowOf, linesOf, wordsOf, tableWords, rowOfAction, whether, turnRound, ofTurningRound, saveTurn, turning}
+use Rattle.table.specs.TableRows.{Table, TableRow, tableRowOf, linesOf, wordsOf, tableWords, rowOfAction, whether, turnRound, ofTurningRound, saveTurn, turning}
 use Rattle.table.specs.Adjoint.{Body, put, forwardPart, backwardPart, adjointTable}
 use Rattle.table.specs.Calls.{overwritten}
 use Rattle.table.specs.inner.MarkedRows.{row4, Room, Wrote, rowsIn, Handed, wholeRows, Noted}
@@ -41,8 +41,9 @@ pub adjoint-rows : (v : ℕ) (t : Body)
     → rowsIn (adjointTable v t) ≡ rowsIn (forwardPart t done) ++ (row4 17 0 0 0 ∷ rowsIn (backwardPart v t done))
 unfolding adjointTable rowOfAction
 adjoint-rows v t =
-    let turned : Table = one (record { origin = ofTurningRound; action = turnRound }) (backwardPart v t done) in
-    forward-before t turned ∙ ap (λ rs. rowsIn (forwardPart t done) ++ rs) (rows-of-one (record { origin = ofTurningRound; action = turnRound }) (backwardPart v t done))
+    let turning-row : TableRow = record { origin = ofTurningRound; action = turnRound } in
+    let back = backwardPart v t done in
+    forward-before t (one turning-row back) ∙ ap (λ rs. rowsIn (forwardPart t done) ++ rs) (rows-of-one turning-row back)
 
 -- the rows that the writer puts are the adjoint table's
 pub whole-is-table : (given : Handed) (mark : ℕ → Assignment → Marked) (t : Tree Assignment Test)

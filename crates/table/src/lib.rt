@@ -66,7 +66,8 @@ fn note(
     goes: &mut [u16; sheet::MAX_ROWS],
 )
     requires { ⌜ Laid (now words) (shape .variables) (shape .«first_row») (shape .rows) ⌝ }
-    ensures { λ r. ⌜ ((sheet : Sheet) → read (now (words .entry)) ≡ given sheet → SheetNoted sheet (now (marks .exit)) (now (came .exit)) (now (goes .exit))) ⌝ }
+    ensures { λ r. ⌜ ((sheet : Sheet) → read (now (words .entry)) ≡ given sheet
+        → SheetNoted sheet (now (marks .exit)) (now (came .exit)) (now (goes .exit))) ⌝ }
 {
     let mut varied = [0u64; sheet::MAX_ROWS + 1];
     let mut useful = [0u64; sheet::MAX_ROWS + 1];
@@ -172,7 +173,8 @@ pub fn check(words: &[u16]) -> Checked
 
 // Any words and a buffer: the first refusal of 1 to 8, or the table of the sheet that they are, at the buffer's start.
 pub fn write(words: &[u16], table: &mut [u16]) -> Answer
-    ensures { λ r. ⌜ _≡_ {A = Written} (record { number = r .number; place = r .place; table = now (table .exit) }) (write (now (words .entry)) (now (table .entry))) ⌝ }
+    ensures { λ r. ⌜ _≡_ {A = Written} (record { number = r .number; place = r .place; table = now (table .exit) })
+        (write (now (words .entry)) (now (table .entry))) ⌝ }
 {
     let mut marks = [0u8; sheet::MAX_ROWS];
     let mut came = [0u16; sheet::MAX_ROWS];

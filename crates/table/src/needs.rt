@@ -1,7 +1,6 @@
 // S and T: what a sheet's rows need of the value stack or of the turn stack.
 ghost use mathlib.Core.Path.{_≡_};
-ghost use Prim.Native.Nat.{suc, _-_, _≤_, _<_, max};
-ghost use mathlib.Core.List.{List};
+ghost use Prim.Native.Nat.{_≤_, _<_, max};
 ghost use lib.ListN.{length};
 ghost use Rattle.sheet.specs.Rows.{lineOfRow};
 ghost use Rattle.sheet.specs.Answers.{rowSaid};

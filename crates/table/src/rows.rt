@@ -2,9 +2,10 @@
 ghost use mathlib.Core.Path.{_≡_};
 ghost use Rattle.sheet.specs.Rows.{lineOfRow};
 ghost use Rattle.sheet.specs.Answers.{rowSaid};
+ghost use Rattle.sheet.specs.Bounds.{limit};
 ghost use Prim.Native.Nat.{_≤_};
 ghost use mathlib.Core.List.{[], _∷_};
-ghost use Rattle.table.specs.inner.MarkedRows.{row4, Room, Wrote, rowIf, Small, bitOf, partRows, derivativesOf, assignmentBack, Assigns, Says, forwardOfLine, backwardOfLine};
+ghost use Rattle.table.specs.inner.MarkedRows.{row4, Room, Wrote, rowIf, Small, bitOf, scaledRows, partRows, derivativesOf, assignmentBack, Assigns, Says, forwardOfLine, backwardOfLine};
 use super::kinds;
 use sheet::RowWords;
 
@@ -47,29 +48,23 @@ pub fn bit(mark: u8, weight: u8) -> bool
     mark / weight % 2 == 1
 }
 
-// A product's parts, with t and u: u := b × t; ā := ā + u; then u := a × t; b̄ := b̄ + u.
-fn product_parts(table: &mut [u16], place: usize, variables: u16, row: RowWords, mark: u8) -> usize
-    requires { ⌜ Room (now table) place (partRows variables (rowSaid row) mark) ⌝ ∗ ⌜ Small variables (rowSaid row) ⌝ ∗ ⌜ row .kind ≡ 5 ⌝ }
-    ensures { λ r. ⌜ Wrote (now (table .entry)) place (partRows variables (rowSaid row) mark) (now (table .exit)) r ⌝ }
+// A product's part: u := operand × t, and u into the adjoint of the other operand, only if given.
+fn scaled(
+    given: bool,
+    table: &mut [u16],
+    place: usize,
+    variables: u16,
+    operand: u16,
+    other: u16,
+) -> usize
+    requires { ⌜ Room (now table) place (scaledRows variables given operand other) ⌝ ∗ ⌜ (variables ≤ limit .variables) × (other ≤ limit .turns) ⌝ }
+    ensures { λ r. ⌜ Wrote (now (table .entry)) place (scaledRows variables given operand other) (now (table .exit)) r ⌝ }
 {
     let t = 2 * variables;
     let u = t + 1;
-    let to_a = variables + row.a;
-    let to_b = variables + row.b;
-    let first = bit(mark, sets::VARIED_A);
-    let second = bit(mark, sets::VARIED_B);
-    let scaled = put_if(first, table, place, sheet::kinds::PRODUCT, u, row.b, t);
-    let added = put_if(first, table, scaled, sheet::kinds::SUM, to_a, to_a, u);
-    let scaled_again = put_if(second, table, added, sheet::kinds::PRODUCT, u, row.a, t);
-    put_if(
-        second,
-        table,
-        scaled_again,
-        sheet::kinds::SUM,
-        to_b,
-        to_b,
-        u,
-    )
+    let adjoint = variables + other;
+    let added = put_if(given, table, place, sheet::kinds::PRODUCT, u, operand, t);
+    put_if(given, table, added, sheet::kinds::SUM, adjoint, adjoint, u)
 }
 
 // An assignment's parts, for a first and b second, each only if it is varied: t or u into the adjoint of what it reads.
@@ -77,24 +72,25 @@ fn parts(table: &mut [u16], place: usize, variables: u16, row: RowWords, mark: u
     requires { ⌜ Room (now table) place (partRows variables (rowSaid row) mark) ⌝ ∗ ⌜ Small variables (rowSaid row) ⌝ ∗ ⌜ Assigns (row .kind) ⌝ }
     ensures { λ r. ⌜ Wrote (now (table .entry)) place (partRows variables (rowSaid row) mark) (now (table .exit)) r ⌝ }
 {
-    if row.kind == sheet::kinds::CONSTANT {
-        return place;
-    }
-    if row.kind == sheet::kinds::PRODUCT {
-        return product_parts(table, place, variables, row, mark);
-    }
     let t = 2 * variables;
     let to_a = variables + row.a;
+    let to_b = variables + row.b;
     let first = bit(mark, sets::VARIED_A);
+    let second = bit(mark, sets::VARIED_B);
     if row.kind == sheet::kinds::COPY {
         return put_if(first, table, place, sheet::kinds::SUM, to_a, to_a, t);
+    }
+    if row.kind == sheet::kinds::CONSTANT {
+        return place;
     }
     if row.kind == sheet::kinds::NEGATION {
         return put_if(first, table, place, sheet::kinds::DIFFERENCE, to_a, to_a, t);
     }
+    if row.kind == sheet::kinds::PRODUCT {
+        let added_to_a = scaled(first, table, place, variables, row.b, row.a);
+        return scaled(second, table, added_to_a, variables, row.a, row.b);
+    }
     // A sum and a difference add into ā, and into b̄ do as they do themselves.
-    let to_b = variables + row.b;
-    let second = bit(mark, sets::VARIED_B);
     let added = put_if(first, table, place, sheet::kinds::SUM, to_a, to_a, t);
     put_if(second, table, added, row.kind, to_b, to_b, t)
 }
@@ -112,7 +108,8 @@ fn derivatives(table: &mut [u16], place: usize, variables: u16, row: RowWords, m
         let cleared = put(table, held, kinds::CLEAR, adjoint, 0, 0);
         return parts(table, cleared, variables, row, mark);
     }
-    put(table, place, kinds::CLEAR, adjoint, 0, 0)
+    let cleared = put(table, place, kinds::CLEAR, adjoint, 0, 0);
+    cleared
 }
 
 // An assignment's backward rows: take back d if it is saved, then its derivative rows.
@@ -123,7 +120,8 @@ fn assignment_back(
     row: RowWords,
     mark: u8,
 ) -> usize
-    requires { ⌜ Room (now table) place (assignmentBack variables (rowSaid row) mark) ⌝ ∗ ⌜ Small variables (rowSaid row) ⌝ ∗ ⌜ Assigns (row .kind) ⌝ }
+    requires { ⌜ Room (now table) place (assignmentBack variables (rowSaid row) mark) ⌝
+        ∗ ⌜ Small variables (rowSaid row) ⌝ ∗ ⌜ Assigns (row .kind) ⌝ }
     ensures { λ r. ⌜ Wrote (now (table .entry)) place (assignmentBack variables (rowSaid row) mark) (now (table .exit)) r ⌝ }
 {
     let saved = bit(mark, sets::SAVED);
@@ -161,7 +159,8 @@ pub fn backward_row(
     mark: u8,
     turns: u16,
 ) -> usize
-    requires { ⌜ Room (now table) place (backwardOfLine variables mark turns (lineOfRow (rowSaid row))) ⌝ ∗ ⌜ Says (rowSaid row) ⌝ ∗ ⌜ Small variables (rowSaid row) ⌝ }
+    requires { ⌜ Room (now table) place (backwardOfLine variables mark turns (lineOfRow (rowSaid row))) ⌝
+        ∗ ⌜ Says (rowSaid row) ⌝ ∗ ⌜ Small variables (rowSaid row) ⌝ }
     ensures { λ r. ⌜ Wrote (now (table .entry)) place (backwardOfLine variables mark turns (lineOfRow (rowSaid row))) (now (table .exit)) r ⌝ }
 {
     if row.kind < sheet::kinds::IF {

@@ -14,7 +14,8 @@ use Rattle.table.proofs.plan_of.Tie as tie
 sheet-found : (c : tie.After-note) → let args = c .before .before .before .before .before .args in SomeSheet (args .words .now) (args .shape)
 sheet-found c = accepted-lies _ _ (c .before .before .before .before .before .pre)
 
-rows-readable : (c : tie.After-note) (marks : List ℕ) → limit .rows ≤ length marks → let args = c .before .before .before .before .before .args in Readable (args .words .now) (args .shape) marks
+rows-readable : (c : tie.After-note) (marks : List ℕ) → limit .rows ≤ length marks
+    → let args = c .before .before .before .before .before .args in Readable (args .words .now) (args .shape) marks
 rows-readable c marks long = let lies = sheet-found c .lies in let few = lies .fewRows in readable lies marks (omega arith)
 
 note-requires : tie.Need-note-requires
@@ -27,7 +28,8 @@ needed-requires : tie.Need-needed-requires
 needed-requires c κs = rows-readable (c .before .before .before .before .before .before .before .before .before) _ (omega arith)
 
 needed-requires-2 : tie.Need-needed-requires-2
-needed-requires-2 c κs = rows-readable (c .before .before .before .before .before .before .before .before .before .before .before .before .before .before .before .before) _ (omega arith)
+needed-requires-2 c κs = let noting = c .before .before .before .before .before .before .before .before .before .before .before .before .before .before .before .before in
+    rows-readable noting _ (omega arith)
 
 returns : tie.Need-returns
 returns c =

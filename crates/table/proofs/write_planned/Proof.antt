@@ -28,7 +28,9 @@ returns c =
     let start = c .before .before .before .before .before .before .before .before .before in
     let made = start .pre .0 in
     let buffer = start .args .table .now in
-    let wrote = table-written (planned-lies made) _ _ _ (made .planned .noted) _ buffer _ _ (made .planned .rows) (start .pre .1) (c .before .before .write-table .ensures) in
+    let wrote =
+    table-written (planned-lies made) _ _ _ (made .planned .noted) _ buffer _ _ (made .planned .rows) (start .pre .1)
+    (c .before .before .write-table .ensures) in
     λ sheet e. wrote ∙ ap (λ s. overwritten (tableWords (tableOf s)) buffer) (same-given (sym (made .accepted) ∙ e))
 
 pub write-planned-spec : {M : Type 1} → statement M

@@ -15,7 +15,7 @@ use Rattle.sheet.specs.Rows.{Assignment, Test, _≔_, Source, fixed, SheetLine,
 use Rattle.sheet.specs.declared.Shape.{Shape}
 use Rattle.sets.specs.Transfers.{Activity}
 use Rattle.sets.specs.Marks.{Marked}
-use Rattle.table.specs.TableRows.{Table, linesOf, tableRowOf, wordsOf, rowOfAction, saveTurn, onTurn}
+use Rattle.table.specs.TableRows.{adjointOf, t, u, Table, linesOf, tableRowOf, wordsOf, rowOfAction, saveTurn, onTurn}
 use Rattle.table.specs.Adjoint.{forwardRow, partsOf, derivativeRows, backwardOf}
 
 -- ---- rows in a buffer
@@ -98,6 +98,11 @@ sourceOf r = sourceSaid (lineOfRow r)
 unfoldable pub partRows : (variables : ℕ) → Row → (mark : ℕ) → List Row
 unfolding sourceOf partsOf rowsIn
 partRows v r mark = rowsIn (partsOf v (sourceOf r) anyRow (knownBy mark) done)
+
+-- of these, those of a product for one operand: u := operand × t, and u into the adjoint of the other
+abbrev pub scaledRows : (variables : ℕ) → Bool → (operand other : ℕ) → List Row
+scaledRows v test operand other =
+    rowIf test (row4 5 (u v) operand (t v)) ++ rowIf test (row4 3 (adjointOf v other) (adjointOf v other) (u v))
 
 unfoldable pub derivativesOf : (variables : ℕ) → Row → (mark : ℕ) → List Row
 unfolding sourceOf derivativeRows rowsIn

@@ -29,10 +29,11 @@ returns : tie.Need-returns
 returns c =
     let x = c .before .before .before .before .before .args in
     let parts = c .before .parts-count .ensures in
+    let taken = c .before .before .one .ensures in
     let active = sym (c .before .before .before .bit2 .ensures) ∙ c .if1 .taken in
     record {
-      within = omega (arith, parts .within, c .before .before .one .ensures);
-      is = λ v. omega (arith, active-count v (rowSaid (x .row)) (x .mark) (c .before .before .before .before .bit .ensures) active, c .before .before .one .ensures, parts .is v);
+      within = omega (arith, parts .within, taken);
+      is = λ v. omega (arith, active-count v (rowSaid (x .row)) (x .mark) (c .before .before .before .before .bit .ensures) active, taken, parts .is v);
     }
 
 add-result-3 : tie.Need-add-result-3
@@ -42,10 +43,11 @@ returns-2 : tie.Need-returns-2
 returns-2 c =
     let x = c .before .before .before .before .before .args in
     let parts = c .before .parts-count .ensures in
+    let taken = c .before .before .one .ensures in
     let active = sym (c .before .before .before .bit2 .ensures) ∙ c .if1 .left in
     record {
-      within = omega (arith, parts .within, c .before .before .one .ensures);
-      is = λ v. omega (arith, inactive-count v (rowSaid (x .row)) (x .mark) (c .before .before .before .before .bit .ensures) active, c .before .before .one .ensures, parts .is v);
+      within = omega (arith, parts .within, taken);
+      is = λ v. omega (arith, inactive-count v (rowSaid (x .row)) (x .mark) (c .before .before .before .before .bit .ensures) active, taken, parts .is v);
     }
 
 pub assignment-count-spec : {M : Type 1} → statement M

@@ -25,10 +25,11 @@ returns : tie.Need-returns
 returns c =
     let start = c .before .before .before .before .before in
     let back = c .assignment-count .ensures in
-    let saved = c .before .one .ensures in
+    let forward = c .before .one .ensures in
     record {
-      within = omega (arith, back .within, saved);
-      is = λ v. omega (arith, assignment-both v (start .args .mark) (start .pre) (c .before .before .bit .ensures) (c .before .before .before .if1 .taken), saved, back .is v);
+      within = omega (arith, back .within, forward);
+      is = λ v.
+          omega (arith, assignment-both v (start .args .mark) (start .pre) (c .before .before .bit .ensures) (c .before .before .before .if1 .taken), forward, back .is v);
     }
 
 returns-2 : tie.Need-returns-2
@@ -44,7 +45,11 @@ returns-3 c =
 returns-4 : tie.Need-returns-4
 returns-4 c =
     let start = c .before .before .before .before .before .before in
-    record { within = omega arith; is = λ v. omega (arith, plain-both v (start .args .mark) (start .pre) (c .before .before .before .before .if1 .left) (c .before .before .if2 .left) (c .if3 .left)) }
+    let block = c .before .before .before .before .if1 .left in
+    record {
+      within = omega arith;
+      is = λ v. omega (arith, plain-both v (start .args .mark) (start .pre) block (c .before .before .if2 .left) (c .if3 .left));
+    }
 
 pub row-count-spec : {M : Type 1} → statement M
 row-count-spec =

@@ -22,6 +22,9 @@ Inv-loop words shape marks rows sum₀ p₀ sum p = Counting words shape marks s
 abbrev μ-loop : tie.MeasureT-loop
 μ-loop words shape marks rows sum₀ p₀ sum p = shape .rows - p
 
+abbrev start : tie.In-loop Inv-loop μ-loop → tie.Start Inv-loop μ-loop
+start c = c .before .before .before .before
+
 loop-holds : tie.Need-loop-holds Inv-loop μ-loop
 loop-holds c =
     let x = c .before .before .args in
@@ -35,29 +38,40 @@ row-words-requires : tie.Need-row-words-requires Inv-loop μ-loop
 row-words-requires c κs = search needs
 
 shared-slice-read-row-count : tie.Need-shared-slice-read-row-count Inv-loop μ-loop
-shared-slice-read-row-count c = omega (arith, c .before .before .before .before .before .before .pre .marked, c .before .before .loop-test .taken)
+shared-slice-read-row-count c =
+    let turn = c .before .before in
+    omega (arith, start turn .pre .marked, turn .loop-test .taken)
 
 row-count-requires : tie.Need-row-count-requires Inv-loop μ-loop
-row-count-requires c κs = subst Says (sym (c .before .row-words .ensures)) (c .before .before .before .before .before .before .pre .says _ (c .before .before .loop-test .taken))
+row-count-requires c κs =
+    let read = c .before in
+    let turn = read .before in
+    subst Says (sym (read .row-words .ensures)) (start turn .pre .says _ (turn .loop-test .taken))
 
 add-sum : tie.Need-add-sum Inv-loop μ-loop
-add-sum c = omega (arith, c .before .before .before .before .loop .inv, c .row-count .ensures .within, c .before .before .before .before .before .before .before .pre .few)
+add-sum c =
+    let turn = c .before .before .before in
+    omega (arith, turn .before .loop .inv, c .row-count .ensures .within, start turn .pre .few)
 
 add-p : tie.Need-add-p Inv-loop μ-loop
-add-p c = omega (arith, c .before .before .before .loop-test .taken, c .before .before .before .before .before .before .before .pre .few)
+add-p c =
+    let turn = c .before .before .before in
+    omega (arith, turn .loop-test .taken, start turn .pre .few)
 
 loop-less : tie.Need-loop-less Inv-loop μ-loop
 loop-less c = omega (arith, c .before .before .before .loop-test .taken)
 
 loop-again : tie.Need-loop-again Inv-loop μ-loop
 loop-again c =
-    let turn = c .before .before .before in
-    let sofar = turn .before .loop .inv in
+    let read = c .before .before in
+    let turn = read .before in
+    let below = turn .loop-test .taken in
+    let counting = turn .before .loop .inv in
     let counted = c .row-count .ensures in
     record {
-      within = omega (arith, turn .loop-test .taken);
-      few = omega (arith, sofar .few, counted .within);
-      whole = λ v. count-more v _ _ _ _ _ _ (sofar .whole v) (turn .loop-test .taken) (c .before .before .row-words .ensures) (counted .is v);
+      within = omega arith;
+      few = omega (arith, counting .few, counted .within);
+      whole = λ v. count-more v _ _ _ _ _ _ (counting .whole v) below (read .row-words .ensures) (counted .is v);
     }
 
 returns : tie.Need-returns Inv-loop μ-loop

@@ -9,7 +9,8 @@ use Rattle.table.proofs.needs.after_row.Tie as tie
 returns : tie.Need-returns
 returns c =
     let x = c .before .before .args in
-    λ later counted held. sym (after-before (x .in-hand .0) (x .row .0) later (c .if1 .taken))
+    λ later counted held.
+    sym (after-before (x .in-hand .0) (x .row .0) later (c .if1 .taken))
 
 add-result : tie.Need-add-result
 add-result c = search needs
@@ -23,12 +24,15 @@ shared-slice-read-result c = search needs
 returns-2 : tie.Need-returns-2
 returns-2 c =
     let x = c .before .before .before .before .args in
-    λ later counted held. sym (after-held (x .in-hand .0) (x .row .0) later (c .before .before .if1 .left) (omega (arith, c .before .if2 .taken, c .before .before .if1 .left, counted)) held)
+    let from = c .before .before .if1 .left in
+    λ later counted held.
+    sym (after-held (x .in-hand .0) (x .row .0) later from (omega (arith, c .before .if2 .taken, from, counted)) held)
 
 returns-3 : tie.Need-returns-3
 returns-3 c =
     let x = c .before .before .before .args in
-    λ later counted held. sym (after-beyond (x .in-hand .0) (x .row .0) later (omega (arith, c .if2 .left, c .before .if1 .left, counted)))
+    λ later counted held.
+    sym (after-beyond (x .in-hand .0) (x .row .0) later (omega (arith, c .if2 .left, c .before .if1 .left, counted)))
 
 pub after-row-spec : {M : Type 1} → statement M
 after-row-spec =

@@ -4,7 +4,7 @@ use mathlib.Core.Path.{_≡_, refl, sym, subst}
 use mathlib.Core.List.{List}
 use borrow.Author.Needs.{needs}
 use native.Mathlib.Omega.{arith}
-use lib.ListN.{length, length-set, getD}
+use lib.ListN.{length, getD, length-set}
 use Rattle.sheet.specs.Bounds.{limit}
 use Rattle.sheet.specs.declared.Shape.{Shape}
 use Rattle.table.specs.inner.MarkedRows.{Says}
@@ -25,22 +25,45 @@ Inv-loop stack words shape marks came goes rows sums₀ left₀ sums left = Kept
 abbrev μ-loop : tie.MeasureT-loop
 μ-loop stack words shape marks came goes rows sums₀ left₀ sums left = left
 
-row-there : (c : tie.In-loop Inv-loop μ-loop) → c .before .loop .left - 1 < c .before .before .before .before .before .before .args .shape .rows
-row-there c = omega (arith, c .loop-test .taken, c .before .loop .inv .within)
+abbrev start : tie.In-loop Inv-loop μ-loop → tie.Start Inv-loop μ-loop
+start c = c .before .before .before .before .before .before
+
+-- what a turn knows of its row, the one before `left`
+record RowThere (shape : Shape) (marks sums : List ℕ) (left : ℕ) : Type 0 where
+  some : 0 < left
+  below : left - 1 < shape .rows
+  marked : left - 1 < length marks
+  kept : shape .rows < length sums
+  few : shape .rows ≤ limit .rows
+
+row-there : (c : tie.In-loop Inv-loop μ-loop) → let x = start c .args in RowThere (x .shape) (x .marks .now) (c .before .loop .sums) (c .before .loop .left)
+row-there c =
+    let given = start c .pre in
+    let inv = c .before .loop .inv in
+    let below : c .before .loop .left - 1 < start c .args .shape .rows = omega (arith, c .loop-test .taken, inv .within) in
+    record {
+      some = c .loop-test .taken;
+      below = below;
+      marked = omega (arith, given .marked);
+      kept = omega (arith, given .few, inv .places);
+      few = given .few;
+    }
 
 first-need : (c : tie.After-loop Inv-loop μ-loop) →
     let x = c .before .before .before .before .before .before .args in
     getD (c .before .loop .sums) 0 0 ≡ getD (needsFrom (x .stack) (x .words .now) (x .shape .«first_row») (x .marks .now) (x .came .now) (x .goes .now) 0 (x .shape .rows)) 0 0
-first-need c = let x = c .before .before .before .before .before .before .args in needs-held-all (x .stack) (x .words .now) (x .shape .«first_row») (x .marks .now) (x .came .now) (x .goes .now) _ _ (c .loop-test .left) (c .before .loop .inv .held)
+first-need c =
+    let x = c .before .before .before .before .before .before .args in
+    needs-held-all (x .stack) (x .words .now) (x .shape .«first_row») (x .marks .now) (x .came .now) (x .goes .now) _ _ (c .loop-test .left) (c .before .loop .inv .held)
 
 loop-holds : tie.Need-loop-holds Inv-loop μ-loop
 loop-holds c =
-    let start = c .before .before .before .before in
-    let x = start .args in
+    let x = c .before .before .before .before .args in
+    let few = c .before .before .before .before .pre .few in
     record {
       within = omega arith;
       places = refl;
-      held = needs-held-none (x .stack) (x .words .now) (x .shape .«first_row») (x .marks .now) (x .came .now) (x .goes .now) (limit .rows + 1) (x .shape .rows) _ (omega arith) (omega (arith, start .pre .few));
+      held = needs-held-none (x .stack) (x .words .now) (x .shape .«first_row») (x .marks .now) (x .came .now) (x .goes .now) (limit .rows + 1) (x .shape .rows) _ (omega arith) (omega arith);
     }
 
 sub-q : tie.Need-sub-q Inv-loop μ-loop
@@ -59,49 +82,51 @@ slice-aggregate-after-row : tie.Need-slice-aggregate-after-row Inv-loop μ-loop
 slice-aggregate-after-row c = sym (c .before .before .before .before .before .loop .inv .places)
 
 after-row-requires : tie.Need-after-row-requires Inv-loop μ-loop
-after-row-requires c κs = omega (arith, c .before .before .before .before .before .loop .inv .places, c .before .before .before .before .before .before .before .before .before .before .pre .few)
+after-row-requires c κs = row-there (c .before .before .before .before) .kept
 
 slice-aggregate-after-row-2 : tie.Need-slice-aggregate-after-row-2 Inv-loop μ-loop
 slice-aggregate-after-row-2 c = sym (c .before .before .before .before .before .before .before .loop .inv .places)
 
 after-row-requires-2 : tie.Need-after-row-requires-2 Inv-loop μ-loop
-after-row-requires-2 c κs = omega (arith, c .before .before .before .before .before .before .before .loop .inv .places, c .before .before .before .before .before .before .before .before .before .before .before .before .pre .few)
+after-row-requires-2 c κs = row-there (c .before .before .before .before .before .before) .kept
 
 slice-aggregate-after-row-3 : tie.Need-slice-aggregate-after-row-3 Inv-loop μ-loop
 slice-aggregate-after-row-3 c = sym (c .before .before .before .before .before .before .before .before .before .loop .inv .places)
 
 after-row-requires-3 : tie.Need-after-row-requires-3 Inv-loop μ-loop
-after-row-requires-3 c κs = omega (arith, c .before .before .before .before .before .before .before .before .before .loop .inv .places, c .before .before .before .before .before .before .before .before .before .before .before .before .before .before .pre .few)
+after-row-requires-3 c κs = row-there (c .before .before .before .before .before .before .before .before) .kept
 
 shared-slice-read-of-row : tie.Need-shared-slice-read-of-row Inv-loop μ-loop
-shared-slice-read-of-row c = omega (arith, row-there (c .before .before .before .before .before .before .before .before .before .before), c .before .before .before .before .before .before .before .before .before .before .before .before .before .before .before .before .pre .marked)
+shared-slice-read-of-row c = omega (arith, row-there (c .before .before .before .before .before .before .before .before .before .before))
 
 of-row-requires : tie.Need-of-row-requires Inv-loop μ-loop
-of-row-requires c κs = subst Says (sym (c .before .before .before .before .before .before .before .before .before .row-words .ensures)) (c .before .before .before .before .before .before .before .before .before .before .before .before .before .before .before .before .pre .says _ (row-there (c .before .before .before .before .before .before .before .before .before .before)))
+of-row-requires c κs =
+    let read = c .before .before .before .before .before .before .before .before .before in
+    subst Says (sym (read .row-words .ensures)) (start (read .before) .pre .says _ (row-there (read .before) .below))
 
 mul-sums : tie.Need-mul-sums Inv-loop μ-loop
-mul-sums c = omega (arith, row-there (c .before .before .before .before .before .before .before .before .before .before .before), c .before .before .before .before .before .before .before .before .before .before .before .before .before .before .before .before .before .pre .few)
+mul-sums c = omega (arith, row-there (c .before .before .before .before .before .before .before .before .before .before .before))
 
 array-write-sums : tie.Need-array-write-sums Inv-loop μ-loop
-array-write-sums c = omega (arith, row-there (c .before .before .before .before .before .before .before .before .before .before .before), c .before .before .before .before .before .before .before .before .before .before .before .before .before .before .before .before .before .pre .few)
+array-write-sums c = omega (arith, row-there (c .before .before .before .before .before .before .before .before .before .before .before))
 
 loop-less : tie.Need-loop-less Inv-loop μ-loop
 loop-less c = omega (arith, c .before .before .before .before .before .before .before .before .before .before .before .loop-test .taken)
 
 loop-again : tie.Need-loop-again Inv-loop μ-loop
 loop-again c =
-    let found = c .before .before .before .before .before .before .before .before in
+    let looked = c .before .before .before .before .before .before in
+    let found = looked .before .before in
     let turn = found .before .before .before in
     let kept = turn .before .loop .inv in
-    let start = turn .before .before .before .before .before .before in
-    let x = start .args in
     let there = row-there turn in
+    let x = start turn .args in
     record {
       within = omega (arith, there);
       places = simp length-set (kept .places);
-      held = needs-held-more (x .stack) (x .words .now) (x .shape .«first_row») (x .marks .now) (x .came .now) (x .goes .now) (turn .before .loop .left - 1) _ _ (omega (arith, turn .loop-test .taken)) (kept .within)
-          (omega (arith, there, kept .places, start .pre .few)) (kept .held) (found .before .before .row-words .ensures) (found .before .partner .ensures)
-          (found .block-end .ensures) (c .of-row .ensures) (c .before .before .before .before .before .before .after-row .ensures) (c .before .before .before .before .after-row2 .ensures) (c .before .before .after-row3 .ensures);
+      held = needs-held-more (x .stack) (x .words .now) (x .shape .«first_row») (x .marks .now) (x .came .now) (x .goes .now) (turn .before .loop .left - 1) _ _ (omega (arith, there)) (kept .within) (omega (arith, there))
+          (kept .held) (found .before .before .row-words .ensures) (found .before .partner .ensures) (found .block-end .ensures) (c .of-row .ensures)
+          (looked .after-row .ensures) (c .before .before .before .before .after-row2 .ensures) (c .before .before .after-row3 .ensures);
     }
 
 array-read-result : tie.Need-array-read-result Inv-loop μ-loop

@@ -8,11 +8,13 @@ use Rattle.table.proofs.NeedRows.{assignment-need, if-need, repeat-need
 use Rattle.table.proofs.needs.of_row.Statement.{statement}
 use Rattle.table.proofs.needs.of_row.Tie as tie
 
-body-fits : (c : tie.After-struct-known4) → let x = c .before .before .before .before .before .before .before .args in x .row .a * x .next ≤ greatestWord * greatestWord
+abbrev start : tie.After-struct-known4 → tie.Start
+start c = c .before .before .before .before .before .before .before
+
+body-fits : (c : tie.After-struct-known4) → start c .args .row .a * start c .args .next ≤ greatestWord * greatestWord
 body-fits c =
-    let start = c .before .before .before .before .before .before .before in
-    let turns : start .args .row .a ≤ greatestWord = omega (arith, c .struct-known4) in
-    let next : start .args .next ≤ greatestWord = omega (arith, start .fits) in
+    let turns : start c .args .row .a ≤ greatestWord = omega (arith, c .struct-known4) in
+    let next : start c .args .next ≤ greatestWord = omega (arith, start c .fits) in
     mul-le-mul turns next
 
 of-saved-requires : tie.Need-of-saved-requires
@@ -26,8 +28,9 @@ capped-requires c κs = search needs
 
 returns : tie.Need-returns
 returns c =
-    let x = c .before .before .before .before .args in
-    let need = assignment-need (x .stack) (x .mark) (x .next) (x .second) (x .beyond) (c .before .before .before .before .pre) (c .before .before .if1 .taken) in
+    let begin = c .before .before .before .before in
+    let x = begin .args in
+    let need = assignment-need (x .stack) (x .mark) (x .next) (x .second) (x .beyond) (begin .pre) (c .before .before .if1 .taken) in
     omega (arith, c .capped .ensures, c .before .of-saved .ensures .0, need)
 
 of-branch-requires : tie.Need-of-branch-requires
@@ -47,8 +50,9 @@ capped-requires-2 c κs = search needs
 
 returns-2 : tie.Need-returns-2
 returns-2 c =
-    let x = c .before .before .before .before .before .before .before .args in
-    let need = if-need (x .stack) (x .mark) (x .next) (x .second) (x .beyond) (c .before .before .before .before .before .before .before .pre) (c .before .before .before .if2 .taken) in
+    let begin = c .before .before .before .before .before .before .before in
+    let x = begin .args in
+    let need = if-need (x .stack) (x .mark) (x .next) (x .second) (x .beyond) (begin .pre) (c .before .before .before .if2 .taken) in
     omega (arith, c .capped2 .ensures, c .before .of-branches .ensures, c .before .before .of-branch .ensures .0, need)
 
 cast-body : tie.Need-cast-body
@@ -65,14 +69,17 @@ capped-requires-3 c κs = search needs
 
 returns-3 : tie.Need-returns-3
 returns-3 c =
-    let x = c .before .before .before .before .before .before .before .before .args in
-    let need = repeat-need (x .stack) (x .mark) (x .next) (x .second) (x .beyond) (c .before .before .before .before .before .before .before .before .pre) (c .before .before .if3 .taken) in
+    let begin = c .before .before .before .before .before .before .before .before in
+    let x = begin .args in
+    let need = repeat-need (x .stack) (x .mark) (x .next) (x .second) (x .beyond) (begin .pre) (c .before .before .if3 .taken) in
     omega (arith, c .capped3 .ensures, need)
 
 returns-4 : tie.Need-returns-4
 returns-4 c =
-    let x = c .before .before .before .before .before .before .args in
-    let need = closing-need (x .stack) (x .mark) (x .next) (x .second) (x .beyond) (c .before .before .before .before .before .before .pre) (c .before .before .before .before .if1 .left) (c .before .before .if2 .left) (c .if3 .left) in
+    let begin = c .before .before .before .before .before .before in
+    let x = begin .args in
+    let need = closing-need (x .stack) (x .mark) (x .next) (x .second) (x .beyond)
+    (begin .pre) (c .before .before .before .before .if1 .left) (c .before .before .if2 .left) (c .if3 .left) in
     omega (arith, need)
 
 pub of-row-spec : {M : Type 1} → statement M

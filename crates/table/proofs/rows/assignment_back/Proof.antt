@@ -6,29 +6,38 @@ use Rattle.table.proofs.AssignmentRows.{assignment-rows}
 use Rattle.table.proofs.rows.assignment_back.Statement.{statement}
 use Rattle.table.proofs.rows.assignment_back.Tie as tie
 
+abbrev start : tie.After-bit → tie.Start
+start c = c .before .before
+
 bit-requires : tie.Need-bit-requires
 bit-requires c κs = search needs
 
 put-if-requires : tie.Need-put-if-requires
 put-if-requires c κs =
-    let x = c .before .before .before .args in
-    let rows = assignment-rows (x .variables) (rowSaid (x .row)) (x .mark) (c .before .bit .ensures) in
-    room-first _ _ (rw rows at (c .before .before .before .pre .0))
+    let known = c .before in
+    let x = start known .args in
+    let rows = assignment-rows (x .variables) (rowSaid (x .row)) (x .mark) (known .bit .ensures) in
+    room-first _ _ (rw rows at (start known .pre .0))
 
 derivatives-requires : tie.Need-derivatives-requires
 derivatives-requires c κs =
-    let x = c .before .before .before .before .before .before .before .args in
-    let rows = assignment-rows (x .variables) (rowSaid (x .row)) (x .mark) (c .before .before .before .before .before .bit .ensures) in
-    (room-after _ (c .before .before .before .put-if .ensures) (rw rows at (c .before .before .before .before .before .before .before .pre .0)), c .before .before .before .before .before .before .before .pre .1)
+    let taken = c .before .before .before in
+    let known = taken .before .before in
+    let x = start known .args in
+    let rows = assignment-rows (x .variables) (rowSaid (x .row)) (x .mark) (known .bit .ensures) in
+    (room-after _ (taken .put-if .ensures) (rw rows at (start known .pre .0)), start known .pre .1)
 
 same-length : tie.Need-same-length
 same-length c = search needs
 
 returns : tie.Need-returns
 returns c =
-    let x = c .before .before .before .before .before .before .before .before .before .before .args in
-    let rows = assignment-rows (x .variables) (rowSaid (x .row)) (x .mark) (c .before .before .before .before .before .before .before .before .bit .ensures) in
-    rw rows (wrote-then (c .before .before .before .before .before .before .put-if .ensures) (c .before .before .derivatives .ensures))
+    let done = c .before .before in
+    let taken = done .before .before .before .before in
+    let known = taken .before .before in
+    let x = start known .args in
+    let rows = assignment-rows (x .variables) (rowSaid (x .row)) (x .mark) (known .bit .ensures) in
+    rw rows (wrote-then (taken .put-if .ensures) (done .derivatives .ensures))
 
 pub assignment-back-spec : {M : Type 1} → statement M
 assignment-back-spec =

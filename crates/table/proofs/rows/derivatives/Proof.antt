@@ -1,10 +1,21 @@
 -- `table::rows::derivatives` meets its contract, where the row is active and where it isn't.
 use borrow.Author.Needs.{needs}
-use mathlib.Core.Path.{sym, _∙_}
+use mathlib.Core.Path.{_≡_, sym, _∙_}
+use mathlib.Core.Bool.{true, false}
+use Rattle.table.specs.inner.MarkedRows.{bitOf}
 use Rattle.table.proofs.WritingLaws.{wrote-then, room-first, room-after}
 use Rattle.table.proofs.AssignmentRows.{active-rows, inactive-rows}
 use Rattle.table.proofs.rows.derivatives.Statement.{statement}
 use Rattle.table.proofs.rows.derivatives.Tie as tie
+
+abbrev start : tie.After-bit → tie.Start
+start c = c .before .before .before
+
+is-active : (c : tie.Then1) → bitOf (start (c .before) .args .mark) 4 ≡ true
+is-active c = sym (c .before .bit .ensures) ∙ c .if1 .taken
+
+is-inactive : (c : tie.Else1) → bitOf (start (c .before) .args .mark) 4 ≡ false
+is-inactive c = sym (c .before .bit .ensures) ∙ c .if1 .left
 
 add-adjoint : tie.Need-add-adjoint
 add-adjoint c = search needs
@@ -17,41 +28,49 @@ mul-t c = search needs
 
 put-requires : tie.Need-put-requires
 put-requires c κs =
-    let active = sym (c .before .before .bit .ensures) ∙ c .before .if1 .taken in
-    room-first _ _ (rw active-rows at (c .before .before .before .before .before .pre .0))
+    let active = is-active (c .before) in
+    room-first _ _ (rw active-rows at (start (c .before .before) .pre .0))
 
 put-requires-2 : tie.Need-put-requires-2
 put-requires-2 c κs =
-    let start = c .before .before .before .before .before .before .before .before .before in
-    let active = sym (c .before .before .before .before .before .before .bit .ensures) ∙ c .before .before .before .before .before .if1 .taken in
-    room-first _ _ (room-after _ (c .before .before .before .put .ensures) (rw active-rows at (start .pre .0)))
+    let held = c .before .before .before in
+    let chosen = held .before .before in
+    let active = is-active chosen in
+    room-first _ _ (room-after _ (held .put .ensures) (rw active-rows at (start (chosen .before) .pre .0)))
 
 parts-requires : tie.Need-parts-requires
 parts-requires c κs =
-    let start = c .before .before .before .before .before .before .before .before .before .before .before .before .before in
-    let active = sym (c .before .before .before .before .before .before .before .before .before .before .bit .ensures) ∙ c .before .before .before .before .before .before .before .before .before .if1 .taken in
-    (room-after _ (c .before .before .before .put2 .ensures) (room-after _ (c .before .before .before .before .before .before .before .put .ensures) (rw active-rows at (start .pre .0))), start .pre .1)
+    let cleared = c .before .before .before in
+    let held = cleared .before .before .before .before in
+    let chosen = held .before .before in
+    let active = is-active chosen in
+    let given = start (chosen .before) .pre in
+    (room-after _ (cleared .put2 .ensures) (room-after _ (held .put .ensures) (rw active-rows at (given .0))), given .1)
 
 same-length : tie.Need-same-length
 same-length c = search needs
 
 returns : tie.Need-returns
 returns c =
-    let active = sym (c .before .before .before .before .before .before .before .before .before .before .before .before .before .bit .ensures) ∙ c .before .before .before .before .before .before .before .before .before .before .before .before .if1 .taken in
-    rw active-rows (wrote-then (c .before .before .before .before .before .before .before .before .before .before .put .ensures) (wrote-then (c .before .before .before .before .before .before .put2 .ensures) (c .before .before .parts .ensures)))
+    let done = c .before .before in
+    let cleared = done .before .before .before .before in
+    let held = cleared .before .before .before .before in
+    let active = is-active (held .before .before) in
+    rw active-rows (wrote-then (held .put .ensures) (wrote-then (cleared .put2 .ensures) (done .parts .ensures)))
 
 put-requires-3 : tie.Need-put-requires-3
 put-requires-3 c κs =
-    let inactive = sym (c .before .before .bit .ensures) ∙ c .before .if1 .left in
-    rw inactive-rows at (c .before .before .before .before .before .pre .0)
+    let inactive = is-inactive (c .before) in
+    rw inactive-rows at (start (c .before .before) .pre .0)
 
 same-length-2 : tie.Need-same-length-2
 same-length-2 c = search needs
 
 returns-2 : tie.Need-returns-2
 returns-2 c =
-    let inactive = sym (c .before .before .before .before .before .bit .ensures) ∙ c .before .before .before .before .if1 .left in
-    rw inactive-rows (c .before .before .put3 .ensures)
+    let done = c .before .before in
+    let inactive = is-inactive (done .before .before) in
+    rw inactive-rows (done .put3 .ensures)
 
 pub derivatives-spec : {M : Type 1} → statement M
 derivatives-spec =

@@ -4,7 +4,6 @@ use Prim.Native.Nat.{_<_, _-_}
 use mathlib.Core.Path.{refl, sym, subst}
 use borrow.Author.Needs.{needs}
 use native.Mathlib.Omega.{arith}
-use Rattle.sheet.specs.Rows.{Row}
 use Rattle.table.specs.inner.MarkedRows.{Says, Small, Handed, handed, backwardAll, backwardRows, Visited, Walks}
 use Rattle.table.proofs.WritingLaws.{Underway, underway-start, underway-room, underway-next, underway-end, underway-length, room-first}
 use Rattle.table.proofs.BackwardOver.{backward-next, backward-none, visit-now, walk-on}
@@ -19,10 +18,11 @@ Inv-loop words shape marks came goes table₀ place variables next₀ end₀ lef
 abbrev μ-loop : tie.MeasureT-loop
 μ-loop words shape marks came goes table₀ place variables next₀ end₀ left₀ table next end left = left
 
+abbrev start : tie.In-loop Inv-loop μ-loop → tie.Start Inv-loop μ-loop
+start c = c .before .before .before .before .before .before .before .before
+
 abbrev handedTo : tie.In-loop Inv-loop μ-loop → Handed
-handedTo c =
-    let x = c .before .before .before .before .before .before .before .before .args in
-    handed (x .words .now) (x .shape) (x .marks .now) (x .came .now) (x .goes .now)
+handedTo c = let x = start c .args in handed (x .words .now) (x .shape) (x .marks .now) (x .came .now) (x .goes .now)
 
 visit : (c : tie.In-loop Inv-loop μ-loop) → Visited (handedTo c) (c .before .loop .end)
 visit c = visit-now (handedTo c) _ _ (c .loop-test .taken) (c .before .loop .inv .0)
@@ -43,16 +43,20 @@ turns-back-requires : tie.Need-turns-back-requires Inv-loop μ-loop
 turns-back-requires c κs = search needs
 
 shared-slice-read-backward-row : tie.Need-shared-slice-read-backward-row Inv-loop μ-loop
-shared-slice-read-backward-row c = omega (arith, visit (c .before .before .before .before), c .before .before .before .before .before .before .before .before .before .before .before .before .pre .1 .0 .marked)
+shared-slice-read-backward-row c =
+    let turn = c .before .before .before .before in
+    omega (arith, visit turn, start turn .pre .1 .0 .marked)
 
 backward-row-requires : tie.Need-backward-row-requires Inv-loop μ-loop
 backward-row-requires c κs =
-    let turn = c .before .before .before .before in
-    let given = turn .before .before .before .before .before .before .before .before .pre in
-    let left = backward-next (handedTo turn) _ _ (turn .loop-test .taken) (c .before .before .before .row-words .ensures) (c .before .before .turns-back .ensures) refl in
+    let read = c .before .before .before in
+    let turn = read .before in
+    let is = read .row-words .ensures in
+    let given = start turn .pre in
+    let left = backward-next (handedTo turn) _ _ (turn .loop-test .taken) is (c .before .before .turns-back .ensures) refl in
     let there : turn .before .loop .end - 1 < handedTo turn .rows = omega (arith, visit turn) in (
       room-first _ _ (rw left at (underway-room (turn .before .loop .inv .1) (given .0))),
-      subst (λ r. Says r × Small (handedTo turn .variables) r) (sym (c .before .before .before .row-words .ensures)) (given .1 .0 .says _ there, given .1 .1 .small _ there),
+      subst (λ r. Says r × Small (handedTo turn .variables) r) (sym is) (given .1 .0 .says _ there, given .1 .1 .small _ there),
     )
 
 step-back-requires : tie.Need-step-back-requires Inv-loop μ-loop
@@ -66,11 +70,14 @@ loop-less c = omega (arith, c .before .before .before .before .before .before .b
 
 loop-again : tie.Need-loop-again Inv-loop μ-loop
 loop-again c =
-    let turn = c .before .before .before .before .before .before .before .before in
-    let left = backward-next (handedTo turn) _ _ (turn .loop-test .taken) (c .before .before .before .before .before .before .before .row-words .ensures) (c .before .before .before .before .before .before .turns-back .ensures) (c .step-back .ensures) in (
-      walk-on (handedTo turn) _ _ (turn .loop-test .taken) (c .before .before .before .before .before .before .before .row-words .ensures) (c .step-back .ensures) (turn .before .loop .inv .0),
-      underway-next _ (turn .before .loop .inv .1) left (c .before .before .before .backward-row .ensures),
-    )
+    let read = c .before .before .before .before .before .before .before in
+    let turn = read .before in
+    let held = turn .before .loop .inv in
+    let some = turn .loop-test .taken in
+    let is = read .row-words .ensures in
+    let goes = c .step-back .ensures in
+    let left = backward-next (handedTo turn) _ _ some is (c .before .before .before .before .before .before .turns-back .ensures) goes in
+    (walk-on (handedTo turn) _ _ some is goes (held .0), underway-next _ (held .1) left (c .before .before .before .backward-row .ensures))
 
 same-length : tie.Need-same-length Inv-loop μ-loop
 same-length c = underway-length (c .before .loop .inv .1)

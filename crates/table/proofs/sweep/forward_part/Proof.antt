@@ -17,6 +17,9 @@ Inv-loop words shape marks table₀ place rows next₀ p₀ table next p =
 abbrev μ-loop : tie.MeasureT-loop
 μ-loop words shape marks table₀ place rows next₀ p₀ table next p = shape .rows - p
 
+abbrev start : tie.In-loop Inv-loop μ-loop → tie.Start Inv-loop μ-loop
+start c = c .before .before .before .before .before
+
 loop-holds : tie.Need-loop-holds Inv-loop μ-loop
 loop-holds c =
     let x = c .before .before .before .args in
@@ -26,30 +29,37 @@ row-words-requires : tie.Need-row-words-requires Inv-loop μ-loop
 row-words-requires c κs = search needs
 
 shared-slice-read-forward-row : tie.Need-shared-slice-read-forward-row Inv-loop μ-loop
-shared-slice-read-forward-row c = omega (arith, c .before .before .before .before .before .before .before .before .pre .1 .marked, c .before .before .before .loop-test .taken)
+shared-slice-read-forward-row c =
+    let turn = c .before .before .before in
+    omega (arith, start turn .pre .1 .marked, turn .loop-test .taken)
 
 forward-row-requires : tie.Need-forward-row-requires Inv-loop μ-loop
 forward-row-requires c κs =
-    let turn = c .before .before .before in
-    let x = turn .before .before .before .before .before .args in
-    let left = forward-next (x .words .now) (x .shape .«first_row») (x .marks .now) _ (x .shape .rows) (turn .loop-test .taken) (c .before .before .row-words .ensures) in
-    let given = turn .before .before .before .before .before .pre in (
-      room-first _ _ (rw left at (underway-room (turn .before .loop .inv .1) (given .0))),
-      subst Says (sym (c .before .before .row-words .ensures)) (given .1 .says _ (turn .loop-test .taken)),
-    )
+    let read = c .before .before in
+    let turn = read .before in
+    let x = start turn .args in
+    let given = start turn .pre in
+    let below = turn .loop-test .taken in
+    let is = read .row-words .ensures in
+    let left = forward-next (x .words .now) (x .shape .«first_row») (x .marks .now) _ (x .shape .rows) below is in
+    (room-first _ _ (rw left at (underway-room (turn .before .loop .inv .1) (given .0))), subst Says (sym is) (given .1 .says _ below))
 
 add-p : tie.Need-add-p Inv-loop μ-loop
-add-p c = omega (arith, c .before .before .before .before .before .before .loop-test .taken, c .before .before .before .before .before .before .before .before .before .before .before .pre .1 .few)
+add-p c =
+    let turn = c .before .before .before .before .before .before in
+    omega (arith, turn .loop-test .taken, start turn .pre .1 .few)
 
 loop-less : tie.Need-loop-less Inv-loop μ-loop
 loop-less c = omega (arith, c .before .before .before .before .before .before .loop-test .taken)
 
 loop-again : tie.Need-loop-again Inv-loop μ-loop
 loop-again c =
-    let turn = c .before .before .before .before .before .before in
-    let x = turn .before .before .before .before .before .args in
-    let left = forward-next (x .words .now) (x .shape .«first_row») (x .marks .now) _ (x .shape .rows) (turn .loop-test .taken) (c .before .before .before .before .before .row-words .ensures) in
-    (omega (arith, turn .loop-test .taken), underway-next _ (turn .before .loop .inv .1) left (c .before .before .forward-row .ensures))
+    let read = c .before .before .before .before .before in
+    let turn = read .before in
+    let x = start turn .args in
+    let below = turn .loop-test .taken in
+    let left = forward-next (x .words .now) (x .shape .«first_row») (x .marks .now) _ (x .shape .rows) below (read .row-words .ensures) in
+    (omega arith, underway-next _ (turn .before .loop .inv .1) left (c .before .before .forward-row .ensures))
 
 same-length : tie.Need-same-length Inv-loop μ-loop
 same-length c = underway-length (c .before .loop .inv .1)
@@ -57,7 +67,8 @@ same-length c = underway-length (c .before .loop .inv .1)
 returns : tie.Need-returns Inv-loop μ-loop
 returns c =
     let x = c .before .before .before .before .before .args in
-    underway-end (c .before .loop .inv .1) (forward-none (x .words .now) (x .shape .«first_row») (x .marks .now) _ (x .shape .rows) (c .loop-test .left))
+    let none = forward-none (x .words .now) (x .shape .«first_row») (x .marks .now) _ (x .shape .rows) (c .loop-test .left) in
+    underway-end (c .before .loop .inv .1) none
 
 pub forward-part-spec : {M : Type 1} → statement M
 forward-part-spec =

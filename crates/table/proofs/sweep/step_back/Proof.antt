@@ -24,7 +24,9 @@ partner-requires-2 c κs = search needs
 
 returns-3 : tie.Need-returns-3
 unfolding stepBack
-returns-3 c = simp (ne-eqb _ _ (c .before .before .before .if1 .left), ne-eqb _ _ (c .before .before .if2 .left), eq-eqb _ _ (c .before .if3 .taken)) (c .partner2 .ensures)
+returns-3 c =
+    let chosen = c .before in
+    simp (ne-eqb _ _ (chosen .before .before .if1 .left), ne-eqb _ _ (chosen .before .if2 .left), eq-eqb _ _ (chosen .if3 .taken)) (c .partner2 .ensures)
 
 returns-4 : tie.Need-returns-4
 unfolding stepBack

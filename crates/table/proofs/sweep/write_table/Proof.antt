@@ -40,7 +40,8 @@ same-length c =
     let back = c .before .before in
     let turned = back .before .before .before .before in
     let forward = turned .before .before .before .before in
-    wrote-length (back .backward-part .ensures) ∙ wrote-length (turned .put .ensures) ∙ wrote-length (forward .forward-part .ensures) ∙ simp length-set
+    wrote-length (back .backward-part .ensures) ∙ wrote-length (turned .put .ensures)
+    ∙ wrote-length (forward .forward-part .ensures) ∙ simp length-set
 
 returns : tie.Need-returns
 unfolding wholeRows
