@@ -2,7 +2,7 @@
 use Prim.Native.Nat.{ℕ, suc, _+_, _*_, _-_, _≤_}
 use mathlib.Core.Path.{_≡_, refl, ap, _∙_}
 use mathlib.Core.Bool.{true, false}
-use mathlib.Core.List.{List, []}
+use mathlib.Core.List.{List}
 use native.Mathlib.Nat.{mul-le-mul-left, mul-left-comm}
 use native.Mathlib.Omega.{arith}
 use Rattle.number.specs.Arithmetic.{Arithmetic}
@@ -16,10 +16,10 @@ use Rattle.sets.specs.Marks.{marked, markBy, varied, useful, required}
 use Rattle.table.specs.TableRows.{Table, saveTurn, turnRound, onTurn, turning, ofTurningRound, linesOf}
 use Rattle.table.specs.Adjoint.{Body, put, forwardPart, backwardOf, backwardPart, adjointTable, tableOf}
 use Rattle.table.proofs.TableBounds.{EachRow, backward-row, forward-row, marked-run}
-use Rattle.run.specs.Actions.{Memory, Setting}
+use Rattle.run.specs.Actions.{Setting}
 use Rattle.run.specs.Machine.{stepsOf, runFor}
 use Rattle.run.specs.Calls.{startOf, runOf}
-use Rattle.run.proofs.MachineFollows.{atRow, more-fuel-same, fuel-suffices}
+use Rattle.run.proofs.MachineFollows.{more-fuel-same, fuel-suffices}
 
 -- ---- steps
 
@@ -69,23 +69,15 @@ sheet-steps-within words sheet e =
 
 -- ---- fuel
 
-module _ (A : Arithmetic) (setting : Setting A) where
-  pub enough-fuel-same : (table : Table) (memory : Memory A) (steps : ℕ) → suc (stepsOf table) ≤ steps
-      → runFor A steps setting (linesOf table) (atRow A 0 [] memory) ≡ runOf A table setting (atRow A 0 [] memory)
-  unfolding runOf
-  enough-fuel-same table memory steps h =
-      let all : steps ≡ suc (stepsOf table) + (steps - suc (stepsOf table)) = omega arith in
-      ap (λ n. runFor A n setting (linesOf table) (atRow A 0 [] memory)) all
-      ∙ more-fuel-same A setting (linesOf table) (suc (stepsOf table)) (steps - suc (stepsOf table)) (atRow A 0 [] memory)
-      (fuel-suffices A table setting memory)
-
-  pub sheet-fuel-same : (sheet : Sheet) (starts : List (A .Carrier)) (steps : ℕ) → suc (stepsOf (tableOf sheet)) ≤ steps
-      → runFor A steps setting (linesOf (tableOf sheet)) (startOf A sheet starts) ≡ runOf A (tableOf sheet) setting (startOf A sheet starts)
-  unfolding startOf
-  sheet-fuel-same sheet starts steps h = enough-fuel-same (tableOf sheet) (startOf A sheet starts .memory) steps h
-
-  -- so a number of steps that suffices for every accepted sheet
-  pub accepted-fuel-same : (words : List ℕ) (sheet : Sheet) → read words ≡ given sheet → (starts : List (A .Carrier)) (steps : ℕ)
-      → 10 * limit .longestRun + 2 ≤ steps
-      → runFor A steps setting (linesOf (tableOf sheet)) (startOf A sheet starts) ≡ runOf A (tableOf sheet) setting (startOf A sheet starts)
-  accepted-fuel-same words sheet e starts steps h = sheet-fuel-same sheet starts steps (omega (arith, sheet-steps-within words sheet e))
+-- a number of steps that suffices for every accepted sheet
+pub accepted-fuel-same : (A : Arithmetic) (setting : Setting A) (words : List ℕ) (sheet : Sheet) → read words ≡ given sheet
+    → (starts : List (A .Carrier)) (steps : ℕ) → 10 * limit .longestRun + 2 ≤ steps
+    → runFor A steps setting (linesOf (tableOf sheet)) (startOf A sheet starts) ≡ runOf A (tableOf sheet) setting (startOf A sheet starts)
+unfolding runOf startOf
+accepted-fuel-same A setting words sheet e starts steps h =
+    let table = tableOf sheet in
+    let start = startOf A sheet starts in
+    let fuel = suc (stepsOf table) in
+    let all : steps ≡ fuel + (steps - fuel) = omega (arith, sheet-steps-within words sheet e) in
+    ap (λ n. runFor A n setting (linesOf table) start) all
+    ∙ more-fuel-same A setting (linesOf table) fuel (steps - fuel) start (fuel-suffices A table setting (start .memory))

@@ -3,26 +3,34 @@ use Prim.Native.Nat.{ℕ, suc, _+_, _*_, _-_, _≤_}
 use mathlib.Core.Path.{_≡_, sym, ap, _∙_}
 use mathlib.Core.List.{List}
 use native.Mathlib.Omega.{arith}
-use lib.ListN.{length, take, drop}
+use lib.ListN.{length, take, drop, replicate, length-drop, length-replicate, replicate-append-replicate}
+use lib.Seq.{length-take-le, take-at}
 use Rattle.number.specs.Arithmetic.{Arithmetic}
 use Rattle.sheet.specs.Bounds.{limit}
 use Rattle.sheet.specs.Refusals.{given}
 use Rattle.sheet.specs.Tree.{rows}
-use Rattle.sheet.specs.Reading.{Sheet, variablesOf, read}
+use Rattle.sheet.specs.Reading.{Sheet, read}
 use Rattle.sheet.specs.Answers.{shapeOf}
 use Rattle.sheet.specs.declared.Shape.{Shape}
 use Rattle.sheet.proofs.RowsCounted.{lines-counted}
 use Rattle.sheet.proofs.ReadingParts.{accepted}
 use Rattle.sheet.proofs.NamesPresent.{counts, count-judged}
-use Rattle.table.specs.TableRows.{linesOf}
+use Rattle.table.specs.TableRows.{linesOf, tableVariables}
 use Rattle.table.specs.Adjoint.{tableOf}
 use Rattle.table.specs.Sizes.{tableRows, mostTableRows}
 use Rattle.table.specs.declared.Plan.{Plan}
 use Rattle.run.specs.inner.Runnable.{Holds}
 use Rattle.run.specs.inner.JumpsFound.{JumpsOf}
-use Rattle.run.specs.inner.CallAnswers.{Ready, Written}
-use Rattle.run.proofs.Fuel.{sheet-steps-within}
+use Rattle.run.specs.inner.CallSteps.{HasRoom}
+use Rattle.run.specs.inner.CallAnswers.{Written, SheetRoom, Ready, RunRoom}
 use Rattle.run.proofs.TableHeld.{table-holds, table-rows-within}
+
+-- the first of so many zeros are zeros
+take-zeros : {X : Type 0} (n m : ℕ) (zero : X) → n ≤ m → take n (replicate m zero) ≡ replicate n zero
+take-zeros n m zero h =
+    let split : m ≡ n + (m - n) = omega arith in
+    ap (λ k. take n (replicate k zero)) split ∙ ap (take n) (sym (replicate-append-replicate n (m - n) zero))
+    ∙ take-at (replicate n zero) (replicate (m - n) zero) n (length-replicate n zero)
 
 pub record Sections (words : List ℕ) (shape : Shape) (sheet : Sheet) : Type 0 where
   pub few : shape .variables ≤ limit .variables
@@ -31,7 +39,6 @@ pub record Sections (words : List ℕ) (shape : Shape) (sheet : Sheet) : Type 0 
   pub constantsWithin : 2 + shape .variables + shape .constants ≤ length words
   pub rolesAre : take (shape .variables) (drop 1 words) ≡ sheet .roles
   pub constantsAre : take (shape .constants) (drop (2 + shape .variables) words) ≡ sheet .constants
-  pub variables : shape .variables ≡ variablesOf sheet
 
 pub sections : (words : List ℕ) (shape : Shape) (sheet : Sheet) → read words ≡ given sheet → shape ≡ shapeOf sheet → Sections words shape sheet
 unfolding shapeOf
@@ -49,17 +56,28 @@ sections words shape sheet read is =
       constantsWithin = omega (arith, ks .there);
       rolesAre = rw v (sym (parts .roles));
       constantsAre = rw (v, k) (ap (λ n. take (parts .k) (drop n words)) (sym place) ∙ sym (parts .constants));
-      variables = ap (λ (s : Shape). s .variables) is;
     }
 
-module _ (A : Arithmetic) (words : List ℕ) (plan : Plan) (table : List ℕ) (starts seeds result : List (A .Carrier))
-    (written : Written A words plan table starts seeds result) where
-  pub read-off : Sections words (plan .shape) (written .sheet)
-  read-off = sections words (plan .shape) (written .sheet) (written .accepted) (written .shape)
+-- what the plan's lengths leave room for
+pub sheet-room : {X : Type 0} {words : List ℕ} {t n m : ℕ} {marks came goes : List ℕ} {plan : Plan} (starts seeds result : List X)
+    → HasRoom words
+    (record { table = t; values = n; turns = m; starts = length starts; seeds = length seeds; result = length result }) marks came goes plan
+    → SheetRoom words plan starts seeds result
+sheet-room {words} {plan} starts seeds result room =
+    let made = room .made in
+    let parts = sections words (plan .shape) (made .sheet) (made .accepted) (made .planned .shape) in
+    record {
+      few = parts .few;
+      fewConstants = parts .fewConstants;
+      first = parts .first;
+      within = parts .constantsWithin;
+      fewRows = omega (arith, made .planned .rows, table-rows-within words (made .sheet) (made .accepted));
+      startsFit = room .startsFit;
+      seedsFit = room .seedsFit;
+      resultFits = room .resultFits;
+    }
 
-  pub rows-few : plan .rows ≤ mostTableRows
-  rows-few = omega (arith, written .rows, table-rows-within words (written .sheet) (written .accepted))
-
+module _ (words : List ℕ) (plan : Plan) where
   abbrev pub shape : Shape
   shape = plan .shape
 
@@ -69,37 +87,43 @@ module _ (A : Arithmetic) (words : List ℕ) (plan : Plan) (table : List ℕ) (s
   abbrev pub constantsPart : List ℕ
   constantsPart = take (shape .«first_constant» + shape .constants - shape .«first_constant») (drop (shape .«first_constant») words)
 
-  pub roles-are : rolesPart ≡ written .sheet .roles
-  roles-are =
-      let all : 1 + shape .variables - 1 ≡ shape .variables = omega arith in
-      ap (λ n. take n (drop 1 words)) all ∙ read-off .rolesAre
-
-  pub constants-are : constantsPart ≡ written .sheet .constants
-  constants-are =
-      let first = shape .«first_constant» in
-      let all : first + shape .constants - first ≡ shape .constants = omega arith in
-      ap (λ n. take n (drop first words)) all ∙ ap (λ n. take (shape .constants) (drop n words)) (read-off .first) ∙ read-off .constantsAre
-
-  -- as many steps as suffice for any sheet
-  unfoldable pub ready-to-run : (beyond : List ℕ) → JumpsOf table (plan .rows) beyond
-      → Ready A rolesPart constantsPart table (plan .rows) beyond (10 * limit .longestRun + 2) starts seeds result
-  unfolding tableRows linesOf tableOf
-  ready-to-run beyond found =
-      let sheet = written .sheet in
-      let counted : rows (tableOf sheet) ≡ plan .rows = sym (written .rows) in
-      let holds : Holds table (linesOf (tableOf sheet)) = rw (written .written) (table-holds (tableOf sheet) (written .buffer)) in
+  -- the first places of an array of zeros, and of another array
+  pub run-room : (A : Arithmetic) {starts seeds result : List (A .Carrier)} → SheetRoom words plan starts seeds result
+      → (zeros : ℕ) → tableVariables (limit .variables) ≤ zeros → (copied : List (A .Carrier)) → limit .variables ≤ length copied
+      → RunRoom A rolesPart starts seeds (take (tableVariables (shape .variables)) (replicate zeros (A .zero))) (take (shape .variables) copied) result
+  run-room A room zeros enough copied enoughToo =
+      let v = shape .variables in
+      let few = room .few in
+      let within = room .within in
+      let part : 1 + v - 1 ≡ v = omega arith in
+      let roles : length rolesPart ≡ v = ap (λ n. length (take n (drop 1 words))) part ∙ length-take-le v (drop 1 words) (omega (arith, length-drop 1 words)) in
+      let store = length-take-le (tableVariables v) (replicate zeros (A .zero)) (omega (arith, length-replicate zeros (A .zero))) in
       record {
-        sheet = sheet;
+        startsFit = room .startsFit ∙ sym roles;
+        seedsFit = room .seedsFit ∙ sym roles;
+        storeFits = store ∙ ap tableVariables (sym roles);
+        zeros = rw store (take-zeros (tableVariables v) zeros (A .zero) (omega arith));
+        copiedFits = length-take-le v copied (omega arith) ∙ sym roles;
+        resultFits = room .resultFits ∙ ap (λ n. 2 * n) (sym roles);
+      }
+
+  pub ready-to-run : {table beyond : List ℕ} {sheet : Sheet} {buffer : List ℕ} → Written words plan table sheet buffer
+      → JumpsOf table (plan .rows) beyond → Ready sheet rolesPart constantsPart table (plan .rows) beyond
+  unfolding tableRows linesOf tableOf
+  ready-to-run {table} {sheet} {buffer} written found =
+      let parts = sections words shape sheet (written .accepted) (written .shape) in
+      let first = shape .«first_constant» in
+      let roles : 1 + shape .variables - 1 ≡ shape .variables = omega arith in
+      let constants : first + shape .constants - first ≡ shape .constants = omega arith in
+      let counted : rows (tableOf sheet) ≡ plan .rows = sym (written .rows) in
+      let holds : Holds table (linesOf (tableOf sheet)) = rw (written .written) (table-holds (tableOf sheet) buffer) in
+      record {
         words = words;
         accepted = written .accepted;
-        rolesAre = roles-are;
-        constantsAre = constants-are;
+        rolesAre = ap (λ n. take n (drop 1 words)) roles ∙ parts .rolesAre;
+        constantsAre =
+            ap (λ n. take n (drop first words)) constants ∙ ap (λ n. take (shape .constants) (drop n words)) (parts .first) ∙ parts .constantsAre;
         holds = holds;
         counted = lines-counted (tableOf sheet) ∙ counted;
         jumps = found (tableOf sheet) counted holds;
-        enough = omega (arith, sheet-steps-within words sheet (written .accepted));
-        few = omega (arith, read-off .few, read-off .variables);
-        startsFit = written .startsFit;
-        seedsFit = written .seedsFit;
-        resultFits = written .resultFits;
       }

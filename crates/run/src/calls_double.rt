@@ -1,16 +1,16 @@
 // The call that runs a sheet in doubles.
 ghost use mathlib.Core.Path.{_≡_};
 ghost use mathlib.Core.List.{List};
-ghost use Prim.Native.Nat.{ℕ, _≤_};
-ghost use lib.ListN.{length, replicate};
+ghost use Prim.Native.Nat.{ℕ};
 ghost use Rattle.number.specs.Doubles.{doubles};
-ghost use Rattle.table.specs.inner.Plans.{PlanSays};
+ghost use Rattle.sheet.specs.Reading.{Sheet};
 ghost use Rattle.run.specs.Calls.{run, lentOf, ranOf};
-ghost use Rattle.run.specs.inner.CallSteps.{ResultFits, loaded};
-ghost use Rattle.run.specs.inner.RunsRows.{cellsOf};
-ghost use Rattle.run.specs.inner.CallAnswers.{endedAs, RunsCleared, Ready, RunRoom, Written, RanTo};
+ghost use Rattle.run.specs.inner.CallSteps.{ResultFits, resultAt};
+ghost use Rattle.run.specs.inner.CallAnswers.{StacksCleared, RunRoom, Ready, SheetRoom, Written, RanTo};
 use super::Ended;
 use super::Fit;
+use super::Judged;
+use super::Rooms;
 use super::buffers;
 use super::doubles;
 use super::jumps;
@@ -20,64 +20,49 @@ use sheet::MAX_VARIABLES;
 use table::Answer;
 use table::MAX_TABLE_ROWS;
 use table::Plan;
-use table::Planned;
-
-// What a run's end makes of the answer and of the result.
-fn end_run(end: Ended, roles: &[u16], copied: &[f64], store: &[f64], result: &mut [f64]) -> Answer
-    requires { ⌜ ResultFits (now roles) (now copied) (now store) (now result) ⌝ }
-    ensures { λ r. ⌜ record { number = r .number; place = r .place; result = now (result .exit) }
-        ≡ endedAs doubles end (now (roles .entry)) (now (copied .entry)) (now (store .entry)) (now (result .entry)) ⌝ }
-{
-    match end {
-        Ended::Finished => {
-            buffers::write_doubles(roles, copied, store, result);
-            return Answer {
-                number: table::DONE,
-                place: 0,
-            };
-        }
-        Ended::Stopped(row) => {
-            return Answer {
-                number: refusals::NOT_FINITE_RESULT,
-                place: row.0,
-            };
-        }
-        Ended::Stuck => {
-            return Answer {
-                number: refusals::STUCK,
-                place: 0,
-            };
-        }
-    }
-}
 
 fn clear_stacks(values: &mut [f64], turns: &mut [u16])
-    ensures { λ r. ⌜ (now (values .exit) ≡ replicate (length (now (values .entry))) (doubles .zero)) × (now (turns .exit)
-        ≡ replicate (length (now (turns .entry))) 0) ⌝ }
+    ensures { λ r. ⌜ StacksCleared doubles (now (values .entry)) (now (turns .entry)) (now (values .exit)) (now (turns .exit)) ⌝ }
 {
     buffers::clear_doubles(values);
     buffers::clear_turns(turns);
 }
 
-// The rows' run between empty stacks.
-fn run_cleared(
+// A run that has finished has a result; any other leaves it as it was.
+fn write_result(end: Ended, roles: &[u16], copied: &[f64], store: &[f64], result: &mut [f64])
+    requires { ⌜ ResultFits (now roles) (now copied) (now store) (now result) ⌝ }
+    ensures { λ r. ⌜ now (result .exit)
+        ≡ resultAt doubles end (now (roles .entry)) (now (copied .entry)) (now (store .entry)) (now (result .entry)) ⌝ }
+{
+    match end {
+        Ended::Finished => buffers::write_doubles(roles, copied, store, result),
+        Ended::Stopped(_) => {}
+        Ended::Stuck => {}
+    }
+}
+
+// The run itself, between empty stacks, from the start values to the result, in a store of zeros and with room for the copies.
+fn run_in(
     roles: &[u16],
     constants: &[u16],
     table: &[u16],
     rows: usize,
-    beyond: &[u16],
-    steps: usize,
+    beyond: &[u16; MAX_TABLE_ROWS],
     values: &mut [f64],
     turns: &mut [u16],
+    starts: &[f64],
     seeds: &[f64],
     store: &mut [f64],
     copied: &mut [f64],
-) -> Ended
-    ensures { λ r. ⌜ RunsCleared doubles (now (table .entry)) rows (now (beyond .entry)) (now (roles .entry)) (now (constants .entry))
-        (now (seeds .entry)) steps
-        (cellsOf doubles (now (store .entry)) (now (values .entry)) (now (turns .entry)) (now (copied .entry)))
-        (cellsOf doubles (now (store .exit)) (now (values .exit)) (now (turns .exit)) (now (copied .exit))) r ⌝ }
+    result: &mut [f64],
+) -> Answer
+    requires { ⌜ RunRoom doubles (now roles) (now starts) (now seeds) (now store) (now copied) (now result) ⌝ }
+    ensures { λ r. ⌜ ((sheet : Sheet) (buffer : List ℕ)
+        → Ready sheet (now (roles .entry)) (now (constants .entry)) (now (table .entry)) rows (now (beyond .entry))
+        → RanTo doubles sheet buffer (now (starts .entry)) (now (seeds .entry)) (now (values .entry)) (now (turns .entry)) (now (result .entry))
+        r (now (values .exit)) (now (turns .exit)) (now (result .exit))) ⌝ }
 {
+    buffers::copy_doubles(starts, store);
     clear_stacks(values, turns);
     let end = doubles::run_rows(
         table,
@@ -90,100 +75,11 @@ fn run_cleared(
         values,
         turns,
         copied,
-        steps,
+        buffers::STEPS,
     );
     clear_stacks(values, turns);
-    end
-}
-
-// "Until then adjoints, t and u are 0."
-fn load(starts: &[f64], store: &mut [f64])
-    requires { ⌜ length (now starts) ≤ length (now store) ⌝ }
-    ensures { λ r. ⌜ now (store .exit) ≡ loaded doubles (now (starts .entry)) (length (now (store .entry))) ⌝ }
-{
-    buffers::clear_doubles(store);
-    buffers::copy_doubles(starts, store);
-}
-
-// The run itself, from the start values to the result, in a store and with room for the copies of a run's sizes.
-fn run_in(
-    roles: &[u16],
-    constants: &[u16],
-    table: &[u16],
-    rows: usize,
-    beyond: &[u16],
-    steps: usize,
-    values: &mut [f64],
-    turns: &mut [u16],
-    starts: &[f64],
-    seeds: &[f64],
-    store: &mut [f64],
-    copied: &mut [f64],
-    result: &mut [f64],
-) -> Answer
-    requires { ⌜ Ready doubles (now roles) (now constants) (now table) rows (now beyond) steps (now starts) (now seeds) (now result) ⌝
-        ∗ ⌜ RunRoom doubles (now roles) (now store) (now copied) ⌝ }
-    ensures { λ r. ⌜ ((ready : Ready doubles (now (roles .entry)) (now (constants .entry)) (now (table .entry)) rows
-        (now (beyond .entry)) steps (now (starts .entry)) (now (seeds .entry)) (now (result .entry))) (buffer : List ℕ)
-        → RanTo doubles (ready .sheet) buffer (now (starts .entry)) (now (seeds .entry)) (now (values .entry)) (now (turns .entry))
-        (now (result .entry)) r (now (values .exit)) (now (turns .exit)) (now (result .exit))) ⌝ }
-{
-    load(starts, store);
-    let end = run_cleared(
-        roles,
-        constants,
-        table,
-        rows,
-        beyond,
-        steps,
-        values,
-        turns,
-        seeds,
-        store,
-        copied,
-    );
-    end_run(end, roles, copied, store, result)
-}
-
-// The same with a store and room of its own.
-fn run_sections(
-    roles: &[u16],
-    constants: &[u16],
-    table: &[u16],
-    rows: usize,
-    beyond: &[u16; MAX_TABLE_ROWS],
-    steps: usize,
-    values: &mut [f64],
-    turns: &mut [u16],
-    starts: &[f64],
-    seeds: &[f64],
-    result: &mut [f64],
-) -> Answer
-    requires { ⌜ Ready doubles (now roles) (now constants) (now table) rows (now beyond) steps (now starts) (now seeds) (now result) ⌝ }
-    ensures { λ r. ⌜ ((ready : Ready doubles (now (roles .entry)) (now (constants .entry)) (now (table .entry)) rows
-        (now (beyond .entry)) steps (now (starts .entry)) (now (seeds .entry)) (now (result .entry))) (buffer : List ℕ)
-        → RanTo doubles (ready .sheet) buffer (now (starts .entry)) (now (seeds .entry)) (now (values .entry)) (now (turns .entry))
-        (now (result .entry)) r (now (values .exit)) (now (turns .exit)) (now (result .exit))) ⌝ }
-{
-    let variables = roles.len();
-    let size = 2 * variables + 2;
-    let mut store = [0.0; buffers::STORE];
-    let mut copied = [0.0; MAX_VARIABLES];
-    run_in(
-        roles,
-        constants,
-        table,
-        rows,
-        beyond,
-        steps,
-        values,
-        turns,
-        starts,
-        seeds,
-        &mut store[..size],
-        &mut copied[..variables],
-        result,
-    )
+    write_result(end, roles, copied, store, result);
+    refusals::answer_end(end)
 }
 
 // The run of a sheet whose table has been written.
@@ -197,71 +93,36 @@ fn run_written(
     seeds: &[f64],
     result: &mut [f64],
 ) -> Answer
-    requires { ⌜ Written doubles (now words) plan (now table) (now starts) (now seeds) (now result) ⌝ }
-    ensures { λ r. ⌜ ((written : Written doubles (now (words .entry)) plan (now (table .entry)) (now (starts .entry)) (now (seeds .entry))
-        (now (result .entry)))
-        → RanTo doubles (written .sheet) (written .buffer) (now (starts .entry)) (now (seeds .entry)) (now (values .entry))
-        (now (turns .entry)) (now (result .entry))
+    requires { ⌜ SheetRoom (now words) plan (now starts) (now seeds) (now result) ⌝ }
+    ensures { λ r. ⌜ ((sheet : Sheet) (buffer : List ℕ) → Written (now (words .entry)) plan (now (table .entry)) sheet buffer
+        → RanTo doubles sheet buffer (now (starts .entry)) (now (seeds .entry)) (now (values .entry)) (now (turns .entry)) (now (result .entry))
         r (now (values .exit)) (now (turns .exit)) (now (result .exit))) ⌝ }
 {
     let shape = plan.shape;
     let rows = plan.rows;
-    let roles_end = 1 + shape.variables;
+    let variables = shape.variables;
+    let roles_end = 1 + variables;
     let first_constant = shape.first_constant;
     let constants_end = first_constant + shape.constants;
+    let size = 2 * variables + 2;
     let mut beyond = [0u16; MAX_TABLE_ROWS];
+    let mut store = [0.0; buffers::STORE];
+    let mut copied = [0.0; MAX_VARIABLES];
     jumps::find_jumps(table, rows, &mut beyond);
-    run_sections(
+    run_in(
         &words[1..roles_end],
         &words[first_constant..constants_end],
         table,
         rows,
         &beyond,
-        buffers::STEPS,
         values,
         turns,
         starts,
         seeds,
+        &mut store[..size],
+        &mut copied[..variables],
         result,
     )
-}
-
-// Refusals 8 to 11, and then the run.
-fn run_planned(
-    words: &[u16],
-    plan: Plan,
-    marks: &[u8; MAX_ROWS],
-    came: &[u16; MAX_ROWS],
-    goes: &[u16; MAX_ROWS],
-    table: &mut [u16],
-    values: &mut [f64],
-    turns: &mut [u16],
-    starts: &[f64],
-    seeds: &[f64],
-    result: &mut [f64],
-) -> Answer
-    requires { ⌜ PlanSays (now words) (now marks) (now came) (now goes) (Planned.Made plan) ⌝ }
-    ensures { λ r. ⌜ ranOf doubles r (lentOf doubles (now (table .exit)) (now (values .exit)) (now (turns .exit)) (now (result .exit)))
-        ≡ run doubles (now (words .entry)) (now (starts .entry)) (now (seeds .entry)) (lentOf doubles (now (table .entry))
-        (now (values .entry)) (now (turns .entry)) (now (result .entry))) ⌝ }
-{
-    let fit = refusals::rooms_fit(
-        plan,
-        table.len(),
-        values.len(),
-        turns.len(),
-        starts.len(),
-        seeds.len(),
-        result.len(),
-    );
-    if let Fit::No(why) = fit {
-        return refusals::answer_no(why);
-    }
-    if let Fit::No(why) = refusals::all_finite(starts, seeds) {
-        return refusals::answer_no(why);
-    }
-    table::write_planned(words, plan, marks, came, goes, table);
-    run_written(words, plan, table, values, turns, starts, seeds, result)
 }
 
 // "a run takes a sheet, never a bare table"
@@ -281,23 +142,22 @@ pub fn run_double(
     let mut marks = [0u8; MAX_ROWS];
     let mut came = [0u16; MAX_ROWS];
     let mut goes = [0u16; MAX_ROWS];
-    match table::plan_sheet(words, &mut marks, &mut came, &mut goes) {
-        Planned::Refused(why) => Answer {
-            number: sheet::number_of(why),
-            place: sheet::place_of(why),
-        },
-        Planned::Made(plan) => run_planned(
-            words,
-            plan,
-            &marks,
-            &came,
-            &goes,
-            table,
-            values,
-            turns,
-            starts,
-            seeds,
-            result,
-        ),
+    let rooms = Rooms {
+        table: table.len(),
+        values: values.len(),
+        turns: turns.len(),
+        starts: starts.len(),
+        seeds: seeds.len(),
+        result: result.len(),
+    };
+    match refusals::judge(words, rooms, &mut marks, &mut came, &mut goes) {
+        Judged::No(answer) => answer,
+        Judged::HasRoom(plan) => {
+            if let Fit::No(why) = refusals::all_finite(starts, seeds) {
+                return refusals::answer_no(why);
+            }
+            table::write_planned(words, plan, &marks, &came, &goes, table);
+            run_written(words, plan, table, values, turns, starts, seeds, result)
+        }
     }
 }

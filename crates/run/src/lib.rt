@@ -17,6 +17,18 @@ pub use calls_audit::run_audit;
 pub use calls_double::run_double;
 pub use refusals::NOT_FINITE_RESULT;
 use sheet::RowNumber;
+use table::Answer;
+use table::Plan;
+
+// The lengths of what a run is lent.
+pub struct Rooms {
+    pub table: usize,
+    pub values: usize,
+    pub turns: usize,
+    pub starts: usize,
+    pub seeds: usize,
+    pub result: usize,
+}
 
 // What refuses a planned sheet's run, refusals 8 to 11. A start value or seed that isn't finite has its place.
 pub enum Unfit {
@@ -32,6 +44,12 @@ pub enum Unfit {
 pub enum Fit {
     No(Unfit),
     Fits,
+}
+
+// What refusals 1 to 10 come to: the first one's answer, or the plan of a sheet that has room.
+pub enum Judged {
+    No(Answer),
+    HasRoom(Plan),
 }
 
 // A right side in residues, which nothing stops.

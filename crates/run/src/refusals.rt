@@ -1,17 +1,21 @@
-// Refusals 8 to 11, judged one after another once a sheet is planned.
+// Refusals 1 to 11, judged one after another, and the numbers of all answers.
 ghost use mathlib.Core.Path.{_≡_};
 ghost use mathlib.Core.List.{_++_};
 ghost use Prim.Native.Nat.{_+_, _^_, _<_};
 ghost use lib.ListN.{length};
 ghost use Rattle.number.specs.Doubles.{doubles};
-ghost use Rattle.sheet.specs.Refusals.{numberOf, placeOf};
 ghost use Rattle.run.specs.Calls.{allAdmitted};
-ghost use Rattle.run.specs.inner.CallSteps.{fitSaid, unfitRefusal, tableFits, stacksFit, lengthsFit, roomsFit};
+ghost use Rattle.run.specs.inner.CallSteps.{fitSaid, unfitRefusal, tableFits, stacksFit, lengthsFit, roomsFit, Answers, JudgedAs, answerAt};
+use super::Ended;
 use super::Fit;
+use super::Judged;
+use super::Rooms;
 use super::Unfit;
 use number::double;
+use sheet::MAX_ROWS;
 use table::Answer;
 use table::Plan;
+use table::Planned;
 
 // The numbers of these refusals, 8 apart, and of a run that stops.
 const SMALL_STACK: u16 = 9;
@@ -95,30 +99,22 @@ pub fn all_finite(starts: &[f64], seeds: &[f64]) -> Fit
 }
 
 // 8 to 10
-pub fn rooms_fit(
-    plan: Plan,
-    table_room: usize,
-    value_room: usize,
-    turn_room: usize,
-    starts: usize,
-    seeds: usize,
-    result: usize,
-) -> Fit
-    ensures { λ r. ⌜ fitSaid r ≡ roomsFit plan «table_room» «value_room» «turn_room» starts seeds result ⌝ }
+fn rooms_fit(plan: Plan, rooms: Rooms) -> Fit
+    ensures { λ r. ⌜ fitSaid r ≡ roomsFit plan rooms ⌝ }
 {
-    if let Fit::No(why) = table_fits(plan.rows, table_room) {
+    if let Fit::No(why) = table_fits(plan.rows, rooms.table) {
         return Fit::No(why);
     }
-    if let Fit::No(why) = stacks_fit(plan.values, value_room, plan.turns, turn_room) {
+    if let Fit::No(why) = stacks_fit(plan.values, rooms.values, plan.turns, rooms.turns) {
         return Fit::No(why);
     }
     let shape = plan.shape;
-    lengths_fit(shape.variables, starts, seeds, result)
+    lengths_fit(shape.variables, rooms.starts, rooms.seeds, rooms.result)
 }
 
 // The number and the place of a refusal.
 pub fn answer_no(why: Unfit) -> Answer
-    ensures { λ r. ⌜ (r .number ≡ numberOf (unfitRefusal why)) × (r .place ≡ placeOf (unfitRefusal why)) ⌝ }
+    ensures { λ r. ⌜ Answers r (unfitRefusal why) ⌝ }
 {
     match why {
         Unfit::SmallTable => Answer {
@@ -148,6 +144,48 @@ pub fn answer_no(why: Unfit) -> Answer
         Unfit::NotFinite(place) => Answer {
             number: NOT_FINITE_GIVEN,
             place,
+        },
+    }
+}
+
+// 1 to 10: the sheet is planned, and what is lent is held against its plan.
+pub fn judge(
+    words: &[u16],
+    rooms: Rooms,
+    marks: &mut [u8; MAX_ROWS],
+    came: &mut [u16; MAX_ROWS],
+    goes: &mut [u16; MAX_ROWS],
+) -> Judged
+    ensures { λ r. ⌜ JudgedAs (now (words .entry)) rooms (now (marks .exit)) (now (came .exit)) (now (goes .exit)) r ⌝ }
+{
+    match table::plan_sheet(words, marks, came, goes) {
+        Planned::Refused(why) => Judged::No(Answer {
+            number: sheet::number_of(why),
+            place: sheet::place_of(why),
+        }),
+        Planned::Made(plan) => match rooms_fit(plan, rooms) {
+            Fit::No(why) => Judged::No(answer_no(why)),
+            Fit::Fits => Judged::HasRoom(plan),
+        },
+    }
+}
+
+// What a run's end is answered by: 0, 12 at its row, or the number of no run.
+pub fn answer_end(end: Ended) -> Answer
+    ensures { λ r. ⌜ r ≡ answerAt end ⌝ }
+{
+    match end {
+        Ended::Finished => Answer {
+            number: table::DONE,
+            place: 0,
+        },
+        Ended::Stopped(row) => Answer {
+            number: NOT_FINITE_RESULT,
+            place: row.0,
+        },
+        Ended::Stuck => Answer {
+            number: STUCK,
+            place: 0,
         },
     }
 }

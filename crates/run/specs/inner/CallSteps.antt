@@ -1,15 +1,25 @@
--- The steps of a call: refusals 8 to 11 one by one, and what is laid into and read out of whole buffers.
+-- The steps of a call: refusals 1 to 11 one by one, an answer's number and place, and what is laid into and read out of whole buffers.
 use Prim.Native.Nat.{ℕ, _*_, _≤_}
 use mathlib.Core.Path.{_≡_}
 use mathlib.Core.List.{List, _++_}
-use lib.ListN.{length, drop, replicate}
+use lib.ListN.{length, drop}
 use lib.Dec.{leb, eqb}
 use Rattle.number.specs.Arithmetic.{Arithmetic}
-use Rattle.sheet.specs.Refusals.{Refusal, Answer, refused, given, _>>=_, smallTable, smallValueStack, smallTurnStack, wrongStarts, wrongSeeds, wrongResult, notFiniteGiven}
-use Rattle.sheet.specs.Reading.{unless}
-use Rattle.table.specs.Calls.{tableRoom}
+use Rattle.number.specs.Doubles.{doubles}
+use Rattle.sheet.specs.Refusals.{Refusal, Answer, refused, given, _>>=_, numberOf, placeOf, smallTable, smallValueStack, smallTurnStack, wrongStarts, wrongSeeds, wrongResult, notFiniteGiven, notFiniteResult}
+use Rattle.sheet.specs.Reading.{Sheet, variablesOf, unless}
+use Rattle.sets.specs.Marks.{marked}
+use Rattle.table.specs.Sizes.{valuesNeeded, turnsNeeded}
+use Rattle.table.specs.Calls.{tableRoom, readFor}
+use Rattle.table.specs.inner.Plans.{PlanMade}
+use Rattle.table.specs.declared.Answer as answered
 use Rattle.table.specs.declared.Plan.{Plan}
-use Rattle.run.specs.Calls.{independentAdjoints}
+use Rattle.run.specs.Calls.{independentAdjoints, stuckNumber}
+use Rattle.run.specs.declared.Rooms.{Rooms}
+use Rattle.run.specs.declared.Judged.{Judged}
+use Rattle.run.specs.declared.Judged.the-variants as judged
+use Rattle.run.specs.declared.Ended.{Ended}
+use Rattle.run.specs.declared.Ended.the-variants as ended
 use Rattle.run.specs.declared.Unfit.{Unfit}
 use Rattle.run.specs.declared.Unfit.the-variants as unfit
 use Rattle.run.specs.declared.Fit.{Fit}
@@ -35,11 +45,20 @@ lengthsFit variables starts seeds result = do
   unless (eqb result (2 * variables)) wrongResult
 
 -- 8 to 10, of a plan's R, S, T and V
-abbrev pub roomsFit : Plan → (tableRoom valueRoom turnRoom starts seeds result : ℕ) → Answer (Unit {0})
-roomsFit plan tableRoom valueRoom turnRoom starts seeds result = do
-  _ ← tableFits (plan .rows) tableRoom
-  _ ← stacksFit (plan .values) valueRoom (plan .turns) turnRoom
-  lengthsFit (plan .shape .variables) starts seeds result
+abbrev pub roomsFit : Plan → Rooms → Answer (Unit {0})
+roomsFit plan rooms = do
+  _ ← tableFits (plan .rows) (rooms .table)
+  _ ← stacksFit (plan .values) (rooms .values) (plan .turns) (rooms .turns)
+  lengthsFit (plan .shape .variables) (rooms .starts) (rooms .seeds) (rooms .result)
+
+-- 1 to 10, of the words themselves
+unfoldable pub readWithRoom : (words : List ℕ) → Rooms → Answer Sheet
+unfolding readFor marked valuesNeeded turnsNeeded
+readWithRoom words rooms = do
+  sheet ← readFor words (rooms .table)
+  _ ← stacksFit (valuesNeeded (marked sheet)) (rooms .values) (turnsNeeded (marked sheet)) (rooms .turns)
+  _ ← lengthsFit (variablesOf sheet) (rooms .starts) (rooms .seeds) (rooms .result)
+  given sheet
 
 -- what the code's answers say
 abbrev pub unfitRefusal : Unfit → Refusal
@@ -54,6 +73,41 @@ unfitRefusal (unfit.NotFinite place) = notFiniteGiven place
 abbrev pub fitSaid : Fit → Answer (Unit {0})
 fitSaid (fit.No why) = refused (unfitRefusal why)
 fitSaid fit.Fits = given tt
+
+-- a refusal's number and place
+pub record Answers (answer : answered.Answer) (why : Refusal) : Type 0 where
+  pub number : answer .number ≡ numberOf why
+  pub place : answer .place ≡ placeOf why
+
+-- refused by one of 1 to 10, and answered so
+pub record NoRoom (words : List ℕ) (rooms : Rooms) (answer : answered.Answer) : Type 0 where
+  pub why : Refusal
+  pub is : readWithRoom words rooms ≡ refused why
+  pub answers : Answers answer why
+
+-- refused by none of them, and planned: the lengths are those that the plan asks
+pub record HasRoom (words : List ℕ) (rooms : Rooms) (marks came goes : List ℕ) (plan : Plan) : Type 0 where
+  pub made : PlanMade words plan marks came goes
+  pub is : readWithRoom words rooms ≡ given (made .sheet)
+  pub tableFits : tableRoom (plan .rows) ≤ rooms .table
+  pub startsFit : rooms .starts ≡ plan .shape .variables
+  pub seedsFit : rooms .seeds ≡ plan .shape .variables
+  pub resultFits : rooms .result ≡ 2 * plan .shape .variables
+
+abbrev pub JudgedAs : (words : List ℕ) → Rooms → (marks came goes : List ℕ) → Judged → Type 0
+JudgedAs words rooms marks came goes (judged.No answer) = NoRoom words rooms answer
+JudgedAs words rooms marks came goes (judged.HasRoom plan) = HasRoom words rooms marks came goes plan
+
+-- ---- a run's end
+
+-- 0; 12 at its row; the number of no run, which is one for both arithmetics
+unfoldable pub answerAt : Ended → answered.Answer
+unfolding numberOf placeOf
+answerAt ended.Finished = record { number = 0; place = 0 }
+answerAt (ended.Stopped row) =
+    let stopped = notFiniteResult (row .0) in
+    record { number = numberOf stopped; place = placeOf stopped }
+answerAt ended.Stuck = record { number = stuckNumber doubles; place = 0 }
 
 -- ---- buffers
 
@@ -72,6 +126,8 @@ module _ (A : Arithmetic) where
   abbrev pub resultFrom : (roles : List ℕ) → (copied store : List (A .Carrier)) → List (A .Carrier)
   resultFrom roles copied store = copied ++ independentAdjoints A roles (drop (length roles) store)
 
-  -- the start values, and zeros up to so many places
-  abbrev pub loaded : (starts : List (A .Carrier)) → (places : ℕ) → List (A .Carrier)
-  loaded starts places = filled starts (replicate places (A .zero))
+  -- what a run leaves of the result: it is written where the run has finished
+  unfoldable pub resultAt : Ended → (roles : List ℕ) → (copied store result : List (A .Carrier)) → List (A .Carrier)
+  resultAt ended.Finished roles copied store result = resultFrom roles copied store
+  resultAt (ended.Stopped row) roles copied store result = result
+  resultAt ended.Stuck roles copied store result = result

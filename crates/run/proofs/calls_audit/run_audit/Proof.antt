@@ -1,35 +1,34 @@
 -- `run::calls_audit::run_audit` meets its contract.
 use mathlib.Core.Path.{subst}
 use Rattle.number.specs.Residues.{residues}
-use Rattle.table.specs.inner.Plans.{PlanSays}
-use Rattle.run.proofs.CallsJudged.{refused-run, unread}
+use Rattle.run.specs.inner.CallSteps.{JudgedAs}
+use Rattle.run.proofs.AdmittedLaws.{residues-admitted}
+use Rattle.run.proofs.SectionLaws.{sheet-room}
+use Rattle.run.proofs.CallsJudged.{refused-run, accepted-run}
 use borrow.Author.Needs.{needs}
 use Rattle.run.proofs.calls_audit.run_audit.Statement.{statement}
 use Rattle.run.proofs.calls_audit.run_audit.Tie as tie
 
-plan-sheet-requires : tie.Need-plan-sheet-requires
-plan-sheet-requires c κs = search needs
+judge-requires : tie.Need-judge-requires
+judge-requires c κs = search needs
 
-enum-known-why : tie.Need-enum-known-why
-enum-known-why c = search needs
-
-number-of-requires : tie.Need-number-of-requires
-number-of-requires c κs = search needs
-
-place-of-requires : tie.Need-place-of-requires
-place-of-requires c κs = search needs
+enum-known-answer : tie.Need-enum-known-answer
+enum-known-answer c = search needs
 
 enum-known-plan : tie.Need-enum-known-plan
 enum-known-plan c = search needs
 
-run-planned-requires : tie.Need-run-planned-requires
-run-planned-requires c κs = subst (PlanSays _ _ _ _) (c .before .before .before .before .before .before .before .before .plan .given .1) (c .before .before .before .before .before .before .before .before .before .before .plan-sheet .ensures)
+write-planned-requires : tie.Need-write-planned-requires
+write-planned-requires c κs =
+    let room = subst (JudgedAs _ _ _ _ _) (c .before .before .before .before .before .plan .given .1) (c .before .before .before .before .before .before .before .judge .ensures) in
+    (room .made, room .tableFits)
+
+run-written-requires : tie.Need-run-written-requires
+run-written-requires c κs = sheet-room _ _ _ (subst (JudgedAs _ _ _ _ _) (c .before .before .before .before .before .before .before .before .before .before .before .before .plan .given .1) (c .before .before .before .before .before .before .before .before .before .before .before .before .before .before .judge .ensures))
 
 returns : tie.Need-returns
 returns c =
-    refused-run residues _ _ _ _ _ _
-    (unread residues _ _ _ _ _ (subst (PlanSays _ _ _ _) (c .before .before .before .why .given .1) (c .before .before .before .before .before .plan-sheet .ensures)))
-    (c .before .number-of .ensures, c .place-of .ensures)
+    refused-run residues _ _ _ _ (subst (JudgedAs _ _ _ _ _) (c .before .answer .given .1) (c .before .before .before .judge .ensures))
 
 same-length : tie.Need-same-length
 same-length c = search needs
@@ -44,18 +43,19 @@ same-length-4 : tie.Need-same-length-4
 same-length-4 c = search needs
 
 returns-2 : tie.Need-returns-2
-returns-2 c = search needs
+returns-2 c =
+    accepted-run residues _ _ _ _ (subst (JudgedAs _ _ _ _ _) (c .before .before .before .before .before .before .before .before .before .before .before .before .before .before .before .before .before .before .before .plan .given .1) (c .before .before .before .before .before .before .before .before .before .before .before .before .before .before .before .before .before .before .before .before .before .judge .ensures)) (residues-admitted _ _)
+    (c .before .before .before .before .before .before .before .before .before .before .before .before .before .write-planned .ensures) (c .before .before .before .before .before .before .run-written .ensures)
 
 pub run-audit-spec : {M : Type 1} → statement M
 run-audit-spec =
     tie.close
     (tie.spec
-    plan-sheet-requires
-    enum-known-why
-    number-of-requires
-    place-of-requires
+    judge-requires
+    enum-known-answer
     enum-known-plan
-    run-planned-requires
+    write-planned-requires
+    run-written-requires
     returns
     same-length
     same-length-2

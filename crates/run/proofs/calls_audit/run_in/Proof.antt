@@ -1,25 +1,32 @@
 -- `run::calls_audit::run_in` meets its contract.
 use mathlib.Core.Path.{_∙_}
 use Rattle.number.specs.Residues.{residues}
-use Rattle.run.proofs.CallLaws.{starts-fit, result-fits, comes-to}
+use Rattle.run.proofs.CallLaws.{result-fits, comes-to}
 use borrow.Author.Needs.{needs}
 use Rattle.run.proofs.calls_audit.run_in.Statement.{statement}
 use Rattle.run.proofs.calls_audit.run_in.Tie as tie
 
-load-requires : tie.Need-load-requires
-load-requires c κs =
-    let start = c .before .before .before .before .before .before .before .before .before .before .before .before in
-    starts-fit residues _ _ _ _ _ _ _ _ _ (start .pre .0) (start .args .values .now) (start .args .turns .now) _ _ (start .pre .1)
+copy-residues-requires : tie.Need-copy-residues-requires
+copy-residues-requires c κs = search needs
 
-run-cleared-requires : tie.Need-run-cleared-requires
-run-cleared-requires c κs = search needs
+clear-stacks-requires : tie.Need-clear-stacks-requires
+clear-stacks-requires c κs = search needs
 
-end-run-requires : tie.Need-end-run-requires
-end-run-requires c κs =
-    let start = c .before .before .before .before .before .before .before .before .before .before .before .before .before .before .before .before .before .before .before .before .before .before .before .before .before .before .before .before .before .before .before in
-    let run = c .before .before .before .before .before .before .before .before .before .before .before .run-cleared in
-    let load = c .before .before .before .before .before .before .before .before .before .before .before .before .before .before .before .before .before .before .load in
-    result-fits residues _ _ _ _ _ _ _ _ _ (start .pre .0) (start .args .values .now) (start .args .turns .now) _ _ (start .pre .1) _ _ (run .kept .1 .1 .1 .1 .1 .1 .1 .1 .1 .0 ∙ load .kept .1 .0) (run .kept .1 .1 .1 .1 .1 .1 .1 .1 .1 .1 .0)
+run-rows-requires : tie.Need-run-rows-requires
+run-rows-requires c κs = search needs
+
+clear-stacks-requires-2 : tie.Need-clear-stacks-requires-2
+clear-stacks-requires-2 c κs = search needs
+
+write-result-requires : tie.Need-write-result-requires
+write-result-requires c κs =
+    let ran = c .before .before .before .before .before .before .before .before .before .before .before .before .before .before .before .before .before .before in
+    let laid = ran .before .before .before .before .before .before .before .before .before .before .before .before .before .before .before in
+    let kept = ran .run-rows .kept .1 .1 .1 .1 .1 .1 in
+    result-fits residues (laid .before .before .before .before .before .before .before .before .before .before .before .before .pre) (kept .0 ∙ laid .copy-residues .kept .1 .0) (kept .1 .1 .1 .0)
+
+answer-end-requires : tie.Need-answer-end-requires
+answer-end-requires c κs = search needs
 
 same-length : tie.Need-same-length
 same-length c = search needs
@@ -28,7 +35,9 @@ same-length-2 : tie.Need-same-length-2
 same-length-2 c = search needs
 
 same-length-3 : tie.Need-same-length-3
-same-length-3 c = search needs
+same-length-3 c =
+    let ran = c .before .before .before .before .before .before .before .before .before .before .before .before .before .before .before .before .before .before .before .before .before .before in
+    ran .run-rows .kept .1 .1 .1 .1 .1 .1 .0 ∙ ran .before .before .before .before .before .before .before .before .before .before .before .before .before .before .before .copy-residues .kept .1 .0
 
 same-length-4 : tie.Need-same-length-4
 same-length-4 c = search needs
@@ -38,17 +47,26 @@ same-length-5 c = search needs
 
 returns : tie.Need-returns
 returns c =
-    λ ready buffer.
-    let start = c .before .before .before .before .before .before .before .before .before .before .before .before .before .before .before .before .before .before .before .before .before .before .before .before .before .before .before .before .before .before .before .before .before .before in
-    comes-to residues _ _ _ _ _ _ _ _ _ ready _ _ _ _ (start .pre .1) _ (c .before .before .before .before .before .before .before .before .before .before .before .before .before .before .before .before .before .before .before .before .before .load .ensures) _ _ (c .before .before .before .before .before .before .before .before .before .before .before .before .before .before .run-cleared .ensures) _ _ (c .before .before .end-run .ensures) buffer
+    let written = c .before .before .before in
+    let emptied-again = written .before .before .before .before .before .before .before .before in
+    let ran = emptied-again .before .before .before .before .before .before .before .before .before .before .before in
+    let emptied = ran .before .before .before .before .before .before .before .before .before .before in
+    let laid = emptied .before .before .before .before .before in
+    let kept = ran .run-rows .kept .1 .1 .1 .1 .1 .1 .1 in
+    λ sheet buffer ready.
+    comes-to residues ready (laid .before .before .before .before .before .before .before .before .before .before .before .before .pre) _ _ buffer _ _ (laid .copy-residues .ensures) (emptied .clear-stacks .ensures)
+    (ran .run-rows .ensures) (kept .0) (kept .1 .0) (emptied-again .clear-stacks2 .ensures) (written .write-result .ensures) (c .answer-end .ensures)
 
 pub run-in-spec : {M : Type 1} → statement M
 run-in-spec =
     tie.close
     (tie.spec
-    load-requires
-    run-cleared-requires
-    end-run-requires
+    copy-residues-requires
+    clear-stacks-requires
+    run-rows-requires
+    clear-stacks-requires-2
+    write-result-requires
+    answer-end-requires
     same-length
     same-length-2
     same-length-3

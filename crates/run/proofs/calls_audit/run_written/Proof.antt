@@ -1,64 +1,66 @@
 -- `run::calls_audit::run_written` meets its contract.
-use Prim.Native.Nat.{_+_, _≤_}
-use lib.ListN.{length}
-use mir.Val.{Fits}
-use mir.Syntax.{w64}
+use mathlib.Core.Path.{sym}
+use lib.Seq.{length-take-le}
 use Rattle.number.specs.Residues.{residues}
-use Rattle.table.specs.Sizes.{mostTableRows}
-use Rattle.run.proofs.SectionLaws.{read-off, rows-few, ready-to-run}
-use borrow.Author.Needs.{needs}
+use Rattle.sheet.specs.Bounds.{limit}
+use Rattle.table.specs.TableRows.{tableVariables}
+use Rattle.run.proofs.SectionLaws.{run-room, ready-to-run}
 use native.Mathlib.Omega.{arith}
+use borrow.Author.Needs.{needs}
 use Rattle.run.proofs.calls_audit.run_written.Statement.{statement}
 use Rattle.run.proofs.calls_audit.run_written.Tie as tie
 
 add-roles-end : tie.Need-add-roles-end
-add-roles-end c = omega (arith, (read-off residues _ _ _ _ _ _ (c .before .before .before .before .before .before .before .before .before .pre)) .few)
+add-roles-end c = search needs
 
 add-constants-end : tie.Need-add-constants-end
-add-constants-end c =
-    let plan = c .before .before .before .before .before .before .before .before .before .before .args .plan in
-    let sections = read-off residues _ _ _ _ _ _ (c .before .before .before .before .before .before .before .before .before .before .pre) in
-    let fits : Fits w64 (plan .shape .«first_constant» + plan .shape .constants) = omega (arith, sections .few, sections .fewConstants, sections .first) in
-    fits
+add-constants-end c = search needs
+
+mul-size : tie.Need-mul-size
+mul-size c = search needs
+
+add-size : tie.Need-add-size
+add-size c = search needs
 
 find-jumps-requires : tie.Need-find-jumps-requires
-find-jumps-requires c κs =
-    let few : c .before .before .before .before .before .before .before .before .before .before .before .args .plan .rows ≤ mostTableRows = rows-few residues _ _ _ _ _ _ (c .before .before .before .before .before .before .before .before .before .before .before .pre) in
-    (few, few)
+find-jumps-requires c κs = search needs
 
-sub-run-sections : tie.Need-sub-run-sections
-sub-run-sections c = search needs
+sub-run-in : tie.Need-sub-run-in
+sub-run-in c = search needs
 
-part-run-sections-start : tie.Need-part-run-sections-start
-part-run-sections-start c = search needs
+part-run-in-start : tie.Need-part-run-in-start
+part-run-in-start c = search needs
 
-part-run-sections-end : tie.Need-part-run-sections-end
-part-run-sections-end c =
-    let args = c .before .before .before .before .before .before .before .before .before .before .before .before .args in
-    let within : 1 + args .plan .shape .variables ≤ length (args .words .now) = omega (arith, (read-off residues _ _ _ _ _ _ (c .before .before .before .before .before .before .before .before .before .before .before .before .pre)) .constantsWithin) in
-    within
+part-run-in-end : tie.Need-part-run-in-end
+part-run-in-end c = search needs
 
-mul-run-sections : tie.Need-mul-run-sections
-mul-run-sections c =
-    let sections = read-off residues _ _ _ _ _ _ (c .before .before .before .before .before .before .before .before .before .before .before .before .before .pre) in
-    omega (arith, sections .few, sections .first)
+mul-run-in : tie.Need-mul-run-in
+mul-run-in c = search needs
 
-sub-run-sections-2 : tie.Need-sub-run-sections-2
-sub-run-sections-2 c = search needs
+sub-run-in-2 : tie.Need-sub-run-in-2
+sub-run-in-2 c = search needs
 
-part-run-sections-start-2 : tie.Need-part-run-sections-start-2
-part-run-sections-start-2 c = search needs
+part-run-in-start-2 : tie.Need-part-run-in-start-2
+part-run-in-start-2 c = search needs
 
-part-run-sections-end-2 : tie.Need-part-run-sections-end-2
-part-run-sections-end-2 c =
-    let args = c .before .before .before .before .before .before .before .before .before .before .before .before .before .args in
-    let sections = read-off residues _ _ _ _ _ _ (c .before .before .before .before .before .before .before .before .before .before .before .before .before .pre) in
-    let within : args .plan .shape .«first_constant» + args .plan .shape .constants ≤ length (args .words .now) =
-    omega (arith, sections .constantsWithin, sections .first) in
-    within
+part-run-in-end-2 : tie.Need-part-run-in-end-2
+part-run-in-end-2 c = search needs
 
-run-sections-requires : tie.Need-run-sections-requires
-run-sections-requires c κs = ready-to-run residues _ _ _ _ _ _ (c .before .before .before .before .before .before .before .before .before .before .before .before .before .before .before .before .before .before .pre) _ (c .before .before .before .before .before .before .find-jumps .ensures)
+array-borrow-prefix-store : tie.Need-array-borrow-prefix-store
+array-borrow-prefix-store c = search needs
+
+slice-aggregate-run-in : tie.Need-slice-aggregate-run-in
+slice-aggregate-run-in c = sym (length-take-le _ _ (omega arith))
+
+array-borrow-prefix-copied : tie.Need-array-borrow-prefix-copied
+array-borrow-prefix-copied c = search needs
+
+slice-aggregate-run-in-2 : tie.Need-slice-aggregate-run-in-2
+slice-aggregate-run-in-2 c = sym (length-take-le _ _ (omega arith))
+
+run-in-requires : tie.Need-run-in-requires
+run-in-requires c κs =
+    run-room _ _ residues (c .before .before .before .before .before .before .before .before .before .before .before .before .before .before .before .before .before .before .before .pre) (tableVariables (limit .variables)) (omega arith) _ (omega arith)
 
 same-length : tie.Need-same-length
 same-length c = search needs
@@ -70,8 +72,7 @@ same-length-3 : tie.Need-same-length-3
 same-length-3 c = search needs
 
 returns : tie.Need-returns
-unfolding ready-to-run
-returns c = λ written. c .before .before .before .before .before .before .run-sections .ensures (ready-to-run residues _ _ _ _ _ _ written _ (c .before .before .before .before .before .before .before .before .before .before .before .before .before .find-jumps .ensures)) (written .buffer)
+returns c = λ sheet buffer written. c .before .before .before .before .before .before .before .before .run-in .ensures sheet buffer (ready-to-run _ _ written (c .before .before .before .before .before .before .before .before .before .before .before .before .before .before .before .before .before .find-jumps .ensures))
 
 pub run-written-spec : {M : Type 1} → statement M
 run-written-spec =
@@ -79,15 +80,21 @@ run-written-spec =
     (tie.spec
     add-roles-end
     add-constants-end
+    mul-size
+    add-size
     find-jumps-requires
-    sub-run-sections
-    part-run-sections-start
-    part-run-sections-end
-    mul-run-sections
-    sub-run-sections-2
-    part-run-sections-start-2
-    part-run-sections-end-2
-    run-sections-requires
+    sub-run-in
+    part-run-in-start
+    part-run-in-end
+    mul-run-in
+    sub-run-in-2
+    part-run-in-start-2
+    part-run-in-end-2
+    array-borrow-prefix-store
+    slice-aggregate-run-in
+    array-borrow-prefix-copied
+    slice-aggregate-run-in-2
+    run-in-requires
     same-length
     same-length-2
     same-length-3

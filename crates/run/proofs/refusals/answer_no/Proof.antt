@@ -28,31 +28,31 @@ enum-known-why c = search needs
 
 returns : tie.Need-returns
 unfolding numberOf placeOf
-returns c = rw (c .enum-told .given .1) (refl, refl)
+returns c = rw (c .enum-told .given .1) (record { number = refl; place = refl })
 
 returns-2 : tie.Need-returns-2
 unfolding numberOf placeOf
-returns-2 c = rw (c .enum-told2 .given .1) (refl, refl)
+returns-2 c = rw (c .enum-told2 .given .1) (record { number = refl; place = refl })
 
 returns-3 : tie.Need-returns-3
 unfolding numberOf placeOf
-returns-3 c = rw (c .enum-told3 .given .1) (refl, refl)
+returns-3 c = rw (c .enum-told3 .given .1) (record { number = refl; place = refl })
 
 returns-4 : tie.Need-returns-4
 unfolding numberOf placeOf
-returns-4 c = rw (c .enum-told4 .given .1) (refl, refl)
+returns-4 c = rw (c .enum-told4 .given .1) (record { number = refl; place = refl })
 
 returns-5 : tie.Need-returns-5
 unfolding numberOf placeOf
-returns-5 c = rw (c .enum-told5 .given .1) (refl, refl)
+returns-5 c = rw (c .enum-told5 .given .1) (record { number = refl; place = refl })
 
 returns-6 : tie.Need-returns-6
 unfolding numberOf placeOf
-returns-6 c = rw (c .enum-told6 .given .1) (refl, refl)
+returns-6 c = rw (c .enum-told6 .given .1) (record { number = refl; place = refl })
 
 returns-7 : tie.Need-returns-7
 unfolding numberOf placeOf
-returns-7 c = rw (c .before .why .given .1) (refl, refl)
+returns-7 c = rw (c .before .why .given .1) (record { number = refl; place = refl })
 
 pub answer-no-spec : {M : Type 1} → statement M
 answer-no-spec =

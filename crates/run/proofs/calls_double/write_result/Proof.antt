@@ -1,0 +1,45 @@
+-- `run::calls_double::write_result` meets its contract.
+use Rattle.run.specs.inner.CallSteps.{resultAt}
+use borrow.Author.Needs.{needs}
+use Rattle.run.proofs.calls_double.write_result.Statement.{statement}
+use Rattle.run.proofs.calls_double.write_result.Tie as tie
+
+enum-told : tie.Need-enum-told
+enum-told c = search needs
+
+write-doubles-requires : tie.Need-write-doubles-requires
+write-doubles-requires c κs = search needs
+
+enum-told-2 : tie.Need-enum-told-2
+enum-told-2 c = search needs
+
+enum-told-3 : tie.Need-enum-told-3
+enum-told-3 c = search needs
+
+same-length : tie.Need-same-length
+same-length c = search needs
+
+returns : tie.Need-returns
+unfolding resultAt
+returns c = rw (c .before .before .before .before .enum-told .given .1) (c .before .before .write-doubles .ensures)
+
+returns-2 : tie.Need-returns-2
+unfolding resultAt
+returns-2 c = rw (c .enum-told2 .given .1)
+
+returns-3 : tie.Need-returns-3
+unfolding resultAt
+returns-3 c = rw (c .enum-told3 .given .1)
+
+pub write-result-spec : {M : Type 1} → statement M
+write-result-spec =
+    tie.close
+    (tie.spec
+    enum-told
+    write-doubles-requires
+    enum-told-2
+    enum-told-3
+    same-length
+    returns
+    returns-2
+    returns-3)
