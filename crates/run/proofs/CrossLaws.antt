@@ -12,14 +12,14 @@ use Rattle.number.specs.Arithmetic.{Arithmetic}
 use Rattle.sheet.specs.Bounds.{limit}
 use Rattle.sheet.specs.Tree.{ifLine, elseLine, endIf, repeat, endRepeat}
 use Rattle.sheet.specs.Rows.{less, Row, rowOf}
+use Rattle.sheet.specs.Answers.{rowSaid}
 use Rattle.sheet.specs.Reading.{rowAt}
 use Rattle.table.specs.TableRows.{whether, onTurn, TableLine, tableRowOf}
 use Rattle.run.specs.Actions.{Setting, Verdict}
-use Rattle.run.specs.inner.RowAnswers.{branchOf}
 use Rattle.run.specs.Machine.{itsElse, itsEnd, oneMore, seek, Repeat, State, Step, step, stepAt, goTo, jump, afterTest, afterTurn}
 use Rattle.run.specs.inner.Buffers.{memoryOf, Sound, Compares, TakesTurn}
 use Rattle.run.specs.inner.Runnable.{Reached, Jumps}
-use Rattle.run.specs.inner.RowSteps.{Opened, Opens, Closes, JumpsTo, BranchesTo, TurnsTo, buffersAt, stateAt, raised, within, moved, following, preceding, CrossedLeft, Blocked, CrossedSays, BlockRow, CrossesBy}
+use Rattle.run.specs.inner.RowSteps.{stuckThere, Opened, Opens, Closes, JumpsTo, BranchesTo, TurnsTo, buffersAt, stateAt, raised, within, moved, following, preceding, CrossedLeft, MeetsRow, MeetsCompare, Meets, Blocked, CrossedSays, BlockRow, CrossesBy}
 use Rattle.run.specs.inner.RunsRows.{Cells, cellsOf}
 use Rattle.run.specs.declared.Place.{Place}
 use Rattle.run.specs.declared.Branch.{Branch}
@@ -28,6 +28,12 @@ use Rattle.run.specs.declared.Branched.{Branched}
 use Rattle.run.specs.declared.Branched.the-variants as branched
 use Rattle.run.specs.declared.Crossed.{Crossed}
 use Rattle.run.specs.declared.Crossed.the-variants as crossed
+use Rattle.run.specs.declared.Ended.{Ended}
+use Rattle.run.specs.declared.Ended.the-variants as ended-as
+use Rattle.run.specs.declared.Met.{Met}
+use Rattle.run.specs.declared.Met.the-variants as met-as
+use Rattle.sheet.specs.declared.RowWords.{RowWords}
+use Rattle.sheet.specs.declared.Variable.{Variable}
 use Rattle.run.proofs.LineLaws.{blockOf, block-said}
 use Rattle.run.proofs.OpenedLaws.{opened-length}
 use Rattle.run.proofs.StraightLaws.{stands-there, words-there}
@@ -46,12 +52,24 @@ turn-left beyond at next (branched.First height) answer is = rw is refl
 turn-left beyond at next (branched.Second height) answer jumps = jumps .left
 turn-left beyond at next branched.Stuck answer is = rw is tt
 
+-- ---- what the code reads at a place
+
+module _ {table : List ℕ} {rows : ℕ} {place next : Place} {row : Row} {left : ℕ} (said : row ≡ rowAt table (1 + place .at * limit .rowWords))
+    (within : place .at < rows)
+    (spends : place .left ≡ suc left)
+    (follows : next ≡ following place (place .at + 1) left) where
+  pub meets-row : MeetsRow table rows place row next
+  meets-row = record { follows = record { left = left; is = follows; spends = spends }; within = within; said = said }
+
+  pub meets-compare : row .kind ≡ 7 → MeetsCompare table rows place (row .a) (row .b) next
+  meets-compare kind = record { row = row; meets = meets-row; kind = kind; first = refl; second = refl }
+
 -- ---- where a jump's code goes
 
 pub jump-goes : (beyond : List ℕ) (at : ℕ) (next to : Place) → to ≡ moved next (getD beyond at 0) → JumpsTo beyond at next (crossed.On to)
 jump-goes beyond at next to is = record { there = λ _. ap crossed.On is; left = ap (λ (p : Place). suc (p .left)) is }
 
-pub jump-nowhere : (beyond : List ℕ) (at : ℕ) (next : Place) → length beyond ≤ at → JumpsTo beyond at next crossed.Stuck
+pub jump-nowhere : (beyond : List ℕ) (at : ℕ) (next : Place) → length beyond ≤ at → JumpsTo beyond at next stuckThere
 jump-nowhere beyond at next h = record { there = λ here. absurd (omega arith); left = tt }
 
 -- ---- a jump goes on by at least one row, so the list of jumps has a number for it
@@ -74,7 +92,7 @@ room-or-full (suc n) (suc m) = more (room-or-full n m)
     more (inl h) = inl (omega arith)
     more (inr h) = inr (omega arith)
 
-module _ (A : Arithmetic) where
+module _ {A : Arithmetic} where
   turn-out : (state : State A) (r : Repeat) (outer : List Repeat) → r .left ≡ 0
       → afterTurn A state (r ∷ outer) ≡ goTo A (suc (state .at)) outer (state .memory)
   turn-out state r outer is = rw is
@@ -108,7 +126,7 @@ module _ (A : Arithmetic) where
     -- the step is stuck
     sticks-there : (setting : Setting A) (line : TableLine) (rest : List TableLine) (repeats : List Repeat) (before after : Cells A) (held : List (A .Carrier))
         (bodies toCome : List ℕ) (answer : Crossed)
-        → answer ≡ crossed.Stuck
+        → answer ≡ stuckThere
         → Blocked A (stepAt A setting (stateAt A (preceding next at) repeats before held) (line ∷ rest))
         → Crosses setting line rest repeats before after held bodies toCome answer
     sticks-there setting line rest repeats before after held bodies toCome answer is blocked =
@@ -142,26 +160,26 @@ module _ (A : Arithmetic) where
           → Jumps lines beyond
           → Opened (next .depth) bodies toCome repeats
           → Sound A setting (buffersAt A next (cellsOf A store values turns copied) held)
-          → Compares A a b store (branchOf picked)
+          → Compares A a b store picked
           → BranchesTo beyond at next picked answer
           → Crosses setting (ifLine (whether (less a b))) rest repeats (cellsOf A store values turns copied) (cellsOf A store values turns copied) held bodies
           toCome answer
       unfolding stepAt
       compare-crosses lines branch.First follows here jumps opened sound compares is =
           let cells = cellsOf A store values turns copied in
-          let tests = compares setting values (next .values) turns (next .turns) held sound in
+          let tests = compares .tests setting values (next .values) turns (next .turns) held sound in
           goes-to setting (ifLine (whether (less a b))) rest repeats cells cells held bodies toCome answer next repeats is refl opened sound
           (ap (λ (v : Option (Verdict A)). afterTest A (stateAt A (preceding next at) repeats cells held) rest v) (sym (tests .meaning))
           ∙ ap (λ (n : ℕ). goTo A n repeats (memoryOf A (buffersAt A next cells held))) (sym follows))
       compare-crosses lines branch.Second follows here jumps opened sound compares is =
           let cells = cellsOf A store values turns copied in
-          let tests = compares setting values (next .values) turns (next .turns) held sound in
+          let tests = compares .tests setting values (next .values) turns (next .turns) held sound in
           jumps-there setting (ifLine (whether (less a b))) rest repeats cells cells held bodies toCome answer next (seek itsElse 0 rest) refl
           (jumps .fromIf at (whether (less a b)) rest here) is opened sound
           (ap (λ (v : Option (Verdict A)). afterTest A (stateAt A (preceding next at) repeats cells held) rest v) (sym (tests .meaning)))
       compare-crosses lines branch.Stuck follows here jumps opened sound compares is =
           let cells = cellsOf A store values turns copied in
-          let tests = compares setting values (next .values) turns (next .turns) held sound in
+          let tests = compares .tests setting values (next .values) turns (next .turns) held sound in
           let found = ap (λ (v : Option (Verdict A)). afterTest A (stateAt A (preceding next at) repeats cells held) rest v) (sym (tests .meaning)) in
           sticks-there setting (ifLine (whether (less a b))) rest repeats cells cells held bodies toCome answer is
           (subst (λ (s : Step A). Blocked A s) (sym found) tt)
@@ -181,240 +199,276 @@ module _ (A : Arithmetic) where
           let before = cellsOf A store values turns copied in
           let after = cellsOf A store values turnsAfter copied in
           let to = raised next (next .values) height in
-          let tests = takes setting store values (next .values) held sound in
+          let tests = takes .tests setting store values (next .values) held sound in
           goes-to setting (ifLine onTurn) rest repeats before after held bodies toCome answer to repeats is refl opened (tests .sound)
           (ap (λ (v : Option (Verdict A)). afterTest A (stateAt A (preceding next at) repeats before held) rest v) (sym (tests .meaning))
           ∙ ap (λ (n : ℕ). goTo A n repeats (memoryOf A (buffersAt A to after held))) (sym follows))
       turn-crosses lines (branched.Second height) turnsAfter follows here jumps opened sound takes is =
           let before = cellsOf A store values turns copied in
           let after = cellsOf A store values turnsAfter copied in
-          let tests = takes setting store values (next .values) held sound in
+          let tests = takes .tests setting store values (next .values) held sound in
           jumps-there setting (ifLine onTurn) rest repeats before after held bodies toCome answer (raised next (next .values) height) (seek itsElse 0 rest) refl
           (jumps .fromIf at onTurn rest here) is opened (tests .sound)
           (ap (λ (v : Option (Verdict A)). afterTest A (stateAt A (preceding next at) repeats before held) rest v) (sym (tests .meaning)))
       turn-crosses lines branched.Stuck turnsAfter follows here jumps opened sound takes is =
           let before = cellsOf A store values turns copied in
           let after = cellsOf A store values turnsAfter copied in
-          let tests = takes setting store values (next .values) held sound in
+          let tests = takes .tests setting store values (next .values) held sound in
           let found = ap (λ (v : Option (Verdict A)). afterTest A (stateAt A (preceding next at) repeats before held) rest v) (sym (tests .meaning)) in
           sticks-there setting (ifLine onTurn) rest repeats before after held bodies toCome answer is (subst (λ (s : Step A). Blocked A s) (sym found) tt)
 
-    -- ---- the line that a row's words say
+  -- ---- the line that a row's words say
 
-    module _ (row : Row) (turns bodies toCome : List ℕ) where
-      crosses-as : (line : TableLine) (turnsAfter bodiesAfter toComeAfter : List ℕ) (answer : Crossed) → blockOf row ≡ some line
-          → ((setting : Setting A) (lines rest : List TableLine) (repeats : List Repeat) (store values copied held : List (A .Carrier))
-          → tableRowOf line ≡ row
-          → next .at ≡ suc at
-          → drop at lines ≡ line ∷ rest
-          → Jumps lines beyond
-          → Opened (next .depth) bodies toCome repeats
-          → next .depth ≤ limit .depth
-          → Sound A setting (buffersAt A next (cellsOf A store values turns copied) held)
-          → Crosses setting line rest repeats (cellsOf A store values turns copied) (cellsOf A store values turnsAfter copied) held bodiesAfter toComeAfter
-          answer)
-          → CrossesBy A row beyond at next turns bodies toCome turnsAfter bodiesAfter toComeAfter answer
-      crosses-as line turnsAfter bodiesAfter toComeAfter answer said crosses setting lines rest other repeats store values copied held words not-if follows here
-          jumps none-straight opened shallow sound =
-          let told : some line ≡ some other =
-          sym said
-          ∙ ap blockOf (sym words)
-          ∙ block-said other (λ basic-row is. none-straight basic-row rest (here ∙ ap (λ (l : TableLine). l ∷ rest) is)) in
-          let same : line ≡ other = cc in
-          subst
-          (λ (l : TableLine). Crosses setting l rest repeats (cellsOf A store values turns copied) (cellsOf A store values turnsAfter copied) held bodiesAfter
-          toComeAfter answer)
-          same
-          (crosses setting lines rest repeats store values copied held (ap tableRowOf same ∙ words) follows (here ∙ ap (λ (l : TableLine). l ∷ rest) (sym same))
-          jumps opened shallow sound)
+  module _ {beyond : List ℕ} {at : ℕ} {next : Place} {row : Row} {turns bodies toCome : List ℕ} where
+    crosses-as : (line : TableLine) (turnsAfter bodiesAfter toComeAfter : List ℕ) (answer : Crossed) → blockOf row ≡ some line
+        → CrossedLeft (suc (next .left)) answer
+        → ((setting : Setting A) (lines rest : List TableLine) (repeats : List Repeat) (store values copied held : List (A .Carrier))
+        → tableRowOf line ≡ row
+        → next .at ≡ suc at
+        → drop at lines ≡ line ∷ rest
+        → Jumps lines beyond
+        → Opened (next .depth) bodies toCome repeats
+        → next .depth ≤ limit .depth
+        → Sound A setting (buffersAt A next (cellsOf A store values turns copied) held)
+        → Crosses beyond at next setting line rest repeats (cellsOf A store values turns copied) (cellsOf A store values turnsAfter copied) held bodiesAfter toComeAfter
+        answer)
+        → CrossesBy A row beyond at next turns bodies toCome turnsAfter bodiesAfter toComeAfter answer
+    crosses-as line turnsAfter bodiesAfter toComeAfter answer said left crosses =
+        record {
+          left = left;
+          crosses = λ setting lines rest other repeats store values copied held words not-if follows here jumps none-straight opened shallow sound.
+              let told : some line ≡ some other =
+              sym said
+              ∙ ap blockOf (sym words)
+              ∙ block-said other (λ basic-row is. none-straight basic-row rest (here ∙ ap (λ (l : TableLine). l ∷ rest) is)) in
+              let same : line ≡ other = cc in
+              subst
+              (λ (l : TableLine). Crosses beyond at next setting l rest repeats (cellsOf A store values turns copied) (cellsOf A store values turnsAfter copied)
+              held bodiesAfter toComeAfter answer)
+              same
+              (crosses setting lines rest repeats store values copied held (ap tableRowOf same ∙ words) follows
+              (here ∙ ap (λ (l : TableLine). l ∷ rest) (sym same))
+              jumps opened shallow sound);
+        }
 
-      pub else-crosses : (answer : Crossed) → row .kind ≡ 8 → JumpsTo beyond at next answer
-          → CrossesBy A row beyond at next turns bodies toCome turns bodies toCome answer
-      unfolding blockOf stepAt
-      else-crosses answer kind to =
-          crosses-as elseLine turns bodies toCome answer (rw kind)
-          (λ setting lines rest repeats store values copied held words follows here jumps opened shallow sound.
-          let cells = cellsOf A store values turns copied in
-          jumps-there setting elseLine rest repeats cells cells held bodies toCome answer next (seek itsEnd 0 rest) refl (jumps .fromElse at rest here) to opened sound refl)
+    pub else-crosses : {answer : Crossed} → row .kind ≡ 8 → JumpsTo beyond at next answer
+        → CrossesBy A row beyond at next turns bodies toCome turns bodies toCome answer
+    unfolding blockOf stepAt
+    else-crosses {answer} kind to =
+        crosses-as elseLine turns bodies toCome answer (rw kind) (to .left)
+        (λ setting lines rest repeats store values copied held words follows here jumps opened shallow sound.
+        let cells = cellsOf A store values turns copied in
+        jumps-there beyond at next setting elseLine rest repeats cells cells held bodies toCome answer next (seek itsEnd 0 rest) refl (jumps .fromElse at rest here) to opened sound refl)
 
-      pub end-if-crosses : row .kind ≡ 9 → CrossesBy A row beyond at next turns bodies toCome turns bodies toCome (crossed.On next)
-      unfolding blockOf stepAt
-      end-if-crosses kind =
-          crosses-as endIf turns bodies toCome (crossed.On next) (rw kind)
-          (λ setting lines rest repeats store values copied held words follows here jumps opened shallow sound.
-          let cells = cellsOf A store values turns copied in
-          goes-to setting endIf rest repeats cells cells held bodies toCome (crossed.On next) next repeats refl refl opened sound
-          (ap (λ (n : ℕ). goTo A n repeats (memoryOf A (buffersAt A next cells held))) (sym follows)))
+    pub end-if-crosses : row .kind ≡ 9 → CrossesBy A row beyond at next turns bodies toCome turns bodies toCome (crossed.On next)
+    unfolding blockOf stepAt
+    end-if-crosses kind =
+        crosses-as endIf turns bodies toCome (crossed.On next) (rw kind) refl
+        (λ setting lines rest repeats store values copied held words follows here jumps opened shallow sound.
+        let cells = cellsOf A store values turns copied in
+        goes-to beyond at next setting endIf rest repeats cells cells held bodies toCome (crossed.On next) next repeats refl refl opened sound
+        (ap (λ (n : ℕ). goTo A n repeats (memoryOf A (buffersAt A next cells held))) (sym follows)))
 
-      pub repeat-crosses : (bodiesAfter toComeAfter : List ℕ) (answer : Crossed) → row .kind ≡ 10
-          → Opens (row .a) next bodies toCome bodiesAfter toComeAfter answer
-          → CrossesBy A row beyond at next turns bodies toCome turns bodiesAfter toComeAfter answer
-      unfolding blockOf stepAt tableRowOf rowOf
-      repeat-crosses bodiesAfter toComeAfter answer kind opens =
-          crosses-as (repeat (pred (row .a))) turns bodiesAfter toComeAfter answer (rw kind)
-          (λ setting lines rest repeats store values copied held words follows here jumps opened shallow sound.
-          by-room setting rest repeats (cellsOf A store values turns copied) held (sym (ap (λ (r : Row). r .a) words)) follows opened sound
-          (room-or-full (next .depth) (limit .depth)))
-        where
-          by-room : (setting : Setting A) (rest : List TableLine) (repeats : List Repeat) (cells : Cells A) (held : List (A .Carrier))
-              → row .a ≡ suc (pred (row .a))
-              → next .at ≡ suc at
-              → Opened (next .depth) bodies toCome repeats
-              → Sound A setting (buffersAt A next cells held)
-              → (next .depth < limit .depth) ⊎ (limit .depth ≤ next .depth)
-              → Crosses setting (repeat (pred (row .a))) rest repeats cells cells held bodiesAfter toComeAfter answer
-          by-room setting rest repeats cells held count follows opened sound (inl room) =
-              let m = pred (row .a) in
-              goes-to setting (repeat m) rest repeats cells cells held bodiesAfter toComeAfter answer (within next (suc (next .depth)))
-              (record { start = at; left = m } ∷ repeats)
-              (opens .room room m count)
-              refl
-              (opens .opened room m at repeats count follows opened)
-              sound
-              (ap (λ (n : ℕ). goTo A n (record { start = at; left = m } ∷ repeats) (memoryOf A (buffersAt A next cells held))) (sym follows))
-          by-room setting rest repeats cells held count follows opened sound (inr full) =
-              let deep = opened-length (next .depth) bodies toCome repeats opened in
-              sticks-there setting (repeat (pred (row .a))) rest repeats cells cells held bodiesAfter toComeAfter answer (opens .full full) (omega arith)
+    pub repeat-crosses : {bodiesAfter toComeAfter : List ℕ} {answer : Crossed} → row .kind ≡ 10
+        → Opens (row .a) next bodies toCome bodiesAfter toComeAfter answer
+        → CrossesBy A row beyond at next turns bodies toCome turns bodiesAfter toComeAfter answer
+    unfolding blockOf stepAt tableRowOf rowOf
+    repeat-crosses {bodiesAfter} {toComeAfter} {answer} kind opens =
+        crosses-as (repeat (pred (row .a))) turns bodiesAfter toComeAfter answer (rw kind) (opens .left)
+        (λ setting lines rest repeats store values copied held words follows here jumps opened shallow sound.
+        by-room setting rest repeats (cellsOf A store values turns copied) held (sym (ap (λ (r : Row). r .a) words)) follows opened sound
+        (room-or-full (next .depth) (limit .depth)))
+      where
+        by-room : (setting : Setting A) (rest : List TableLine) (repeats : List Repeat) (cells : Cells A) (held : List (A .Carrier))
+            → row .a ≡ suc (pred (row .a))
+            → next .at ≡ suc at
+            → Opened (next .depth) bodies toCome repeats
+            → Sound A setting (buffersAt A next cells held)
+            → (next .depth < limit .depth) ⊎ (limit .depth ≤ next .depth)
+            → Crosses beyond at next setting (repeat (pred (row .a))) rest repeats cells cells held bodiesAfter toComeAfter answer
+        by-room setting rest repeats cells held count follows opened sound (inl room) =
+            let m = pred (row .a) in
+            goes-to beyond at next setting (repeat m) rest repeats cells cells held bodiesAfter toComeAfter answer (within next (suc (next .depth)))
+            (record { start = at; left = m } ∷ repeats)
+            (opens .room room m count)
+            refl
+            (opens .opened room m at repeats count follows opened)
+            sound
+            (ap (λ (n : ℕ). goTo A n (record { start = at; left = m } ∷ repeats) (memoryOf A (buffersAt A next cells held))) (sym follows))
+        by-room setting rest repeats cells held count follows opened sound (inr full) =
+            let deep = opened-length (next .depth) bodies toCome repeats opened in
+            sticks-there beyond at next setting (repeat (pred (row .a))) rest repeats cells cells held bodiesAfter toComeAfter answer (opens .full full) (omega arith)
 
-      pub end-repeat-crosses : (bodiesAfter toComeAfter : List ℕ) (answer : Crossed) → row .kind ≡ 11
-          → Closes next bodies toCome bodiesAfter toComeAfter answer
-          → CrossesBy A row beyond at next turns bodies toCome turns bodiesAfter toComeAfter answer
-      unfolding blockOf stepAt
-      end-repeat-crosses bodiesAfter toComeAfter answer kind closes =
-          crosses-as endRepeat turns bodiesAfter toComeAfter answer (rw kind)
-          (λ setting lines rest repeats store values copied held words follows here jumps opened shallow sound.
-          by-repeats setting rest repeats (cellsOf A store values turns copied) held follows opened shallow sound)
-        where
-          by-left : (setting : Setting A) (rest : List TableLine) (r : Repeat) (outer : List Repeat) (cells : Cells A) (held : List (A .Carrier)) (left : ℕ)
-              → r .left ≡ left
-              → next .at ≡ suc at
-              → Opened (next .depth) bodies toCome (r ∷ outer)
-              → next .depth ≤ limit .depth
-              → Sound A setting (buffersAt A next cells held)
-              → Crosses setting endRepeat rest (r ∷ outer) cells cells held bodiesAfter toComeAfter answer
-          by-left setting rest r outer cells held zero left follows opened shallow sound =
-              let out = closes .out shallow r outer opened left in
-              goes-to setting endRepeat rest (r ∷ outer) cells cells held bodiesAfter toComeAfter answer (within next (pred (next .depth))) outer (out .0) refl
-              (out .1)
-              sound
-              (turn-out (stateAt A (preceding next at) (r ∷ outer) cells held) r outer left
-              ∙ ap (λ (n : ℕ). goTo A n outer (memoryOf A (buffersAt A next cells held))) (sym follows))
-          by-left setting rest r outer cells held (suc n) left follows opened shallow sound =
-              let back = closes .back shallow r n outer opened left in
-              goes-to setting endRepeat rest (r ∷ outer) cells cells held bodiesAfter toComeAfter answer (moved next (suc (r .start)))
-              (record { start = r .start; left = n } ∷ outer)
-              (back .0)
-              refl
-              (back .1)
-              sound
-              (turn-back (stateAt A (preceding next at) (r ∷ outer) cells held) r n outer left)
+    pub end-repeat-crosses : {bodiesAfter toComeAfter : List ℕ} {answer : Crossed} → row .kind ≡ 11
+        → Closes next bodies toCome bodiesAfter toComeAfter answer
+        → CrossesBy A row beyond at next turns bodies toCome turns bodiesAfter toComeAfter answer
+    unfolding blockOf stepAt
+    end-repeat-crosses {bodiesAfter} {toComeAfter} {answer} kind closes =
+        crosses-as endRepeat turns bodiesAfter toComeAfter answer (rw kind) (closes .left)
+        (λ setting lines rest repeats store values copied held words follows here jumps opened shallow sound.
+        by-repeats setting rest repeats (cellsOf A store values turns copied) held follows opened shallow sound)
+      where
+        by-left : (setting : Setting A) (rest : List TableLine) (r : Repeat) (outer : List Repeat) (cells : Cells A) (held : List (A .Carrier)) (left : ℕ)
+            → r .left ≡ left
+            → next .at ≡ suc at
+            → Opened (next .depth) bodies toCome (r ∷ outer)
+            → next .depth ≤ limit .depth
+            → Sound A setting (buffersAt A next cells held)
+            → Crosses beyond at next setting endRepeat rest (r ∷ outer) cells cells held bodiesAfter toComeAfter answer
+        by-left setting rest r outer cells held zero left follows opened shallow sound =
+            let out = closes .out shallow r outer opened left in
+            goes-to beyond at next setting endRepeat rest (r ∷ outer) cells cells held bodiesAfter toComeAfter answer (within next (pred (next .depth))) outer (out .0) refl
+            (out .1)
+            sound
+            (turn-out (stateAt A (preceding next at) (r ∷ outer) cells held) r outer left
+            ∙ ap (λ (n : ℕ). goTo A n outer (memoryOf A (buffersAt A next cells held))) (sym follows))
+        by-left setting rest r outer cells held (suc n) left follows opened shallow sound =
+            let back = closes .back shallow r n outer opened left in
+            goes-to beyond at next setting endRepeat rest (r ∷ outer) cells cells held bodiesAfter toComeAfter answer (moved next (suc (r .start)))
+            (record { start = r .start; left = n } ∷ outer)
+            (back .0)
+            refl
+            (back .1)
+            sound
+            (turn-back (stateAt A (preceding next at) (r ∷ outer) cells held) r n outer left)
 
-          by-repeats : (setting : Setting A) (rest : List TableLine) (repeats : List Repeat) (cells : Cells A) (held : List (A .Carrier))
-              → next .at ≡ suc at
-              → Opened (next .depth) bodies toCome repeats
-              → next .depth ≤ limit .depth
-              → Sound A setting (buffersAt A next cells held)
-              → Crosses setting endRepeat rest repeats cells cells held bodiesAfter toComeAfter answer
-          by-repeats setting rest [] cells held follows opened shallow sound =
-              sticks-there setting endRepeat rest [] cells cells held bodiesAfter toComeAfter answer (closes .none opened) tt
-          by-repeats setting rest (r ∷ outer) cells held follows opened shallow sound =
-              by-left setting rest r outer cells held (r .left) refl follows opened shallow sound
+        by-repeats : (setting : Setting A) (rest : List TableLine) (repeats : List Repeat) (cells : Cells A) (held : List (A .Carrier))
+            → next .at ≡ suc at
+            → Opened (next .depth) bodies toCome repeats
+            → next .depth ≤ limit .depth
+            → Sound A setting (buffersAt A next cells held)
+            → Crosses beyond at next setting endRepeat rest repeats cells cells held bodiesAfter toComeAfter answer
+        by-repeats setting rest [] cells held follows opened shallow sound =
+            sticks-there beyond at next setting endRepeat rest [] cells cells held bodiesAfter toComeAfter answer (closes .none opened) tt
+        by-repeats setting rest (r ∷ outer) cells held follows opened shallow sound =
+            by-left setting rest r outer cells held (r .left) refl follows opened shallow sound
 
-      pub on-turn-crosses : (picked : Branched) (turnsAfter : List ℕ) (answer : Crossed) → row .kind ≡ 15
-          → TakesTurn A turns (next .turns) turnsAfter picked
-          → TurnsTo beyond at next picked answer
-          → CrossesBy A row beyond at next turns bodies toCome turnsAfter bodies toCome answer
-      unfolding blockOf
-      on-turn-crosses picked turnsAfter answer kind takes to =
-          crosses-as (ifLine onTurn) turnsAfter bodies toCome answer (rw kind)
-          (λ setting lines rest repeats store values copied held words follows here jumps opened shallow sound.
-          turn-crosses setting rest repeats 0 0 store values turns copied held bodies toCome answer lines picked turnsAfter follows here jumps opened sound takes
-          to)
+    pub on-turn-crosses : {picked : Branched} {turnsAfter : List ℕ} {answer : Crossed} → row .kind ≡ 15
+        → TakesTurn A turns (next .turns) turnsAfter picked
+        → TurnsTo beyond at next picked answer
+        → CrossesBy A row beyond at next turns bodies toCome turnsAfter bodies toCome answer
+    unfolding blockOf
+    on-turn-crosses {picked} {turnsAfter} {answer} kind takes to =
+        crosses-as (ifLine onTurn) turnsAfter bodies toCome answer (rw kind) (turn-left beyond at next picked answer to)
+        (λ setting lines rest repeats store values copied held words follows here jumps opened shallow sound.
+        turn-crosses beyond at next setting rest repeats 0 0 store values turns copied held bodies toCome answer lines picked turnsAfter follows here jumps opened sound takes
+        to)
 
-      -- no line has another kind
-      pub never-crosses : (answer : Crossed) → row .kind ≢ 8 → row .kind ≢ 9 → row .kind ≢ 10 → row .kind ≢ 11 → row .kind ≢ 15
-          → CrossesBy A row beyond at next turns bodies toCome turns bodies toCome answer
-      unfolding blockOf
-      never-crosses answer k₈ k₉ k₁₀ k₁₁ k₁₅ setting lines rest other repeats store values copied held words k₇ follows here jumps none-straight opened shallow
-          sound =
-          let nothing : blockOf row ≡ none =
-          rw (
-            ne-eqb (row .kind) 7 k₇,
-            ne-eqb (row .kind) 8 k₈,
-            ne-eqb (row .kind) 9 k₉,
-            ne-eqb (row .kind) 10 k₁₀,
-            ne-eqb (row .kind) 11 k₁₁,
-            ne-eqb (row .kind) 15 k₁₅,
-          ) in
-          let told : none ≡ some other =
-          sym nothing
-          ∙ ap blockOf (sym words)
-          ∙ block-said other (λ basic-row is. none-straight basic-row rest (here ∙ ap (λ (l : TableLine). l ∷ rest) is)) in
-          let z : _≡_ {A = ℕ} 0 1 = cc in
-          absurd (omega arith)
+    -- no line has another kind
+    pub never-crosses : row .kind ≢ 8 → row .kind ≢ 9 → row .kind ≢ 10 → row .kind ≢ 11 → row .kind ≢ 15
+        → CrossesBy A row beyond at next turns bodies toCome turns bodies toCome stuckThere
+    unfolding blockOf
+    never-crosses k₈ k₉ k₁₀ k₁₁ k₁₅ =
+        record {
+          left = tt;
+          crosses = λ setting lines rest other repeats store values copied held words k₇ follows here jumps none-straight opened shallow sound.
+              let nothing : blockOf row ≡ none =
+              rw (
+                ne-eqb (row .kind) 7 k₇,
+                ne-eqb (row .kind) 8 k₈,
+                ne-eqb (row .kind) 9 k₉,
+                ne-eqb (row .kind) 10 k₁₀,
+                ne-eqb (row .kind) 11 k₁₁,
+                ne-eqb (row .kind) 15 k₁₅,
+              ) in
+              let told : none ≡ some other =
+              sym nothing
+              ∙ ap blockOf (sym words)
+              ∙ block-said other (λ basic-row is. none-straight basic-row rest (here ∙ ap (λ (l : TableLine). l ∷ rest) is)) in
+              let z : _≡_ {A = ℕ} 0 1 = cc in
+              absurd (omega arith);
+        }
 
   -- ---- the row at a place
 
-  module _ (table : List ℕ) (rows : ℕ) (beyond : List ℕ) (place : Place) (store : List (A .Carrier)) (turns bodies toCome : List ℕ) where
-    pub block-spent : place .left ≡ 0 → BlockRow A table rows beyond place store turns bodies toCome turns bodies toCome crossed.Stuck
-    block-spent spent setting lines repeats values copied held holds count jumps none-straight opened shallow sound = inl spent
+  -- the step at the line that stands there
+  found-there : (place : Place) (left : ℕ) (spends : place .left ≡ suc left) (beyond turns bodiesAfter toComeAfter turnsAfter : List ℕ) (answer : Crossed)
+      (setting : Setting A) (lines rest : List TableLine) (line : TableLine) (repeats : List Repeat) (store values copied held : List (A .Carrier))
+      → drop (place .at) lines ≡ line ∷ rest
+      → Crosses beyond (place .at) (following place (place .at + 1) left) setting line rest repeats (cellsOf A store values turns copied)
+      (cellsOf A store values turnsAfter copied) held bodiesAfter toComeAfter answer
+      → CrossedSays A setting place bodiesAfter toComeAfter (cellsOf A store values turnsAfter copied) held
+      (step A setting lines (stateAt A place repeats (cellsOf A store values turns copied) held)) answer
+  unfolding step
+  found-there place left spends beyond turns bodiesAfter toComeAfter turnsAfter answer setting lines rest line repeats store values copied held here crosses =
+      let same-place : preceding (following place (place .at + 1) left) (place .at) ≡ place = rw (sym spends) in
+      rw here
+      (subst
+      (λ (p : Place). CrossedSays A setting p bodiesAfter toComeAfter (cellsOf A store values turnsAfter copied) held
+      (stepAt A setting (stateAt A p repeats (cellsOf A store values turns copied) held) (line ∷ rest)) answer)
+      same-place
+      crosses)
 
-    pub block-over : 0 < place .left → rows ≤ place .at → BlockRow A table rows beyond place store turns bodies toCome turns bodies toCome crossed.Over
+  module _ {table : List ℕ} {rows : ℕ} {beyond : List ℕ} {place : Place} {store : List (A .Carrier)} {turns bodies toCome : List ℕ} {met : Met} where
+    pub block-leaves : {how : Ended} → Meets table rows place met → met ≡ met-as.Out how
+        → BlockRow A table rows beyond place store turns bodies toCome turns bodies toCome (crossed.Out how)
     unfolding step stepAt
-    block-over some-left over setting lines repeats values copied held holds count jumps none-straight opened shallow sound =
-        let none-there : drop (place .at) lines ≡ [] = drop-of-length-le lines {i = place .at} (rw count over) in
-        (some-left, rw none-there)
+    block-leaves {how} meets is = by-end how (rw is at meets)
+      where
+        by-end : (how : Ended) → Meets table rows place (met-as.Out how)
+            → BlockRow A table rows beyond place store turns bodies toCome turns bodies toCome (crossed.Out how)
+        by-end ended-as.Finished (some-left, over) =
+            record {
+              left = tt;
+              steps = λ setting lines repeats values copied held holds count jumps none-straight opened shallow sound.
+                  let none-there : drop (place .at) lines ≡ [] = drop-of-length-le lines {i = place .at} (rw count over) in
+                  (some-left, rw none-there);
+            }
+        by-end (ended-as.Stopped row) never = absurd never
+        by-end ended-as.Stuck spent =
+            record {
+              left = tt;
+              steps = λ setting lines repeats values copied held holds count jumps none-straight opened shallow sound. inl spent;
+            }
 
-    module _ (left : ℕ) (spends : place .left ≡ suc left) (turnsAfter bodiesAfter toComeAfter : List ℕ) (answer : Crossed) where
-      abbrev after-it : Place
-      after-it = following place (place .at + 1) left
+    pub block-crosses : {row : RowWords} {next : Place} {turnsAfter bodiesAfter toComeAfter : List ℕ} {answer : Crossed} → Meets table rows place met
+        → met ≡ met-as.Other row next
+        → CrossesBy A (rowSaid row) beyond (place .at) next turns bodies toCome turnsAfter bodiesAfter toComeAfter answer
+        → BlockRow A table rows beyond place store turns bodies toCome turnsAfter bodiesAfter toComeAfter answer
+    block-crosses {row} {next} {turnsAfter} {bodiesAfter} {toComeAfter} {answer} meets is crosses =
+        let (there, not-if) = rw is at meets in
+        let left = there .follows .left in
+        let spends = there .follows .spends in
+        let done = rw (there .follows .is) at crosses in
+        record {
+          left = rw spends (done .left);
+          steps = λ setting lines repeats values copied held holds count jumps none-straight opened shallow sound.
+              let line = stands-there lines (place .at) (rw count (there .within)) in
+              let words = words-there table lines (line .rest) (line .line) (place .at) (rowSaid row) holds (there .said) (line .is) in
+              found-there place left spends beyond turns bodiesAfter toComeAfter turnsAfter answer setting lines (line .rest) (line .line) repeats store values
+              copied held (line .is)
+              (done .crosses setting lines (line .rest) (line .line) repeats store values copied held words not-if (add-one (place .at)) (line .is) jumps
+              none-straight opened shallow sound);
+        }
 
-      same-place : preceding after-it (place .at) ≡ place
-      same-place = rw (sym spends)
-
-      -- the step at the line that stands there
-      found-there : (setting : Setting A) (lines rest : List TableLine) (line : TableLine) (repeats : List Repeat) (values copied held : List (A .Carrier))
-          → drop (place .at) lines ≡ line ∷ rest
-          → Crosses beyond (place .at) after-it setting line rest repeats (cellsOf A store values turns copied) (cellsOf A store values turnsAfter copied) held
-          bodiesAfter toComeAfter answer
-          → CrossedSays A setting place bodiesAfter toComeAfter (cellsOf A store values turnsAfter copied) held
-          (step A setting lines (stateAt A place repeats (cellsOf A store values turns copied) held)) answer
-      unfolding step
-      found-there setting lines rest line repeats values copied held here crosses =
-          rw here
-          (subst
-          (λ (p : Place). CrossedSays A setting p bodiesAfter toComeAfter (cellsOf A store values turnsAfter copied) held
-          (stepAt A setting (stateAt A p repeats (cellsOf A store values turns copied) held) (line ∷ rest)) answer)
-          same-place
-          crosses)
-
-      pub block-crosses : (row : Row) → row ≡ rowAt table (1 + place .at * limit .rowWords) → place .at < rows → row .kind ≢ 7
-          → CrossesBy A row beyond (place .at) after-it turns bodies toCome turnsAfter bodiesAfter toComeAfter answer
-          → BlockRow A table rows beyond place store turns bodies toCome turnsAfter bodiesAfter toComeAfter answer
-      block-crosses row said inside not-if crosses setting lines repeats values copied held holds count jumps none-straight opened shallow sound =
-          let there = stands-there lines (place .at) (rw count inside) in
-          let words = words-there table lines (there .rest) (there .line) (place .at) row holds said (there .is) in
-          found-there setting lines (there .rest) (there .line) repeats values copied held (there .is)
-          (crosses setting lines (there .rest) (there .line) repeats store values copied held words not-if (add-one (place .at)) (there .is) jumps none-straight
-          opened shallow sound)
-
-    module _ (left : ℕ) (spends : place .left ≡ suc left) (answer : Crossed) where
-      pub block-compares : (row : Row) (picked : Branch) → row ≡ rowAt table (1 + place .at * limit .rowWords) → place .at < rows → row .kind ≡ 7
-          → Compares A (row .a) (row .b) store (branchOf picked)
-          → BranchesTo beyond (place .at) (following place (place .at + 1) left) picked answer
-          → BlockRow A table rows beyond place store turns bodies toCome turns bodies toCome answer
-      unfolding blockOf
-      block-compares row picked said inside kind compares to setting lines repeats values copied held holds count jumps none-straight opened shallow sound =
-          let there = stands-there lines (place .at) (rw count inside) in
-          let words = words-there table lines (there .rest) (there .line) (place .at) row holds said (there .is) in
-          let is-if : blockOf row ≡ some (ifLine (whether (less (row .a) (row .b)))) = rw kind in
-          let told : some (ifLine (whether (less (row .a) (row .b)))) ≡ some (there .line) =
-          sym is-if
-          ∙ ap blockOf (sym words)
-          ∙ block-said (there .line)
-          (λ basic-row is. none-straight basic-row (there .rest) (there .is ∙ ap (λ (l : TableLine). l ∷ there .rest) is)) in
-          let same : ifLine (whether (less (row .a) (row .b))) ≡ there .line = cc in
-          let here = there .is ∙ ap (λ (l : TableLine). l ∷ there .rest) (sym same) in
-          found-there left spends turns bodies toCome answer setting lines (there .rest) (ifLine (whether (less (row .a) (row .b)))) repeats values copied held here
-          (compare-crosses beyond (place .at) (following place (place .at + 1) left) setting (there .rest) repeats (row .a) (row .b) store values turns copied held
-          bodies toCome answer lines picked (add-one (place .at)) here jumps opened sound compares to)
+    pub block-compares : {a b : Variable} {next : Place} {picked : Branch} {answer : Crossed} → Meets table rows place met
+        → met ≡ met-as.Compare a b next
+        → Compares A (a .0) (b .0) store picked
+        → BranchesTo beyond (place .at) next picked answer
+        → BlockRow A table rows beyond place store turns bodies toCome turns bodies toCome answer
+    unfolding blockOf
+    block-compares {a} {b} {next} {picked} {answer} meets is compares to =
+        let there = rw is at meets in
+        let row = there .row in
+        let left = there .meets .follows .left in
+        let spends = there .meets .follows .spends in
+        let goes = rw (there .meets .follows .is) at to in
+        let follow = following place (place .at + 1) left in
+        record {
+          left = rw spends (branch-left beyond (place .at) follow picked answer goes);
+          steps = λ setting lines repeats values copied held holds count jumps none-straight opened shallow sound.
+              let line = stands-there lines (place .at) (rw count (there .meets .within)) in
+              let words = words-there table lines (line .rest) (line .line) (place .at) row holds (there .meets .said) (line .is) in
+              let is-if : blockOf row ≡ some (ifLine (whether (less (a .0) (b .0)))) = rw (there .kind, there .first, there .second) in
+              let told : some (ifLine (whether (less (a .0) (b .0)))) ≡ some (line .line) =
+              sym is-if
+              ∙ ap blockOf (sym words)
+              ∙ block-said (line .line)
+              (λ basic-row is. none-straight basic-row (line .rest) (line .is ∙ ap (λ (l : TableLine). l ∷ line .rest) is)) in
+              let same : ifLine (whether (less (a .0) (b .0))) ≡ line .line = cc in
+              let here = line .is ∙ ap (λ (l : TableLine). l ∷ line .rest) (sym same) in
+              found-there place left spends beyond turns bodies toCome turns answer setting lines (line .rest) (ifLine (whether (less (a .0) (b .0)))) repeats
+              store values copied held here
+              (compare-crosses beyond (place .at) follow setting (line .rest) repeats (a .0) (b .0) store values turns copied held bodies toCome answer lines
+              picked (add-one (place .at)) here jumps opened sound compares goes);
+        }

@@ -9,7 +9,6 @@ pub mod AdmittedLaws
 pub mod RowsPinned
 pub mod AttemptLaws
 pub mod RunsCopy
-pub mod RowWordLaws
 pub mod OpenedLaws
 pub mod LineLaws
 pub mod StraightLaws

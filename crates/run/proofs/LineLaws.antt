@@ -6,27 +6,13 @@ use mathlib.Core.Option.{Option, none, some}
 use native.Mathlib.Omega.{arith}
 use lib.Dec.{eqb}
 use Rattle.sheet.specs.Tree.{basic, ifLine, elseLine, endIf, repeat, endRepeat}
-use Rattle.sheet.specs.Rows.{Source, copy, fixed, sum, difference, product, negation, _≔_, less, Row, rowOf, rowOfAssignment, rowOfTest}
+use Rattle.sheet.specs.Rows.{copy, fixed, sum, difference, product, negation, _≔_, less, Row, rowOf, rowOfAssignment, rowOfTest}
 use Rattle.table.specs.TableRows.{Action, assign, save, takeBack, saveTurn, clear, turnRound, whether, onTurn, TableLine, TableRow, rowOfAction, rowOfTableTest, tableRowOf}
-use Rattle.run.specs.inner.RowWords.{sourceOf}
+use Rattle.run.specs.inner.RowWords.{actionOf}
 use Rattle.run.specs.inner.RowSteps.{isOfBlock}
 
 pub true-apart : true ≡ false → ⊥
 true-apart is = let z : _≡_ {A = ℕ} 0 1 = cc in omega arith
-
-abbrev pub assignmentOf : (d : ℕ) → Option Source → Option Action
-assignmentOf d none = none
-assignmentOf d (some source) = some (assign (d ≔ source))
-
--- in the order in which the code asks
-unfoldable pub actionOf : Row → Option Action
-unfolding sourceOf
-actionOf row =
-    cond (eqb (row .kind) 12) (some (save (row .d)))
-    (cond (eqb (row .kind) 13) (some (takeBack (row .d)))
-    (cond (eqb (row .kind) 14) (some (saveTurn (eqb (row .a) 1)))
-    (cond (eqb (row .kind) 16) (some (clear (row .d)))
-    (cond (eqb (row .kind) 17) (some turnRound) (assignmentOf (row .d) (sourceOf (row .kind) (row .a) (row .b)))))))
 
 pub action-said : (action : Action) → actionOf (rowOfAction action) ≡ some action
 unfolding actionOf rowOfAction rowOfAssignment

@@ -8,7 +8,7 @@ use lib.ListN.{length, getD, set, length-set}
 use lib.Seq.{getD-set-same, getD-set-other}
 use Rattle.sheet.specs.Bounds.{limit}
 use Rattle.run.specs.Machine.{Repeat}
-use Rattle.run.specs.inner.RowSteps.{Nested, Opened, Opens, Closes, moved, within}
+use Rattle.run.specs.inner.RowSteps.{stuckThere, Nested, Opened, Opens, Closes, moved, within}
 use Rattle.run.specs.declared.Place.{Place}
 use Rattle.run.specs.declared.Crossed.the-variants as crossed
 
@@ -54,7 +54,7 @@ opened-length n bodies toCome repeats now = nested-length n bodies toCome repeat
 -- ---- kind 10
 
 module _ (count : ℕ) (next : Place) (bodies toCome : List ℕ) where
-  pub opens-full : limit .depth ≤ next .depth → Opens count next bodies toCome bodies toCome crossed.Stuck
+  pub opens-full : limit .depth ≤ next .depth → Opens count next bodies toCome bodies toCome stuckThere
   opens-full full =
       record {
         left = tt;
@@ -63,7 +63,7 @@ module _ (count : ℕ) (next : Place) (bodies toCome : List ℕ) where
         opened = λ room m start repeats is at now. absurd (omega arith);
       }
 
-  pub opens-none : count ≡ 0 → Opens count next bodies toCome bodies toCome crossed.Stuck
+  pub opens-none : count ≡ 0 → Opens count next bodies toCome bodies toCome stuckThere
   opens-none none =
       record {
         left = tt;
@@ -122,7 +122,7 @@ nested-again n top bodies toCome r m outer is room now =
     )
 
 module _ (next : Place) (bodies toCome : List ℕ) where
-  pub closes-none : next .depth ≡ 0 → Closes next bodies toCome bodies toCome crossed.Stuck
+  pub closes-none : next .depth ≡ 0 → Closes next bodies toCome bodies toCome stuckThere
   closes-none is =
       record {
         left = tt;
@@ -132,7 +132,7 @@ module _ (next : Place) (bodies toCome : List ℕ) where
       }
 
   -- more than there is room for
-  pub closes-beyond : limit .depth < next .depth → Closes next bodies toCome bodies toCome crossed.Stuck
+  pub closes-beyond : limit .depth < next .depth → Closes next bodies toCome bodies toCome stuckThere
   closes-beyond is =
       record {
         left = tt;

@@ -10,9 +10,9 @@ use lib.ListN.{length, getD, take, drop, set, length-append, List·getD-append, 
 use lib.Seq.{paste, paste-zero, paste-suc, length-paste, getD-take, take-all, length-take-le}
 use Rattle.number.specs.Arithmetic.{Arithmetic}
 use Rattle.sheet.specs.Rows.{isDependent}
-use Rattle.run.specs.Attempts.{through, stuck}
 use Rattle.run.specs.Actions.{seeded, turnedRound, acted}
 use Rattle.run.specs.inner.Buffers.{RoundSizes, TurnsRound}
+use Rattle.run.specs.declared.Went.the-variants as went
 use Rattle.run.proofs.RoleLaws.{seeded-counting, counting-length, counting-at}
 
 module _ (A : Arithmetic) where
@@ -93,7 +93,7 @@ module _ (A : Arithmetic) where
           let none-left : drop (0 + v) copied ≡ [] = drop-of-length-le copied {i = 0 + v} (omega arith) in
           now .copiedIs ∙ rw none-left (append-nil (take v store))
 
-      pub round-done : (s c : List (A .Carrier)) → Copying (length roles) s c → TurnsRound A roles seeds store copied s c (through tt)
+      pub round-done : (s c : List (A .Carrier)) → Copying (length roles) s c → TurnsRound A roles seeds store copied s c went.On
       unfolding acted turnedRound
       round-done s c now =
           record {
@@ -107,7 +107,7 @@ module _ (A : Arithmetic) where
           }
 
     -- no turn at all
-    pub round-refused : (RoundSizes A roles seeds store copied → ⊥) → TurnsRound A roles seeds store copied store copied stuck
+    pub round-refused : (RoundSizes A roles seeds store copied → ⊥) → TurnsRound A roles seeds store copied store copied went.Stuck
     round-refused not = record { round = λ sizes. absurd (not sizes); refused = λ _. (refl, refl, refl) }
 
     -- the loop's invariant: i turns are done
@@ -138,7 +138,7 @@ module _ (A : Arithmetic) where
         }
 
     pub turning-ends : (i : ℕ) (s c : List (A .Carrier)) → length roles ≤ i → Turning i s c
-        → TurnsRound A roles seeds store copied s c (through tt)
+        → TurnsRound A roles seeds store copied s c went.On
     turning-ends i s c h now =
         let all : i ≡ length roles = omega arith in
         round-done (now .sizes) s c (rw all at (now .copying))

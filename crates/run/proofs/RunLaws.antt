@@ -13,13 +13,15 @@ use Rattle.run.specs.Machine.{Repeat, State, Step, goesOn, ended, stops,
 use Rattle.run.specs.inner.Buffers.{memoryOf, Sound, RoundSizes}
 use Rattle.run.specs.inner.Runnable.{Shallow}
 use Rattle.run.specs.inner.RowSteps.{Nested, Opened, firstPlace, buffersAt, stateAt, CopiesOn, StopsAt, Blocked, GoesTo, StepsStraight, StraightRow, CrossedSays, BlockRow}
-use Rattle.run.specs.inner.RunsRows.{Cells, cellsOf, Handed, Finishes, StoppedAt}
+use Rattle.run.specs.inner.RunsRows.{Cells, cellsOf, Handed, Finishes, StoppedAt, RunsRows}
 use Rattle.run.specs.declared.Place.{Place}
 use Rattle.run.specs.declared.Acted.{Acted}
 use Rattle.run.specs.declared.Acted.the-variants as acted
 use Rattle.run.specs.declared.Crossed.{Crossed}
 use Rattle.run.specs.declared.Crossed.the-variants as crossed
+use Rattle.run.specs.declared.Ended.{Ended}
 use Rattle.run.specs.declared.Ended.the-variants as ended-as
+use Rattle.sheet.specs.declared.RowNumber.{RowNumber}
 use Rattle.run.proofs.OpenedLaws.{opened-length}
 
 module _ (A : Arithmetic) (setting : Setting A) (lines : List TableLine) where
@@ -85,6 +87,22 @@ module _ (A : Arithmetic) where
       let fits = sizes .storeFits in
       record { seedsFit = sizes .seedsFit; storeFits = rw s fits; copiedFits = c ∙ sizes .copiedFits }
 
+-- a row leaves every buffer as long as it was
+pub record SameLengths {A : Arithmetic} (before after : Cells A) : Type 0 where
+  pub store : length (after .store) ≡ length (before .store)
+  pub values : length (after .values) ≡ length (before .values)
+  pub turns : length (after .turns) ≡ length (before .turns)
+  pub copied : length (after .copied) ≡ length (before .copied)
+
+lengths-on : {A : Arithmetic} {first cells after : Cells A} → SameLengths first cells → SameLengths cells after → SameLengths first after
+lengths-on before now =
+    record {
+      store = now .store ∙ before .store;
+      values = now .values ∙ before .values;
+      turns = now .turns ∙ before .turns;
+      copied = now .copied ∙ before .copied;
+    }
+
 -- what a run is given that stays as it is
 pub record Task (A : Arithmetic) : Type 0 where
   pub table : List ℕ
@@ -95,7 +113,7 @@ pub record Task (A : Arithmetic) : Type 0 where
   pub seeds : List (A .Carrier)
   pub steps : ℕ
 
-module _ (A : Arithmetic) (task : Task A) where
+module _ {A : Arithmetic} (task : Task A) where
   abbrev HandedOver : (first : Cells A) → Setting A → List TableLine → Memory A → Type 0
   HandedOver first setting lines start =
       Handed A (task .table) (task .rows) (task .beyond) (task .roles) (task .constants) (task .seeds) first setting lines start
@@ -107,6 +125,10 @@ module _ (A : Arithmetic) (task : Task A) where
   abbrev Block : Place → (before : Cells A) → (bodies toCome turnsAfter bodiesAfter toComeAfter : List ℕ) → Crossed → Type 0
   Block place before bodies toCome turnsAfter bodiesAfter toComeAfter answer =
       BlockRow A (task .table) (task .rows) (task .beyond) place (before .store) (before .turns) bodies toCome turnsAfter bodiesAfter toComeAfter answer
+
+  abbrev Ends : (first after : Cells A) → Ended → Type 0
+  Ends first after how =
+      RunsRows A (task .table) (task .rows) (task .beyond) (task .roles) (task .constants) (task .seeds) (task .steps) first after how
 
   abbrev runFrom : Setting A → List TableLine → Memory A → Ending A
   runFrom setting lines start = runFor A (task .steps) setting lines (record { at = 0; repeats = []; memory = start })
@@ -124,23 +146,25 @@ module _ (A : Arithmetic) (task : Task A) where
 
   -- under every setting, lines and start that the runner may have been handed with its first buffers
   pub record Invariant (first : Cells A) (place : Place) (cells : Cells A) (bodies toCome : List ℕ) : Type 0 where
-    pub storeLength : length (cells .store) ≡ length (first .store)
-    pub valuesLength : length (cells .values) ≡ length (first .values)
-    pub turnsLength : length (cells .turns) ≡ length (first .turns)
-    pub copiedLength : length (cells .copied) ≡ length (first .copied)
+    pub lengths : SameLengths first cells
     pub running : (setting : Setting A) (lines : List TableLine) (start : Memory A)
         → HandedOver first setting lines start
         → Running setting lines start place cells bodies toCome
 
-  pub invariant-starts : (first : Cells A) (bodies toCome : List ℕ) → limit .depth ≤ length bodies → limit .depth ≤ length toCome
-      → Invariant first (firstPlace (task .steps)) first bodies toCome
+  -- The inner loop: what held where it began holds on. It can't see the run's first buffers, so it speaks of any.
+  pub record Inner (began : Place) (cellsThen : Cells A) (place : Place) (cells : Cells A) (bodies toCome : List ℕ) : Type 0 where
+    pub lengths : SameLengths cellsThen cells
+    pub fewer : place .left ≤ began .left
+    pub still : (first : Cells A) → Invariant first began cellsThen bodies toCome → Invariant first place cells bodies toCome
+
+  pub run-starts : (first : Cells A) (bodies toCome : List ℕ) (place : Place) → place ≡ firstPlace (task .steps) → limit .depth ≤ length bodies
+      → limit .depth ≤ length toCome
+      → Invariant first place first bodies toCome
   unfolding Nested
-  invariant-starts first bodies toCome roomOfBodies roomOfTurns =
-      record {
-        storeLength = refl;
-        valuesLength = refl;
-        turnsLength = refl;
-        copiedLength = refl;
+  run-starts first bodies toCome place is roomOfBodies roomOfTurns =
+      rw is
+      (record {
+        lengths = record { store = refl; values = refl; turns = refl; copied = refl };
         running = λ setting lines start handed.
             let whole = memory-rebuilt A start (first .store) [] [] (start .copied) (handed .store) (handed .values) (handed .turns) refl in
             let state : stateAt A (firstPlace (task .steps)) [] first (start .copied) ≡ record { at = 0; repeats = []; memory = start } =
@@ -154,6 +178,14 @@ module _ (A : Arithmetic) (task : Task A) where
               sound = handed .sound;
               copies = inl refl;
             };
+      })
+
+  pub inner-starts : (place : Place) (cells : Cells A) (bodies toCome : List ℕ) → Inner place cells place cells bodies toCome
+  inner-starts place cells bodies toCome =
+      record {
+        lengths = record { store = refl; values = refl; turns = refl; copied = refl };
+        fewer = omega arith;
+        still = λ first now. now;
       }
 
   module _ (setting : Setting A) (lines : List TableLine) (start : Memory A) (place : Place) (cells : Cells A) (bodies toCome : List ℕ)
@@ -239,29 +271,22 @@ module _ (A : Arithmetic) (task : Task A) where
 
   -- ---- the inner loop's row
 
-  module _ (first : Cells A) (place : Place) (cells after : Cells A) (bodies toCome : List ℕ) (now : Invariant first place cells bodies toCome) where
+  module _ {first cells after : Cells A} {place : Place} {bodies toCome : List ℕ} (now : Invariant first place cells bodies toCome) where
     stepped : (setting : Setting A) (lines : List TableLine) (start : Memory A) → (handed : HandedOver first setting lines start)
         → (answer : Acted)
         → Straight place cells after answer
         → StepsStraight A setting lines place (now .running setting lines start handed .repeats) cells after (now .running setting lines start handed .held) answer
     stepped setting lines start handed answer straight =
         let here = now .running setting lines start handed in
-        straight setting lines (here .repeats) (here .held) (handed .holds) (handed .rows) (handed .suits)
-        (sizes-kept A (task .roles) (task .seeds) (first .store) (first .copied) (cells .store) (cells .copied) (now .storeLength) (now .copiedLength) (handed .sizes))
+        straight .steps setting lines (here .repeats) (here .held) (handed .holds) (handed .rows) (handed .suits)
+        (sizes-kept A (task .roles) (task .seeds) (first .store) (first .copied) (cells .store) (cells .copied) (now .lengths .store) (now .lengths .copied)
+        (handed .sizes))
         (here .sound)
 
-    pub straight-goes : (next : Place) → Straight place cells after (acted.On next)
-        → length (after .store) ≡ length (cells .store)
-        → length (after .values) ≡ length (cells .values)
-        → length (after .turns) ≡ length (cells .turns)
-        → length (after .copied) ≡ length (cells .copied)
-        → Invariant first next after bodies toCome
-    straight-goes next straight s v t c =
+    straight-on : (next : Place) → Straight place cells after (acted.On next) → SameLengths cells after → Invariant first next after bodies toCome
+    straight-on next straight kept =
         record {
-          storeLength = s ∙ now .storeLength;
-          valuesLength = v ∙ now .valuesLength;
-          turnsLength = t ∙ now .turnsLength;
-          copiedLength = c ∙ now .copiedLength;
+          lengths = lengths-on (now .lengths) kept;
           running = λ setting lines start handed.
               let here = now .running setting lines start handed in
               let steps-on = stepped setting lines start handed (acted.On next) straight in
@@ -269,22 +294,6 @@ module _ (A : Arithmetic) (task : Task A) where
               (rw (steps-on .says .0) (here .opened))
               (steps-on .copies);
         }
-
-    pub straight-stops : Straight place cells after acted.Stopped
-        → (setting : Setting A) (lines : List TableLine) (start : Memory A)
-        → HandedOver first setting lines start
-        → StoppedAt A (place .at) (runFrom setting lines start)
-    straight-stops straight setting lines start handed =
-        let says = stepped setting lines start handed acted.Stopped straight .says in
-        running-stops setting lines start place cells bodies toCome (now .running setting lines start handed) (says .0) (says .1)
-
-    pub straight-sticks : Straight place cells after acted.Stuck
-        → (setting : Setting A) (lines : List TableLine) (start : Memory A)
-        → HandedOver first setting lines start
-        → (runFrom setting lines start ≡ gotStuck) ⊎ (runFrom setting lines start ≡ outOfFuel)
-    straight-sticks straight setting lines start handed =
-        running-stuck setting lines start place cells bodies toCome (now .running setting lines start handed)
-        (stepped setting lines start handed acted.Stuck straight .says)
 
     -- ---- the block row after it: where no straight row stood, nothing has happened
 
@@ -303,7 +312,7 @@ module _ (A : Arithmetic) (task : Task A) where
         crossed-says turnsAfter bodiesAfter toComeAfter answer block =
             let few = rested .shallow 0 _ (after-none A setting lines (stateAt A place (rested .repeats) after (rested .held))) in
             let deep = opened-length (place .depth) bodies toCome (rested .repeats) (rested .opened) in
-            block setting lines (rested .repeats) (after .values) (after .copied) (rested .held) (handed .holds) (handed .rows) (handed .jumps)
+            block .steps setting lines (rested .repeats) (after .values) (after .copied) (rested .held) (handed .holds) (handed .rows) (handed .jumps)
             (stepped setting lines start handed acted.Block straight .says .0)
             (rested .opened)
             (rw (sym deep) few)
@@ -313,19 +322,13 @@ module _ (A : Arithmetic) (task : Task A) where
         abbrev left-over : Cells A
         left-over = cellsOf A (after .store) (after .values) turnsAfter (after .copied)
 
-        pub block-goes : (next : Place)
+        block-on : (next : Place)
             → Block place after bodies toCome turnsAfter bodiesAfter toComeAfter (crossed.On next)
-            → length (after .store) ≡ length (cells .store)
-            → length (after .values) ≡ length (cells .values)
-            → length turnsAfter ≡ length (cells .turns)
-            → length (after .copied) ≡ length (cells .copied)
+            → SameLengths cells left-over
             → Invariant first next left-over bodiesAfter toComeAfter
-        block-goes next block s v t c =
+        block-on next block kept =
             record {
-              storeLength = s ∙ now .storeLength;
-              valuesLength = v ∙ now .valuesLength;
-              turnsLength = t ∙ now .turnsLength;
-              copiedLength = c ∙ now .copiedLength;
+              lengths = lengths-on (now .lengths) kept;
               running = λ setting lines start handed.
                   let says = crossed-says setting lines start handed turnsAfter bodiesAfter toComeAfter (crossed.On next) block in
                   let here = rested setting lines start handed in
@@ -334,18 +337,58 @@ module _ (A : Arithmetic) (task : Task A) where
                   (inl (refl, refl));
             }
 
-        pub block-ends : Block place after bodies toCome turnsAfter bodiesAfter toComeAfter crossed.Over
-            → (setting : Setting A) (lines : List TableLine) (start : Memory A)
-            → HandedOver first setting lines start
-            → Finishes A start left-over (runFrom setting lines start)
-        block-ends block setting lines start handed =
-            let says = crossed-says setting lines start handed turnsAfter bodiesAfter toComeAfter crossed.Over block in
+        block-out : (how : Ended) → Block place after bodies toCome turnsAfter bodiesAfter toComeAfter (crossed.Out how) → Ends first left-over how
+        block-out ended-as.Finished block setting lines start handed =
+            let says = crossed-says setting lines start handed turnsAfter bodiesAfter toComeAfter (crossed.Out ended-as.Finished) block in
             running-ends setting lines start place after bodies toCome (rested setting lines start handed) left-over (says .0) (says .1) refl
-
-        pub block-sticks : Block place after bodies toCome turnsAfter bodiesAfter toComeAfter crossed.Stuck
-            → (setting : Setting A) (lines : List TableLine) (start : Memory A)
-            → HandedOver first setting lines start
-            → (runFrom setting lines start ≡ gotStuck) ⊎ (runFrom setting lines start ≡ outOfFuel)
-        block-sticks block setting lines start handed =
+        block-out (ended-as.Stopped row) block setting lines start handed =
+            absurd (crossed-says setting lines start handed turnsAfter bodiesAfter toComeAfter (crossed.Out (ended-as.Stopped row)) block)
+        block-out ended-as.Stuck block setting lines start handed =
             running-stuck setting lines start place after bodies toCome (rested setting lines start handed)
-            (crossed-says setting lines start handed turnsAfter bodiesAfter toComeAfter crossed.Stuck block)
+            (crossed-says setting lines start handed turnsAfter bodiesAfter toComeAfter (crossed.Out ended-as.Stuck) block)
+
+  -- ---- what each answer of the code comes to, at the place where the inner loop is
+
+  module _ {cells cellsThen after : Cells A} {place began : Place} {bodies toCome : List ℕ} {answer : Acted}
+      (inner : Inner began cellsThen place cells bodies toCome)
+      (straight : Straight place cells after answer) where
+    pub straight-fewer : {next : Place} → answer ≡ acted.On next → next .left < place .left
+    straight-fewer is = omega (arith, (rw is at straight) .left)
+
+    pub inner-goes : {next : Place} → answer ≡ acted.On next → SameLengths cells after → Inner began cellsThen next after bodies toCome
+    inner-goes {next} is kept =
+        let goes = rw is at straight in
+        record {
+          lengths = lengths-on (inner .lengths) kept;
+          fewer = omega (arith, goes .left, inner .fewer);
+          still = λ first before. straight-on (inner .still first before) next goes kept;
+        }
+
+    module _ {first : Cells A} (run : Invariant first began cellsThen bodies toCome) where
+      pub straight-stops : answer ≡ acted.Stopped → (row : RowNumber) → row .0 ≡ place .at → Ends first after (ended-as.Stopped row)
+      straight-stops is row at setting lines start handed =
+          let now = inner .still first run in
+          let says = stepped now setting lines start handed acted.Stopped (rw is at straight) .says in
+          rw at (running-stops setting lines start place cells bodies toCome (now .running setting lines start handed) (says .0) (says .1))
+
+      pub straight-sticks : answer ≡ acted.Stuck → Ends first after ended-as.Stuck
+      straight-sticks is setting lines start handed =
+          let now = inner .still first run in
+          running-stuck setting lines start place cells bodies toCome (now .running setting lines start handed)
+          (stepped now setting lines start handed acted.Stuck (rw is at straight) .says)
+
+      module _ {turnsAfter bodiesAfter toComeAfter : List ℕ} {crossing : Crossed}
+          (block : Block place after bodies toCome turnsAfter bodiesAfter toComeAfter crossing) where
+        pub block-fewer : {next : Place} → crossing ≡ crossed.On next → next .left < began .left
+        block-fewer is = omega (arith, (rw is at block) .left, inner .fewer)
+
+        pub block-goes : {next : Place} → answer ≡ acted.Block → crossing ≡ crossed.On next
+            → SameLengths cells (cellsOf A (after .store) (after .values) turnsAfter (after .copied))
+            → Invariant first next (cellsOf A (after .store) (after .values) turnsAfter (after .copied)) bodiesAfter toComeAfter
+        block-goes {next} none is kept =
+            block-on (inner .still first run) (rw none at straight) turnsAfter bodiesAfter toComeAfter next (rw is at block) kept
+
+        pub block-ends : {how : Ended} → answer ≡ acted.Block → crossing ≡ crossed.Out how
+            → Ends first (cellsOf A (after .store) (after .values) turnsAfter (after .copied)) how
+        block-ends {how} none is =
+            block-out (inner .still first run) (rw none at straight) turnsAfter bodiesAfter toComeAfter how (rw is at block)

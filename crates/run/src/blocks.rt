@@ -1,13 +1,12 @@
 // The rows of blocks but for the comparison, which no arithmetic has a part in. `next` is the place of the row after the one at hand.
 ghost use mathlib.Core.Path.{_≡_};
-ghost use Prim.Native.Nat.{suc};
-ghost use Rattle.number.specs.Doubles.{doubles};
-ghost use Rattle.number.specs.Residues.{residues};
 ghost use Rattle.sheet.specs.Answers.{rowSaid};
-ghost use Rattle.run.specs.inner.RowSteps.{moved, within, raised, JumpsTo, BranchesTo, TurnsTo, Opens, Closes, CrossesBy, CrossedLeft};
+ghost use Rattle.run.specs.inner.Buffers.{InBoth};
+ghost use Rattle.run.specs.inner.RowSteps.{moved, within, raised, JumpsTo, BranchesTo, TurnsTo, Opens, Closes, CrossesBy};
 use super::Branch;
 use super::Branched;
 use super::Crossed;
+use super::Ended;
 use super::Place;
 use super::turns::test_turn;
 use sheet::MAX_DEPTH;
@@ -61,7 +60,7 @@ fn jump(beyond: &[u16], at: RowNumber, next: Place) -> Crossed
         let to = wide(beyond[row]);
         return Crossed::On(moved(next, to));
     }
-    Crossed::Stuck
+    Crossed::Out(Ended::Stuck)
 }
 
 // Kind 7, from the branch that the comparison picks.
@@ -71,7 +70,7 @@ pub fn branch_to(branch: Branch, beyond: &[u16], at: RowNumber, next: Place) -> 
     match branch {
         Branch::First => Crossed::On(next),
         Branch::Second => jump(beyond, at, next),
-        Branch::Stuck => Crossed::Stuck,
+        Branch::Stuck => Crossed::Out(Ended::Stuck),
     }
 }
 
@@ -82,7 +81,7 @@ fn turn_to(branched: Branched, beyond: &[u16], at: RowNumber, next: Place) -> Cr
     match branched {
         Branched::First(height) => Crossed::On(turned(next, height)),
         Branched::Second(height) => jump(beyond, at, turned(next, height)),
-        Branched::Stuck => Crossed::Stuck,
+        Branched::Stuck => Crossed::Out(Ended::Stuck),
     }
 }
 
@@ -97,10 +96,10 @@ fn open_repeat(
 {
     let depth = next.depth;
     if MAX_DEPTH <= depth {
-        return Crossed::Stuck;
+        return Crossed::Out(Ended::Stuck);
     }
     if count == 0 {
-        return Crossed::Stuck;
+        return Crossed::Out(Ended::Stuck);
     }
     let body = next.at;
     bodies[depth] = body;
@@ -114,11 +113,11 @@ fn close_turn(next: Place, bodies: &[usize; MAX_DEPTH], to_come: &mut [u16; MAX_
 {
     let depth = next.depth;
     if depth == 0 {
-        return Crossed::Stuck;
+        return Crossed::Out(Ended::Stuck);
     }
     let top = depth - 1;
     if MAX_DEPTH <= top {
-        return Crossed::Stuck;
+        return Crossed::Out(Ended::Stuck);
     }
     let turns = to_come[top];
     if turns == 0 {
@@ -139,11 +138,8 @@ pub fn cross(
     bodies: &mut [usize; MAX_DEPTH],
     to_come: &mut [u16; MAX_DEPTH],
 ) -> Crossed
-    ensures { λ r. ⌜ CrossesBy residues (rowSaid row) (now (beyond .entry)) (at .0) next (now (turns .entry)) (now (bodies .entry))
-        (now («to_come» .entry)) (now (turns .exit)) (now (bodies .exit)) (now («to_come» .exit)) r
-        × CrossesBy doubles (rowSaid row) (now (beyond .entry)) (at .0) next (now (turns .entry)) (now (bodies .entry))
-        (now («to_come» .entry)) (now (turns .exit)) (now (bodies .exit)) (now («to_come» .exit)) r
-        × CrossedLeft (suc (next .left)) r ⌝ }
+    ensures { λ r. ⌜ InBoth (λ A. CrossesBy A (rowSaid row) (now (beyond .entry)) (at .0) next (now (turns .entry)) (now (bodies .entry))
+        (now («to_come» .entry)) (now (turns .exit)) (now (bodies .exit)) (now («to_come» .exit)) r) ⌝ }
 {
     let kind = row.kind;
     if kind == kinds::ELSE {
@@ -161,5 +157,5 @@ pub fn cross(
     if kind == table::kinds::ON_TURN {
         return turn_to(test_turn(turns, next.turns), beyond, at, next);
     }
-    Crossed::Stuck
+    Crossed::Out(Ended::Stuck)
 }

@@ -11,17 +11,20 @@ mod jumps;
 mod places;
 mod refusals;
 mod residues;
+mod rows;
 mod turns;
 
 pub use calls_audit::run_audit;
 pub use calls_double::run_double;
 pub use refusals::NOT_FINITE_RESULT;
 use sheet::RowNumber;
+use sheet::RowWords;
+use sheet::Variable;
 use table::Answer;
 use table::Plan;
 
 // The lengths of what a run is lent.
-pub struct Rooms {
+struct Rooms {
     pub table: usize,
     pub values: usize,
     pub turns: usize,
@@ -31,7 +34,7 @@ pub struct Rooms {
 }
 
 // What refuses a planned sheet's run, refusals 8 to 11. A start value or seed that isn't finite has its place.
-pub enum Unfit {
+enum Unfit {
     SmallTable,
     SmallValueStack,
     SmallTurnStack,
@@ -41,64 +44,85 @@ pub enum Unfit {
     NotFinite(usize),
 }
 
-pub enum Fit {
+enum Fit {
     No(Unfit),
     Fits,
 }
 
 // What refusals 1 to 10 come to: the first one's answer, or the plan of a sheet that has room.
-pub enum Judged {
+enum Judged {
     No(Answer),
     HasRoom(Plan),
 }
 
+// What an assignment's row reads. `None` stands for words of no assignment.
+enum RightSide {
+    Copy(Variable),
+    Constant(usize),
+    Sum(Variable, Variable),
+    Difference(Variable, Variable),
+    Product(Variable, Variable),
+    Negation(Variable),
+    None,
+}
+
+// What a straight row does.
+enum Straight {
+    Save(Variable),
+    TakeBack(Variable),
+    SaveTurn(bool),
+    Clear(Variable),
+    TurnRound,
+    Assign(Variable, RightSide),
+}
+
 // A right side in residues, which nothing stops.
-pub enum ResidueRead {
+enum ResidueRead {
     Is(u32),
     Stuck,
 }
 
-pub enum DoubleRead {
+enum DoubleRead {
     Is(f64),
     Stopped,
     Stuck,
 }
 
 // What a row comes to that no arithmetic can stop.
-pub enum Went {
+enum Went {
     On,
     Stuck,
 }
 
 // What an assignment in doubles comes to.
-pub enum Did {
+enum Did {
     On,
     Stopped,
     Stuck,
 }
 
 // What a row comes to that moves a stack: its new height.
-pub enum Moved {
+enum Moved {
     To(usize),
     Stuck,
 }
 
 // The branch that a test picks.
-pub enum Branch {
+enum Branch {
     First,
     Second,
     Stuck,
 }
 
 // The branch that a turn taken back picks, with the turn stack's new height.
-pub enum Branched {
+enum Branched {
     First(usize),
     Second(usize),
     Stuck,
 }
 
 // Where a run is: its row, how many repeats are open, the heights of both stacks, and how many steps are left.
-pub struct Place {
+struct Place {
     pub at: usize,
     pub depth: usize,
     pub values: usize,
@@ -106,23 +130,36 @@ pub struct Place {
     pub left: usize,
 }
 
+// What the inner loop finds at a place: a straight row with the place after it, the row of a block or none, or no step left for a straight row.
+enum Found {
+    Row(Straight, Place),
+    Block,
+    Spent,
+}
+
+// What the outer loop meets at a place: the run's end, a comparison, or another row, each row with the place after it.
+enum Met {
+    Out(Ended),
+    Compare(Variable, Variable, Place),
+    Other(RowWords, Place),
+}
+
 // What a straight row comes to: the place after it. `Block` is the answer where no straight row stands.
-pub enum Acted {
+enum Acted {
     On(Place),
     Block,
     Stopped,
     Stuck,
 }
 
-// What a row of a block comes to: the place after it. `Over` is the answer past the last row.
-pub enum Crossed {
+// What a row of a block comes to: the place after it, or the end of the run.
+enum Crossed {
     On(Place),
-    Over,
-    Stuck,
+    Out(Ended),
 }
 
 // What a run comes to. Stuck stands for a stuck machine and for one that is out of steps.
-pub enum Ended {
+enum Ended {
     Finished,
     Stopped(RowNumber),
     Stuck,

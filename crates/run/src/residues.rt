@@ -1,31 +1,32 @@
 // Single rows of the row machine in residues.
-ghost use Prim.Native.Nat.{suc};
 ghost use mathlib.Core.Bool.{cond};
 ghost use mathlib.Core.Path.{_≡_};
 ghost use Rattle.number.specs.Residues.{residues};
 ghost use Rattle.sheet.specs.Rows.{copy, sum, difference, product, negation, isDependent};
-ghost use Rattle.run.specs.inner.RowAnswers.{readResidue, whetherWent, branchOf};
-ghost use Rattle.run.specs.inner.Buffers.{Evaluates, EvaluatesFixed, Assigns, Clears, Saves, TakesBack, Compares, TurnsRound};
-ghost use Rattle.run.specs.inner.RowWords.{EvaluatesWords, AssignsWords};
+ghost use Rattle.table.specs.TableRows.{save, takeBack};
+ghost use Rattle.run.specs.inner.RowAnswers.{readResidue, whetherWent};
+ghost use Rattle.run.specs.inner.Buffers.{Evaluates, EvaluatesFixed, Assigns, Clears, MovesValues, Compares, TurnsRound};
+ghost use Rattle.run.specs.inner.RowWords.{sourceSaid, EvaluatesSaid};
 use super::Acted;
 use super::Crossed;
 use super::Ended;
+use super::Found;
+use super::Met;
 use super::Place;
+use super::RightSide;
+use super::Straight;
 use super::blocks::branch_to;
 use super::blocks::cross;
 use super::places::first_place;
-use super::places::following;
-use super::places::is_of_block;
 use super::places::turns_to;
 use super::places::values_to;
 use super::places::went_to;
+use super::rows::block_at;
+use super::rows::straight_at;
 use super::turns::save_turn;
 use sheet::MAX_DEPTH;
 use sheet::RowNumber;
-use sheet::RowWords;
-use sheet::row_words;
-ghost use Rattle.sheet.specs.Answers.{rowSaid};
-ghost use Rattle.run.specs.inner.RowSteps.{ActsBy, StraightRow, BlockRow, ActedLeft, CrossedLeft};
+ghost use Rattle.run.specs.inner.RowSteps.{ActsBy, StraightRow, BlockRow};
 ghost use Rattle.run.specs.inner.RunsRows.{cellsOf, RunsRows};
 use super::Branch;
 use super::Moved;
@@ -35,7 +36,6 @@ use number::constant;
 use number::residue;
 use sheet::Variable;
 use sheet::is_dependent;
-use sheet::kinds;
 
 // Kind 1.
 pub fn copied(vals: &[u32], a: Variable) -> ResidueRead
@@ -117,29 +117,18 @@ pub fn negated(vals: &[u32], a: Variable) -> ResidueRead
     }
 }
 
-// The right side that a row's words say.
-pub fn evaluate(kind: u16, a: usize, b: usize, constants: &[u16], vals: &[u32]) -> ResidueRead
-    ensures { λ r. ⌜ EvaluatesWords residues kind a b (now (constants .entry)) (now (vals .entry)) (readResidue r) ⌝ }
+pub fn evaluate(source: RightSide, constants: &[u16], vals: &[u32]) -> ResidueRead
+    ensures { λ r. ⌜ EvaluatesSaid residues (sourceSaid source) (now (constants .entry)) (now (vals .entry)) (readResidue r) ⌝ }
 {
-    if kind == kinds::COPY {
-        return copied(vals, Variable(a));
+    match source {
+        RightSide::Copy(a) => copied(vals, a),
+        RightSide::Constant(c) => fixed(constants, c),
+        RightSide::Sum(a, b) => added(vals, a, b),
+        RightSide::Difference(a, b) => subtracted(vals, a, b),
+        RightSide::Product(a, b) => multiplied(vals, a, b),
+        RightSide::Negation(a) => negated(vals, a),
+        RightSide::None => ResidueRead::Stuck,
     }
-    if kind == kinds::CONSTANT {
-        return fixed(constants, a);
-    }
-    if kind == kinds::SUM {
-        return added(vals, Variable(a), Variable(b));
-    }
-    if kind == kinds::DIFFERENCE {
-        return subtracted(vals, Variable(a), Variable(b));
-    }
-    if kind == kinds::PRODUCT {
-        return multiplied(vals, Variable(a), Variable(b));
-    }
-    if kind == kinds::NEGATION {
-        return negated(vals, Variable(a));
-    }
-    ResidueRead::Stuck
 }
 
 // Kinds 1 to 6, from what the right side came to.
@@ -157,24 +146,9 @@ fn assign(vals: &mut [u32], d: Variable, read: ResidueRead) -> Went
     Went::On
 }
 
-// A row of kinds 1 to 6.
-pub fn assign_words(
-    kind: u16,
-    d: Variable,
-    a: usize,
-    b: usize,
-    constants: &[u16],
-    vals: &mut [u32],
-) -> Went
-    ensures { λ r. ⌜ AssignsWords residues kind (d .0) a b (now (constants .entry)) (now (vals .entry)) (now (vals .exit)) (whetherWent r) ⌝ }
-{
-    let read = evaluate(kind, a, b, constants, vals);
-    assign(vals, d, read)
-}
-
 // Kind 16.
 pub fn clear(vals: &mut [u32], d: Variable) -> Went
-    ensures { λ r. ⌜ Clears residues (d .0) (now (vals .entry)) (now (vals .exit)) (whetherWent r) ⌝ }
+    ensures { λ r. ⌜ Clears residues (d .0) (now (vals .entry)) (now (vals .exit)) r ⌝ }
 {
     let to = d.0;
     if vals.len() <= to {
@@ -186,7 +160,7 @@ pub fn clear(vals: &mut [u32], d: Variable) -> Went
 
 // Kind 12.
 pub fn save(vals: &[u32], d: Variable, values: &mut [u32], height: usize) -> Moved
-    ensures { λ r. ⌜ Saves residues (d .0) (now (vals .entry)) (now (values .entry)) height (now (values .exit)) r ⌝ }
+    ensures { λ r. ⌜ MovesValues residues (save (d .0)) (now (vals .entry)) (now (values .entry)) height (now (vals .entry)) (now (values .exit)) r ⌝ }
 {
     let from = d.0;
     if vals.len() <= from {
@@ -201,7 +175,7 @@ pub fn save(vals: &[u32], d: Variable, values: &mut [u32], height: usize) -> Mov
 
 // Kind 13. The place that is taken back is cleared, so that a stack's cells above its height are zeros always.
 pub fn take_back(vals: &mut [u32], d: Variable, values: &mut [u32], height: usize) -> Moved
-    ensures { λ r. ⌜ TakesBack residues (d .0) (now (vals .entry)) (now (values .entry)) height (now (vals .exit)) (now (values .exit)) r ⌝ }
+    ensures { λ r. ⌜ MovesValues residues (takeBack (d .0)) (now (vals .entry)) (now (values .entry)) height (now (vals .exit)) (now (values .exit)) r ⌝ }
 {
     let to = d.0;
     if vals.len() <= to {
@@ -222,7 +196,7 @@ pub fn take_back(vals: &mut [u32], d: Variable, values: &mut [u32], height: usiz
 
 // Kind 7.
 pub fn test(vals: &[u32], a: Variable, b: Variable) -> Branch
-    ensures { λ r. ⌜ Compares residues (a .0) (b .0) (now (vals .entry)) (branchOf r) ⌝ }
+    ensures { λ r. ⌜ Compares residues (a .0) (b .0) (now (vals .entry)) r ⌝ }
 {
     let first = a.0;
     let second = b.0;
@@ -249,7 +223,7 @@ fn seed_or_zero(role: u16, seed: u32) -> u32
 // Kind 17. An adjoint's 0 and its seed are set at once.
 pub fn turn_round(roles: &[u16], seeds: &[u32], vals: &mut [u32], copied: &mut [u32]) -> Went
     ensures { λ r. ⌜ TurnsRound residues (now (roles .entry)) (now (seeds .entry)) (now (vals .entry)) (now (copied .entry))
-        (now (vals .exit)) (now (copied .exit)) (whetherWent r) ⌝ }
+        (now (vals .exit)) (now (copied .exit)) r ⌝ }
 {
     let variables = roles.len();
     if seeds.len() != variables {
@@ -272,7 +246,7 @@ pub fn turn_round(roles: &[u16], seeds: &[u32], vals: &mut [u32], copied: &mut [
 
 // A straight row. `next` is the place of the row after it.
 fn act(
-    row: RowWords,
+    what: Straight,
     roles: &[u16],
     constants: &[u16],
     seeds: &[u32],
@@ -282,31 +256,21 @@ fn act(
     copied: &mut [u32],
     next: Place,
 ) -> Acted
-    ensures { λ r. ⌜ ActsBy residues (rowSaid row) (now (roles .entry)) (now (constants .entry)) (now (seeds .entry)) next
+    ensures { λ r. ⌜ ActsBy residues what (now (roles .entry)) (now (constants .entry)) (now (seeds .entry)) next
         (cellsOf residues (now (vals .entry)) (now (values .entry)) (now (turns .entry)) (now (copied .entry)))
-        (cellsOf residues (now (vals .exit)) (now (values .exit)) (now (turns .exit)) (now (copied .exit))) r
-        × ActedLeft (suc (next .left)) r ⌝ }
+        (cellsOf residues (now (vals .exit)) (now (values .exit)) (now (turns .exit)) (now (copied .exit))) r ⌝ }
 {
-    let kind = row.kind;
-    let d = row.d as usize;
-    if kind == table::kinds::SAVE {
-        return values_to(save(vals, Variable(d), values, next.values), next);
+    match what {
+        Straight::Save(d) => values_to(save(vals, d, values, next.values), next),
+        Straight::TakeBack(d) => values_to(take_back(vals, d, values, next.values), next),
+        Straight::SaveTurn(first) => turns_to(save_turn(first, turns, next.turns), next),
+        Straight::Clear(d) => went_to(clear(vals, d), next),
+        Straight::TurnRound => went_to(turn_round(roles, seeds, vals, copied), next),
+        Straight::Assign(d, source) => went_to(
+            assign(vals, d, evaluate(source, constants, vals)),
+            next,
+        ),
     }
-    if kind == table::kinds::TAKE_BACK {
-        return values_to(take_back(vals, Variable(d), values, next.values), next);
-    }
-    if kind == table::kinds::SAVE_TURN {
-        return turns_to(save_turn(row.a, turns, next.turns), next);
-    }
-    if kind == table::kinds::CLEAR {
-        return went_to(clear(vals, Variable(d)), next);
-    }
-    if kind == table::kinds::TURN_ROUND {
-        return went_to(turn_round(roles, seeds, vals, copied), next);
-    }
-    let a = row.a as usize;
-    let b = row.b as usize;
-    went_to(assign_words(kind, Variable(d), a, b, constants, vals), next)
 }
 
 // The straight row at a place, if one stands there.
@@ -324,33 +288,23 @@ fn straight_row(
 ) -> Acted
     ensures { λ r. ⌜ StraightRow residues (now (table .entry)) rows (now (roles .entry)) (now (constants .entry)) (now (seeds .entry)) place
         (cellsOf residues (now (vals .entry)) (now (values .entry)) (now (turns .entry)) (now (copied .entry)))
-        (cellsOf residues (now (vals .exit)) (now (values .exit)) (now (turns .exit)) (now (copied .exit))) r
-        × ActedLeft (place .left) r ⌝ }
+        (cellsOf residues (now (vals .exit)) (now (values .exit)) (now (turns .exit)) (now (copied .exit))) r ⌝ }
 {
-    let at = place.at;
-    if rows <= at {
-        return Acted::Block;
+    match straight_at(table, rows, place) {
+        Found::Row(what, next) => act(
+            what,
+            roles,
+            constants,
+            seeds,
+            vals,
+            values,
+            turns,
+            copied,
+            next,
+        ),
+        Found::Block => Acted::Block,
+        Found::Spent => Acted::Stuck,
     }
-    let row = row_words(table, 1, RowNumber(at));
-    if is_of_block(row.kind) {
-        return Acted::Block;
-    }
-    let left = place.left;
-    if left == 0 {
-        return Acted::Stuck;
-    }
-    let next = following(place, at + 1, left - 1);
-    act(
-        row,
-        roles,
-        constants,
-        seeds,
-        vals,
-        values,
-        turns,
-        copied,
-        next,
-    )
 }
 
 // The row of a block at a place, or the end.
@@ -365,30 +319,14 @@ fn block_row(
     place: Place,
 ) -> Crossed
     ensures { λ r. ⌜ BlockRow residues (now (table .entry)) rows (now (beyond .entry)) place (now (vals .entry))
-        (now (turns .entry)) (now (bodies .entry)) (now («to_come» .entry)) (now (turns .exit)) (now (bodies .exit)) (now («to_come» .exit)) r
-        × CrossedLeft (place .left) r ⌝ }
+        (now (turns .entry)) (now (bodies .entry)) (now («to_come» .entry)) (now (turns .exit)) (now (bodies .exit)) (now («to_come» .exit)) r ⌝ }
 {
-    let at = place.at;
-    let left = place.left;
-    if left == 0 {
-        return Crossed::Stuck;
+    let at = RowNumber(place.at);
+    match block_at(table, rows, place) {
+        Met::Out(ended) => Crossed::Out(ended),
+        Met::Compare(a, b, next) => branch_to(test(vals, a, b), beyond, at, next),
+        Met::Other(row, next) => cross(row, beyond, at, next, turns, bodies, to_come),
     }
-    if rows <= at {
-        return Crossed::Over;
-    }
-    let row = row_words(table, 1, RowNumber(at));
-    let next = following(place, at + 1, left - 1);
-    if row.kind == kinds::IF {
-        let a = row.a as usize;
-        let b = row.b as usize;
-        return branch_to(
-            test(vals, Variable(a), Variable(b)),
-            beyond,
-            RowNumber(at),
-            next,
-        );
-    }
-    cross(row, beyond, RowNumber(at), next, turns, bodies, to_come)
 }
 
 // One run of a table's rows. A result that isn't finite, or a row that can't be done, leaves both loops at once.
@@ -443,8 +381,7 @@ pub fn run_rows(
             place,
         ) {
             Crossed::On(next) => place = next,
-            Crossed::Over => break 'run Ended::Finished,
-            Crossed::Stuck => break 'run Ended::Stuck,
+            Crossed::Out(ended) => break 'run ended,
         }
     }
 }

@@ -6,13 +6,23 @@ use mathlib.Core.List.{List, reverse}
 use mathlib.Core.Option.{Option, none}
 use lib.ListN.{length, take, drop, replicate}
 use Rattle.number.specs.Arithmetic.{Arithmetic}
+use Rattle.number.specs.Doubles.{doubles}
+use Rattle.number.specs.Residues.{residues}
 use Rattle.sheet.specs.Rows.{Source, fixed, _≔_, less}
-use Rattle.table.specs.TableRows.{Action, assign, save, takeBack, saveTurn, clear, turnRound, TableTest, whether, onTurn, turnWord}
-use Rattle.run.specs.Attempts.{through, stuck, _>>=_}
+use Rattle.table.specs.TableRows.{Action, assign, saveTurn, clear, turnRound, TableTest, whether, onTurn}
+use Rattle.run.specs.Attempts.{through, _>>=_}
 use Rattle.run.specs.Actions.{Memory, Setting, Try, evaluated, acted, tested, verdictOn}
-use Rattle.run.specs.inner.RowAnswers.{whetherMoved, heightAfter, turnOf, heightBranched}
+use Rattle.run.specs.inner.RowAnswers.{whetherWent, whetherMoved, heightAfter, branchOf, turnOf, heightBranched}
+use Rattle.run.specs.declared.Went.{Went}
+use Rattle.run.specs.declared.Went.the-variants as went-as
 use Rattle.run.specs.declared.Moved.{Moved}
+use Rattle.run.specs.declared.Branch.{Branch}
 use Rattle.run.specs.declared.Branched.{Branched}
+
+-- what is shown over the arithmetic, of both: the contract of code that no arithmetic has a part in
+pub record InBoth (P : Arithmetic → Type 0) : Type 0 where
+  pub residues : P residues
+  pub doubles : P doubles
 
 module _ {X : Type 0} where
   -- the stack in the first `height` cells, top first
@@ -83,57 +93,43 @@ module _ (A : Arithmetic) where
       → Does setting action (buffersOf store values height turns turnHeight copied) (buffersOf after values height turns turnHeight copied) went
 
   -- kinds 1 to 6, from what the right side came to
-  abbrev pub Assigns : (d : ℕ) → Try A (A .Carrier) → (store after : List (A .Carrier)) → Try A (Unit {0}) → Type 0
-  Assigns d got store after went =
-      (setting : Setting A) (source : Source)
-      → got ≡ evaluated A (setting .constants) source store
-      → Stores setting (assign (d ≔ source)) store after went
+  pub record Assigns (d : ℕ) (got : Try A (A .Carrier)) (store after : List (A .Carrier)) (went : Try A (Unit {0})) : Type 0 where
+    pub does : (setting : Setting A) (source : Source)
+        → got ≡ evaluated A (setting .constants) source store
+        → Stores setting (assign (d ≔ source)) store after went
 
   -- kind 16
-  abbrev pub Clears : (d : ℕ) → (store after : List (A .Carrier)) → Try A (Unit {0}) → Type 0
-  Clears d store after went = (setting : Setting A) → Stores setting (clear d) store after went
+  pub record Clears (d : ℕ) (store after : List (A .Carrier)) (went : Went) : Type 0 where
+    pub does : (setting : Setting A) → Stores setting (clear d) store after (whetherWent went)
 
-  abbrev MovesValues : Action → (store values : List (A .Carrier)) → (height : ℕ)
-      → (storeAfter valuesAfter : List (A .Carrier)) → Moved → Type 0
-  MovesValues action store values height storeAfter valuesAfter moved =
-      (setting : Setting A) (turns : List ℕ) (turnHeight : ℕ) (copied : List (A .Carrier))
-      → Sound setting (buffersOf store values height turns turnHeight copied)
-      → Does setting action (buffersOf store values height turns turnHeight copied)
-      (buffersOf storeAfter valuesAfter (heightAfter moved height) turns turnHeight copied) (whetherMoved moved)
+  -- kinds 12 and 13
+  pub record MovesValues (action : Action) (store values : List (A .Carrier)) (height : ℕ) (storeAfter valuesAfter : List (A .Carrier)) (moved : Moved)
+      : Type 0 where
+    pub does : (setting : Setting A) (turns : List ℕ) (turnHeight : ℕ) (copied : List (A .Carrier))
+        → Sound setting (buffersOf store values height turns turnHeight copied)
+        → Does setting action (buffersOf store values height turns turnHeight copied)
+        (buffersOf storeAfter valuesAfter (heightAfter moved height) turns turnHeight copied) (whetherMoved moved)
 
-  -- kind 12
-  abbrev pub Saves : (d : ℕ) → (store values : List (A .Carrier)) → (height : ℕ) → (valuesAfter : List (A .Carrier)) → Moved → Type 0
-  Saves d store values height valuesAfter moved = MovesValues (save d) store values height store valuesAfter moved
-
-  -- kind 13
-  abbrev pub TakesBack : (d : ℕ) → (store values : List (A .Carrier)) → (height : ℕ)
-      → (storeAfter valuesAfter : List (A .Carrier)) → Moved → Type 0
-  TakesBack d store values height storeAfter valuesAfter moved = MovesValues (takeBack d) store values height storeAfter valuesAfter moved
-
-  -- kind 14, whose word is 0 or 1
-  abbrev pub SavesTurn : (word : ℕ) → (turns : List ℕ) → (height : ℕ) → (turnsAfter : List ℕ) → Moved → Type 0
-  SavesTurn word turns height turnsAfter moved =
-      (setting : Setting A) (first : Bool) (store values : List (A .Carrier)) (valueHeight : ℕ) (copied : List (A .Carrier))
-      → word ≡ turnWord first
-      → Sound setting (buffersOf store values valueHeight turns height copied)
-      → Does setting (saveTurn first) (buffersOf store values valueHeight turns height copied)
-      (buffersOf store values valueHeight turnsAfter (heightAfter moved height) copied) (whetherMoved moved)
+  -- kind 14
+  pub record SavesTurn (first : Bool) (turns : List ℕ) (height : ℕ) (turnsAfter : List ℕ) (moved : Moved) : Type 0 where
+    pub does : (setting : Setting A) (store values : List (A .Carrier)) (valueHeight : ℕ) (copied : List (A .Carrier))
+        → Sound setting (buffersOf store values valueHeight turns height copied)
+        → Does setting (saveTurn first) (buffersOf store values valueHeight turns height copied)
+        (buffersOf store values valueHeight turnsAfter (heightAfter moved height) copied) (whetherMoved moved)
 
   -- kind 7
-  abbrev pub Compares : (a b : ℕ) → (store : List (A .Carrier)) → Option Bool → Type 0
-  Compares a b store answer =
-      (setting : Setting A) (values : List (A .Carrier)) (height : ℕ) (turns : List ℕ) (turnHeight : ℕ) (copied : List (A .Carrier))
-      → Sound setting (buffersOf store values height turns turnHeight copied)
-      → Tests setting (whether (less a b)) (buffersOf store values height turns turnHeight copied)
-      (buffersOf store values height turns turnHeight copied) answer
+  pub record Compares (a b : ℕ) (store : List (A .Carrier)) (picked : Branch) : Type 0 where
+    pub tests : (setting : Setting A) (values : List (A .Carrier)) (height : ℕ) (turns : List ℕ) (turnHeight : ℕ) (copied : List (A .Carrier))
+        → Sound setting (buffersOf store values height turns turnHeight copied)
+        → Tests setting (whether (less a b)) (buffersOf store values height turns turnHeight copied)
+        (buffersOf store values height turns turnHeight copied) (branchOf picked)
 
   -- kind 15
-  abbrev pub TakesTurn : (turns : List ℕ) → (height : ℕ) → (turnsAfter : List ℕ) → Branched → Type 0
-  TakesTurn turns height turnsAfter branched =
-      (setting : Setting A) (store values : List (A .Carrier)) (valueHeight : ℕ) (copied : List (A .Carrier))
-      → Sound setting (buffersOf store values valueHeight turns height copied)
-      → Tests setting onTurn (buffersOf store values valueHeight turns height copied)
-      (buffersOf store values valueHeight turnsAfter (heightBranched branched height) copied) (turnOf branched)
+  pub record TakesTurn (turns : List ℕ) (height : ℕ) (turnsAfter : List ℕ) (branched : Branched) : Type 0 where
+    pub tests : (setting : Setting A) (store values : List (A .Carrier)) (valueHeight : ℕ) (copied : List (A .Carrier))
+        → Sound setting (buffersOf store values valueHeight turns height copied)
+        → Tests setting onTurn (buffersOf store values valueHeight turns height copied)
+        (buffersOf store values valueHeight turnsAfter (heightBranched branched height) copied) (turnOf branched)
 
   -- kind 17 copies into a buffer of V numbers, which until then stands for nothing
   pub record RoundSizes (roles : List ℕ) (seeds store copied : List (A .Carrier)) : Type 0 where
@@ -142,7 +138,7 @@ module _ (A : Arithmetic) where
     pub copiedFits : length copied ≡ length roles
 
   -- under the sizes that every run has it goes through, and under others it changes nothing
-  pub record TurnsRound (roles : List ℕ) (seeds store copied storeAfter copiedAfter : List (A .Carrier)) (went : Try A (Unit {0})) : Type 0 where
+  pub record TurnsRound (roles : List ℕ) (seeds store copied storeAfter copiedAfter : List (A .Carrier)) (went : Went) : Type 0 where
     pub round : RoundSizes roles seeds store copied
         → (setting : Setting A) (values : List (A .Carrier)) (height : ℕ) (turns : List ℕ) (turnHeight : ℕ) (former : List (A .Carrier))
         → setting .variables ≡ length roles
@@ -150,5 +146,5 @@ module _ (A : Arithmetic) where
         → setting .seeds ≡ seeds
         → Sound setting (buffersOf store values height turns turnHeight former)
         → Does setting turnRound (buffersOf store values height turns turnHeight former)
-        (buffersOf storeAfter values height turns turnHeight copiedAfter) went
-    pub refused : (RoundSizes roles seeds store copied → ⊥) → (went ≡ stuck) × (storeAfter ≡ store) × (copiedAfter ≡ copied)
+        (buffersOf storeAfter values height turns turnHeight copiedAfter) (whetherWent went)
+    pub refused : (RoundSizes roles seeds store copied → ⊥) → (went ≡ went-as.Stuck) × (storeAfter ≡ store) × (copiedAfter ≡ copied)

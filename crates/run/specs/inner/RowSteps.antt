@@ -1,21 +1,30 @@
 -- One row of the code, held against one step of the row machine: what each row's answer says, and what every buffer then stands for.
-use Prim.Native.Nat.{ℕ, zero, suc, pred, _≤_, _<_}
+use Prim.Native.Nat.{ℕ, zero, suc, pred, _+_, _*_, _≤_, _<_}
 use mathlib.Core.Path.{_≡_}
 use mathlib.Core.Bool.{Bool, _||_}
 use lib.Dec.{eqb}
 use mathlib.Core.List.{List, [], _∷_}
+use mathlib.Core.Option.{some}
 use mathlib.Core.Logic.{_⊎_, _≢_}
 use lib.ListN.{length, getD, drop}
 use Rattle.number.specs.Arithmetic.{Arithmetic}
 use Rattle.sheet.specs.Bounds.{limit}
 use Rattle.sheet.specs.Tree.{basic}
 use Rattle.sheet.specs.Rows.{Row}
-use Rattle.table.specs.TableRows.{TableLine, TableRow, Origin, Action, rowOfAction, tableRowOf}
+use Rattle.sheet.specs.Answers.{rowSaid}
+use Rattle.sheet.specs.Reading.{rowAt}
+use Rattle.table.specs.TableRows.{TableLine, TableRow, Origin, Action, tableRowOf}
 use Rattle.run.specs.Attempts.{Attempt, through, halted, stuck}
 use Rattle.run.specs.Actions.{Setting, Try}
 use Rattle.run.specs.Machine.{Repeat, State, Step, goesOn, ended, stops, sticks, stepAt, step}
 use Rattle.run.specs.inner.Buffers.{Buffers, memoryOf, Sound, Does, RoundSizes}
+use Rattle.run.specs.inner.RowWords.{actionSaid}
 use Rattle.run.specs.inner.Runnable.{Holds, Jumps}
+use Rattle.run.specs.declared.Straight.{Straight}
+use Rattle.run.specs.declared.Found.{Found}
+use Rattle.run.specs.declared.Found.the-variants as found-as
+use Rattle.run.specs.declared.Met.{Met}
+use Rattle.run.specs.declared.Met.the-variants as met-as
 use Rattle.run.specs.declared.Place.{Place}
 use Rattle.run.specs.declared.Went.{Went}
 use Rattle.run.specs.declared.Went.the-variants as went-as
@@ -31,6 +40,8 @@ use Rattle.run.specs.declared.Acted.{Acted}
 use Rattle.run.specs.declared.Acted.the-variants as acted
 use Rattle.run.specs.declared.Crossed.{Crossed}
 use Rattle.run.specs.declared.Crossed.the-variants as crossed
+use Rattle.run.specs.declared.Ended.{Ended}
+use Rattle.run.specs.declared.Ended.the-variants as ended-as
 use Rattle.run.specs.inner.RunsRows.{Cells, cellsOf, Suits}
 
 -- the open repeats, nearest first: where the body of each starts, and the turns of it still to come
@@ -108,12 +119,61 @@ ActedLeft left acted.Stuck = Unit {0}
 
 abbrev pub CrossedLeft : (left : ℕ) → Crossed → Type 0
 CrossedLeft left (crossed.On next) = suc (next .left) ≡ left
-CrossedLeft left crossed.Over = Unit {0}
-CrossedLeft left crossed.Stuck = Unit {0}
+CrossedLeft left (crossed.Out how) = Unit {0}
+
+-- the answer where the machine is stuck
+abbrev pub stuckThere : Crossed
+stuckThere = crossed.Out ended-as.Stuck
 
 -- no straight row stands at this place
 abbrev pub NoneStraight : (at : ℕ) → List TableLine → Type 0
 NoneStraight at lines = (row : TableRow) (rest : List TableLine) → drop at lines ≡ basic row ∷ rest → ⊥
+
+-- ---- what is read at a place of a table
+
+-- the place of the row after it, for which a step is left
+pub record Follows (place next : Place) : Type 0 where
+  pub left : ℕ
+  pub is : next ≡ following place (place .at + 1) left
+  pub spends : place .left ≡ suc left
+
+-- a straight row stands there, and this is what it does
+pub record StandsStraight (lines : List TableLine) (at : ℕ) (what : Straight) : Type 0 where
+  pub row : TableRow
+  pub rest : List TableLine
+  pub is : drop at lines ≡ basic row ∷ rest
+  pub said : actionSaid what ≡ some (row .action)
+
+pub record FindsRow (table : List ℕ) (rows : ℕ) (place : Place) (what : Straight) (next : Place) : Type 0 where
+  pub follows : Follows place next
+  pub stands : (lines : List TableLine) → Holds table lines → length lines ≡ rows → StandsStraight lines (place .at) what
+
+pub record FindsNone (table : List ℕ) (rows : ℕ) (place : Place) : Type 0 where
+  pub none : (lines : List TableLine) → Holds table lines → length lines ≡ rows → NoneStraight (place .at) lines
+
+abbrev pub Finds : (table : List ℕ) → (rows : ℕ) → Place → Found → Type 0
+Finds table rows place (found-as.Row what next) = FindsRow table rows place what next
+Finds table rows place found-as.Block = FindsNone table rows place
+Finds table rows place found-as.Spent = place .left ≡ 0
+
+pub record MeetsRow (table : List ℕ) (rows : ℕ) (place : Place) (row : Row) (next : Place) : Type 0 where
+  pub follows : Follows place next
+  pub within : place .at < rows
+  pub said : row ≡ rowAt table (1 + place .at * limit .rowWords)
+
+pub record MeetsCompare (table : List ℕ) (rows : ℕ) (place : Place) (a b : ℕ) (next : Place) : Type 0 where
+  pub row : Row
+  pub meets : MeetsRow table rows place row next
+  pub kind : row .kind ≡ 7
+  pub first : row .a ≡ a
+  pub second : row .b ≡ b
+
+abbrev pub Meets : (table : List ℕ) → (rows : ℕ) → Place → Met → Type 0
+Meets table rows place (met-as.Out ended-as.Finished) = (0 < place .left) × (rows ≤ place .at)
+Meets table rows place (met-as.Out (ended-as.Stopped row)) = ⊥
+Meets table rows place (met-as.Out ended-as.Stuck) = place .left ≡ 0
+Meets table rows place (met-as.Compare a b next) = MeetsCompare table rows place (a .0) (b .0) next
+Meets table rows place (met-as.Other row next) = MeetsRow table rows place (rowSaid row) next × (row .kind ≢ 7)
 
 -- ---- rows of blocks, in either arithmetic
 
@@ -126,18 +186,18 @@ pub record JumpsTo (beyond : List ℕ) (at : ℕ) (next : Place) (answer : Cross
 abbrev pub BranchesTo : (beyond : List ℕ) → (at : ℕ) → (next : Place) → Branch → Crossed → Type 0
 BranchesTo beyond at next branch-as.First answer = answer ≡ crossed.On next
 BranchesTo beyond at next branch-as.Second answer = JumpsTo beyond at next answer
-BranchesTo beyond at next branch-as.Stuck answer = answer ≡ crossed.Stuck
+BranchesTo beyond at next branch-as.Stuck answer = answer ≡ stuckThere
 
 -- the branch that a turn taken back picks
 abbrev pub TurnsTo : (beyond : List ℕ) → (at : ℕ) → (next : Place) → Branched → Crossed → Type 0
 TurnsTo beyond at next (branched-as.First height) answer = answer ≡ crossed.On (raised next (next .values) height)
 TurnsTo beyond at next (branched-as.Second height) answer = JumpsTo beyond at (raised next (next .values) height) answer
-TurnsTo beyond at next branched-as.Stuck answer = answer ≡ crossed.Stuck
+TurnsTo beyond at next branched-as.Stuck answer = answer ≡ stuckThere
 
 -- one repeat more, of which `count` turns are to run; its body starts at the next row
 pub record Opens (count : ℕ) (next : Place) (bodies toCome bodiesAfter toComeAfter : List ℕ) (answer : Crossed) : Type 0 where
   pub left : CrossedLeft (suc (next .left)) answer
-  pub full : limit .depth ≤ next .depth → answer ≡ crossed.Stuck
+  pub full : limit .depth ≤ next .depth → answer ≡ stuckThere
   pub room : next .depth < limit .depth → (m : ℕ) → count ≡ suc m → answer ≡ crossed.On (within next (suc (next .depth)))
   pub opened : next .depth < limit .depth → (m start : ℕ) (repeats : List Repeat) → count ≡ suc m → next .at ≡ suc start
       → Opened (next .depth) bodies toCome repeats
@@ -146,7 +206,7 @@ pub record Opens (count : ℕ) (next : Place) (bodies toCome bodiesAfter toComeA
 -- the end of a turn: out of the repeat, or back to its body
 pub record Closes (next : Place) (bodies toCome bodiesAfter toComeAfter : List ℕ) (answer : Crossed) : Type 0 where
   pub left : CrossedLeft (suc (next .left)) answer
-  pub none : Opened (next .depth) bodies toCome [] → answer ≡ crossed.Stuck
+  pub none : Opened (next .depth) bodies toCome [] → answer ≡ stuckThere
   pub out : next .depth ≤ limit .depth → (r : Repeat) (outer : List Repeat)
       → Opened (next .depth) bodies toCome (r ∷ outer)
       → r .left ≡ 0
@@ -189,15 +249,16 @@ module _ (A : Arithmetic) where
     pub does : Does A setting action (buffersAt next before former) (buffersAt (raised next height turnHeight) after held) went
     pub copies : CopiesOn former before held after
 
-  -- the row's words say which action it is
-  abbrev pub ActsBy : Row → (roles constants : List ℕ) → (seeds : List (A .Carrier)) → (next : Place) → (before after : Cells A) → Acted → Type 0
-  ActsBy row roles constants seeds next before after answer =
-      (setting : Setting A) (action : Action) (former : List (A .Carrier))
-      → rowOfAction action ≡ row
-      → Suits A roles constants seeds setting
-      → RoundSizes A roles seeds (before .store) (before .copied)
-      → Sound A setting (buffersAt next before former)
-      → Acts setting action next before after former answer
+  -- the row says which action it is
+  pub record ActsBy (what : Straight) (roles constants : List ℕ) (seeds : List (A .Carrier)) (next : Place) (before after : Cells A) (answer : Acted)
+      : Type 0 where
+    pub left : ActedLeft (suc (next .left)) answer
+    pub acts : (setting : Setting A) (action : Action) (former : List (A .Carrier))
+        → actionSaid what ≡ some action
+        → Suits A roles constants seeds setting
+        → RoundSizes A roles seeds (before .store) (before .copied)
+        → Sound A setting (buffersAt next before former)
+        → Acts setting action next before after former answer
 
   -- a stop at this row
   pub record StopsAt (at : ℕ) (found : Step A) : Type 0 where
@@ -235,16 +296,17 @@ module _ (A : Arithmetic) where
     pub says : ActedSays setting lines place repeats before after former held (step A setting lines (stateAt place repeats before former)) answer
     pub copies : CopiesOn former before held after
 
-  abbrev pub StraightRow : (table : List ℕ) → (rows : ℕ) → (roles constants : List ℕ) → (seeds : List (A .Carrier)) → Place
-      → (before after : Cells A) → Acted → Type 0
-  StraightRow table rows roles constants seeds place before after answer =
-      (setting : Setting A) (lines : List TableLine) (repeats : List Repeat) (former : List (A .Carrier))
-      → Holds table lines
-      → length lines ≡ rows
-      → Suits A roles constants seeds setting
-      → RoundSizes A roles seeds (before .store) (before .copied)
-      → Sound A setting (buffersAt place before former)
-      → StepsStraight setting lines place repeats before after former answer
+  -- a straight row at a place, under whatever setting and lines the table stands for
+  pub record StraightRow (table : List ℕ) (rows : ℕ) (roles constants : List ℕ) (seeds : List (A .Carrier)) (place : Place)
+      (before after : Cells A) (answer : Acted) : Type 0 where
+    pub left : ActedLeft (place .left) answer
+    pub steps : (setting : Setting A) (lines : List TableLine) (repeats : List Repeat) (former : List (A .Carrier))
+        → Holds table lines
+        → length lines ≡ rows
+        → Suits A roles constants seeds setting
+        → RoundSizes A roles seeds (before .store) (before .copied)
+        → Sound A setting (buffersAt place before former)
+        → StepsStraight setting lines place repeats before after former answer
 
   -- a row of a block goes on with the repeats that are then open
   pub record CrossesTo (setting : Setting A) (place next : Place) (bodies toCome : List ℕ) (after : Cells A) (held : List (A .Carrier)) (found : Step A)
@@ -256,38 +318,39 @@ module _ (A : Arithmetic) where
   abbrev pub CrossedSays : Setting A → Place → (bodies toCome : List ℕ) → (after : Cells A) → (held : List (A .Carrier))
       → Step A → Crossed → Type 0
   CrossedSays setting place bodies toCome after held found (crossed.On next) = CrossesTo setting place next bodies toCome after held found
-  CrossedSays setting place bodies toCome after held found crossed.Over =
+  CrossedSays setting place bodies toCome after held found (crossed.Out ended-as.Finished) =
       (0 < place .left) × (found ≡ ended (memoryOf A (buffersAt place after held)))
-  CrossedSays setting place bodies toCome after held found crossed.Stuck = (place .left ≡ 0) ⊎ Blocked found
+  CrossedSays setting place bodies toCome after held found (crossed.Out (ended-as.Stopped row)) = ⊥
+  CrossedSays setting place bodies toCome after held found (crossed.Out ended-as.Stuck) = (place .left ≡ 0) ⊎ Blocked found
 
   -- The rows of blocks change the turn stack and the open repeats alone.
-  abbrev pub BlockRow : (table : List ℕ) → (rows : ℕ) → (beyond : List ℕ) → Place → (store : List (A .Carrier))
-      → (turns bodies toCome turnsAfter bodiesAfter toComeAfter : List ℕ) → Crossed → Type 0
-  BlockRow table rows beyond place store turns bodies toCome turnsAfter bodiesAfter toComeAfter answer =
-      (setting : Setting A) (lines : List TableLine) (repeats : List Repeat) (values copied held : List (A .Carrier))
-      → Holds table lines
-      → length lines ≡ rows
-      → Jumps lines beyond
-      → NoneStraight (place .at) lines
-      → Opened (place .depth) bodies toCome repeats
-      → place .depth ≤ limit .depth
-      → Sound A setting (buffersAt place (cellsOf A store values turns copied) held)
-      → CrossedSays setting place bodiesAfter toComeAfter (cellsOf A store values turnsAfter copied) held
-      (step A setting lines (stateAt place repeats (cellsOf A store values turns copied) held)) answer
+  pub record BlockRow (table : List ℕ) (rows : ℕ) (beyond : List ℕ) (place : Place) (store : List (A .Carrier))
+      (turns bodies toCome turnsAfter bodiesAfter toComeAfter : List ℕ) (answer : Crossed) : Type 0 where
+    pub left : CrossedLeft (place .left) answer
+    pub steps : (setting : Setting A) (lines : List TableLine) (repeats : List Repeat) (values copied held : List (A .Carrier))
+        → Holds table lines
+        → length lines ≡ rows
+        → Jumps lines beyond
+        → NoneStraight (place .at) lines
+        → Opened (place .depth) bodies toCome repeats
+        → place .depth ≤ limit .depth
+        → Sound A setting (buffersAt place (cellsOf A store values turns copied) held)
+        → CrossedSays setting place bodiesAfter toComeAfter (cellsOf A store values turnsAfter copied) held
+        (step A setting lines (stateAt place repeats (cellsOf A store values turns copied) held)) answer
 
   -- the same of the line that a row's words say, but for the comparison; `next` is the place of the row after it
-  abbrev pub CrossesBy : Row → (beyond : List ℕ) → (at : ℕ) → (next : Place)
-      → (turns bodies toCome turnsAfter bodiesAfter toComeAfter : List ℕ) → Crossed → Type 0
-  CrossesBy row beyond at next turns bodies toCome turnsAfter bodiesAfter toComeAfter answer =
-      (setting : Setting A) (lines rest : List TableLine) (line : TableLine) (repeats : List Repeat) (store values copied held : List (A .Carrier))
-      → tableRowOf line ≡ row
-      → row .kind ≢ 7
-      → next .at ≡ suc at
-      → drop at lines ≡ line ∷ rest
-      → Jumps lines beyond
-      → NoneStraight at lines
-      → Opened (next .depth) bodies toCome repeats
-      → next .depth ≤ limit .depth
-      → Sound A setting (buffersAt next (cellsOf A store values turns copied) held)
-      → CrossedSays setting (preceding next at) bodiesAfter toComeAfter (cellsOf A store values turnsAfter copied) held
-      (stepAt A setting (stateAt (preceding next at) repeats (cellsOf A store values turns copied) held) (line ∷ rest)) answer
+  pub record CrossesBy (row : Row) (beyond : List ℕ) (at : ℕ) (next : Place) (turns bodies toCome turnsAfter bodiesAfter toComeAfter : List ℕ)
+      (answer : Crossed) : Type 0 where
+    pub left : CrossedLeft (suc (next .left)) answer
+    pub crosses : (setting : Setting A) (lines rest : List TableLine) (line : TableLine) (repeats : List Repeat) (store values copied held : List (A .Carrier))
+        → tableRowOf line ≡ row
+        → row .kind ≢ 7
+        → next .at ≡ suc at
+        → drop at lines ≡ line ∷ rest
+        → Jumps lines beyond
+        → NoneStraight at lines
+        → Opened (next .depth) bodies toCome repeats
+        → next .depth ≤ limit .depth
+        → Sound A setting (buffersAt next (cellsOf A store values turns copied) held)
+        → CrossedSays setting (preceding next at) bodiesAfter toComeAfter (cellsOf A store values turnsAfter copied) held
+        (stepAt A setting (stateAt (preceding next at) repeats (cellsOf A store values turns copied) held) (line ∷ rest)) answer

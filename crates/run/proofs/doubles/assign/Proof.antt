@@ -1,6 +1,5 @@
 -- `run::doubles::assign` meets its contract.
-use Rattle.number.specs.Doubles.{doubles}
-use Rattle.number.specs.Doubles.{notFinite}
+use borrow.Author.Needs.{needs}
 use Rattle.run.proofs.RowLaws.{assign-goes, assign-stops, assign-sticks, assign-nowhere}
 use borrow.Author.Needs.{needs}
 use Rattle.run.proofs.doubles.assign.Statement.{statement}
@@ -10,10 +9,7 @@ enum-known-read : tie.Need-enum-known-read
 enum-known-read c = search needs
 
 returns : tie.Need-returns
-returns c =
-    let args = c .before .before .before .before .args in
-    let x = c .before .before .read .given .0 .0 in
-    rw (c .before .before .read .given .1) (assign-nowhere doubles (args .d .0) (args .vals .now) x (c .if1 .taken))
+returns c = rw (c .before .before .read .given .1) (assign-nowhere (c .if1 .taken))
 
 mul-vals : tie.Need-mul-vals
 mul-vals c = search needs
@@ -25,26 +21,19 @@ same-length : tie.Need-same-length
 same-length c = search needs
 
 returns-2 : tie.Need-returns-2
-returns-2 c =
-    let args = c .before .before .before .before .args in
-    let x = c .before .before .read .given .0 .0 in
-    rw (c .before .before .read .given .1) (assign-goes doubles (args .d .0) (args .vals .now) x (c .if1 .left))
+returns-2 c = rw (c .before .before .read .given .1) (assign-goes (c .if1 .left))
 
 enum-told : tie.Need-enum-told
 enum-told c = search needs
 
 returns-3 : tie.Need-returns-3
-returns-3 c =
-    let args = c .before .before .args in
-    rw (c .enum-told .given .1) (assign-stops doubles (args .d .0) (args .vals .now) notFinite)
+returns-3 c = rw (c .enum-told .given .1) assign-stops
 
 enum-told-2 : tie.Need-enum-told-2
 enum-told-2 c = search needs
 
 returns-4 : tie.Need-returns-4
-returns-4 c =
-    let args = c .before .before .args in
-    rw (c .enum-told2 .given .1) (assign-sticks doubles (args .d .0) (args .vals .now))
+returns-4 c = rw (c .enum-told2 .given .1) assign-sticks
 
 pub assign-spec : {M : Type 1} → statement M
 assign-spec =

@@ -1,14 +1,12 @@
 -- `run::doubles::clear` meets its contract.
-use Rattle.number.specs.Doubles.{doubles}
+use borrow.Author.Needs.{needs}
 use Rattle.run.proofs.RowLaws.{clear-goes, clear-nowhere}
 use borrow.Author.Needs.{needs}
 use Rattle.run.proofs.doubles.clear.Statement.{statement}
 use Rattle.run.proofs.doubles.clear.Tie as tie
 
 returns : tie.Need-returns
-returns c =
-    let args = c .before .before .args in
-    clear-nowhere doubles (args .d .0) (args .vals .now) (c .if1 .taken)
+returns c = clear-nowhere (c .if1 .taken)
 
 zero-requires : tie.Need-zero-requires
 zero-requires c κs = search needs
@@ -23,9 +21,7 @@ same-length : tie.Need-same-length
 same-length c = search needs
 
 returns-2 : tie.Need-returns-2
-returns-2 c =
-    let args = c .before .before .before .args in
-    rw (c .zero .ensures) (clear-goes doubles (args .d .0) (args .vals .now) (c .before .if1 .left))
+returns-2 c = clear-goes (c .zero .ensures) (search needs)
 
 pub clear-spec : {M : Type 1} → statement M
 clear-spec =

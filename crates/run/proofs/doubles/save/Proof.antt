@@ -1,20 +1,15 @@
 -- `run::doubles::save` meets its contract.
-use lib.Ieee.{nan}
-use Rattle.number.specs.Doubles.{doubles}
+use borrow.Author.Needs.{needs}
 use Rattle.run.proofs.RowLaws.{save-goes, save-nowhere, save-full}
 use borrow.Author.Needs.{needs}
 use Rattle.run.proofs.doubles.save.Statement.{statement}
 use Rattle.run.proofs.doubles.save.Tie as tie
 
 returns : tie.Need-returns
-returns c =
-    let args = c .before .args in
-    save-nowhere doubles (args .d .0) (args .vals .now) (args .values .now) (args .height) (c .if1 .taken)
+returns c = save-nowhere (c .if1 .taken)
 
 returns-2 : tie.Need-returns-2
-returns-2 c =
-    let args = c .before .before .args in
-    save-full doubles (args .d .0) (args .vals .now) (args .values .now) (args .height) nan (c .before .if1 .left) (c .if2 .taken)
+returns-2 c = save-full (c .before .if1 .left) (c .if2 .taken)
 
 mul-values : tie.Need-mul-values
 mul-values c = search needs
@@ -35,9 +30,7 @@ same-length : tie.Need-same-length
 same-length c = search needs
 
 returns-3 : tie.Need-returns-3
-returns-3 c =
-    let args = c .before .before .before .args in
-    save-goes doubles (args .d .0) (args .vals .now) (args .values .now) (args .height) nan (c .before .before .if1 .left) (c .before .if2 .left)
+returns-3 c = save-goes _ (c .before .before .if1 .left) (c .before .if2 .left)
 
 pub save-spec : {M : Type 1} → statement M
 save-spec =

@@ -1,32 +1,23 @@
 -- `run::doubles::take_back` meets its contract: the top is one below the height.
-use Prim.Native.Nat.{suc, _-_}
-use mathlib.Core.Path.{_≡_}
+use mathlib.Core.Path.{refl}
 use native.Mathlib.Omega.{arith}
-use lib.Ieee.{nan}
-use Rattle.number.specs.Doubles.{doubles}
+use borrow.Author.Needs.{needs}
 use Rattle.run.proofs.RowLaws.{take-back-goes, take-back-nowhere, take-back-empty, take-back-above}
 use borrow.Author.Needs.{needs}
 use Rattle.run.proofs.doubles.take_back.Statement.{statement}
 use Rattle.run.proofs.doubles.take_back.Tie as tie
 
 returns : tie.Need-returns
-returns c =
-    let args = c .before .before .before .args in
-    take-back-nowhere doubles (args .d .0) (args .vals .now) (args .values .now) (args .height) (c .if1 .taken)
+returns c = take-back-nowhere (c .if1 .taken)
 
 returns-2 : tie.Need-returns-2
-returns-2 c =
-    let args = c .before .before .before .before .args in
-    take-back-empty doubles (args .d .0) (args .vals .now) (args .values .now) (args .height) (c .if2 .taken)
+returns-2 c = take-back-empty (c .if2 .taken)
 
 sub-top : tie.Need-sub-top
 sub-top c = search needs
 
 returns-3 : tie.Need-returns-3
-returns-3 c =
-    let args = c .before .before .before .before .before .args in
-    let some : args .height ≡ suc (args .height - 1) = omega (arith, c .before .if2 .left) in
-    take-back-above doubles (args .d .0) (args .vals .now) (args .values .now) (args .height) (args .height - 1) some (c .if3 .taken)
+returns-3 c = take-back-above (omega arith)
 
 mul-x : tie.Need-mul-x
 mul-x c = search needs
@@ -56,13 +47,7 @@ same-length-2 : tie.Need-same-length-2
 same-length-2 c = search needs
 
 returns-4 : tie.Need-returns-4
-returns-4 c =
-    let args = c .before .before .before .before .before .before .before .args in
-    let some : args .height ≡ suc (args .height - 1) = omega (arith, c .before .before .before .if2 .left) in
-    rw (c .zero .ensures)
-    (take-back-goes doubles (args .d .0) (args .vals .now) (args .values .now) (args .height) (args .height - 1) nan some
-    (c .before .before .before .before .if1 .left)
-    (c .before .before .if3 .left))
+returns-4 c = take-back-goes _ (c .zero .ensures) (omega arith) (omega arith) (omega arith)
 
 pub take-back-spec : {M : Type 1} → statement M
 take-back-spec =

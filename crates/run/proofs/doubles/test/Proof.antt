@@ -1,22 +1,16 @@
 -- `run::doubles::test` meets its contract.
 use mathlib.Core.Path.{sym, _∙_}
-use mathlib.Core.Bool.{true, false}
-use lib.Ieee.{nan}
-use Rattle.number.specs.Doubles.{doubles}
-use Rattle.run.proofs.RowLaws.{compare-goes, compare-first-missing, compare-second-missing}
+use borrow.Author.Needs.{needs}
+use Rattle.run.proofs.RowLaws.{compare-first, compare-second, compare-first-missing, compare-second-missing}
 use borrow.Author.Needs.{needs}
 use Rattle.run.proofs.doubles.test.Statement.{statement}
 use Rattle.run.proofs.doubles.test.Tie as tie
 
 returns : tie.Need-returns
-returns c =
-    let args = c .before .before .args in
-    compare-first-missing doubles (args .a .0) (args .b .0) (args .vals .now) (c .if1 .taken)
+returns c = compare-first-missing (c .if1 .taken)
 
 returns-2 : tie.Need-returns-2
-returns-2 c =
-    let args = c .before .before .before .args in
-    compare-second-missing doubles (args .a .0) (args .b .0) (args .vals .now) nan (c .before .if1 .left) (c .if2 .taken)
+returns-2 c = compare-second-missing (c .before .if1 .left) (c .if2 .taken)
 
 mul-less : tie.Need-mul-less
 mul-less c = search needs
@@ -34,20 +28,10 @@ less-requires : tie.Need-less-requires
 less-requires c κs = search needs
 
 returns-3 : tie.Need-returns-3
-returns-3 c =
-    let args = c .before .before .before .before .before .before .before .args in
-    compare-goes doubles (args .a .0) (args .b .0) (args .vals .now) nan true
-    (c .before .before .before .before .before .if1 .left)
-    (c .before .before .before .before .if2 .left)
-    (sym (c .before .less .ensures) ∙ c .if3 .taken)
+returns-3 c = compare-first _ (search needs) (search needs) (sym (c .before .less .ensures) ∙ c .if3 .taken)
 
 returns-4 : tie.Need-returns-4
-returns-4 c =
-    let args = c .before .before .before .before .before .before .before .args in
-    compare-goes doubles (args .a .0) (args .b .0) (args .vals .now) nan false
-    (c .before .before .before .before .before .if1 .left)
-    (c .before .before .before .before .if2 .left)
-    (sym (c .before .less .ensures) ∙ c .if3 .left)
+returns-4 c = compare-second _ (search needs) (search needs) (sym (c .before .less .ensures) ∙ c .if3 .left)
 
 pub test-spec : {M : Type 1} → statement M
 test-spec =

@@ -1,15 +1,9 @@
 -- `run::residues::assign` meets its contract.
-use Rattle.number.specs.Residues.{residues}
+use borrow.Author.Needs.{needs}
 use Rattle.run.proofs.RowLaws.{assign-goes, assign-sticks, assign-nowhere}
 use borrow.Author.Needs.{needs}
 use Rattle.run.proofs.residues.assign.Statement.{statement}
 use Rattle.run.proofs.residues.assign.Tie as tie
-
--- `run::residues::assign` meets its contract.
-
--- `run::residues::assign` meets its contract.
-
--- `run::residues::assign` meets its contract.
 
 enum-known-read : tie.Need-enum-known-read
 enum-known-read c = search needs
@@ -18,15 +12,10 @@ enum-told : tie.Need-enum-told
 enum-told c = search needs
 
 returns : tie.Need-returns
-returns c =
-    let args = c .before .before .args in
-    rw (c .enum-told .given .1) (assign-sticks residues (args .d .0) (args .vals .now))
+returns c = rw (c .enum-told .given .1) assign-sticks
 
 returns-2 : tie.Need-returns-2
-returns-2 c =
-    let args = c .before .before .before .before .args in
-    let x = c .before .before .read .given .0 .0 in
-    rw (c .before .before .read .given .1) (assign-nowhere residues (args .d .0) (args .vals .now) x (c .if1 .taken))
+returns-2 c = rw (c .before .before .read .given .1) (assign-nowhere (c .if1 .taken))
 
 mul-vals : tie.Need-mul-vals
 mul-vals c = search needs
@@ -38,10 +27,7 @@ same-length : tie.Need-same-length
 same-length c = search needs
 
 returns-3 : tie.Need-returns-3
-returns-3 c =
-    let args = c .before .before .before .before .args in
-    let x = c .before .before .read .given .0 .0 in
-    rw (c .before .before .read .given .1) (assign-goes residues (args .d .0) (args .vals .now) x (c .if1 .left))
+returns-3 c = rw (c .before .before .read .given .1) (assign-goes (c .if1 .left))
 
 pub assign-spec : {M : Type 1} → statement M
 assign-spec =

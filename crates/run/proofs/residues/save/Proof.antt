@@ -1,19 +1,15 @@
 -- `run::residues::save` meets its contract.
-use Rattle.number.specs.Residues.{residues}
+use borrow.Author.Needs.{needs}
 use Rattle.run.proofs.RowLaws.{save-goes, save-nowhere, save-full}
 use borrow.Author.Needs.{needs}
 use Rattle.run.proofs.residues.save.Statement.{statement}
 use Rattle.run.proofs.residues.save.Tie as tie
 
 returns : tie.Need-returns
-returns c =
-    let args = c .before .args in
-    save-nowhere residues (args .d .0) (args .vals .now) (args .values .now) (args .height) (c .if1 .taken)
+returns c = save-nowhere (c .if1 .taken)
 
 returns-2 : tie.Need-returns-2
-returns-2 c =
-    let args = c .before .before .args in
-    save-full residues (args .d .0) (args .vals .now) (args .values .now) (args .height) 0 (c .before .if1 .left) (c .if2 .taken)
+returns-2 c = save-full (c .before .if1 .left) (c .if2 .taken)
 
 mul-values : tie.Need-mul-values
 mul-values c = search needs
@@ -34,9 +30,7 @@ same-length : tie.Need-same-length
 same-length c = search needs
 
 returns-3 : tie.Need-returns-3
-returns-3 c =
-    let args = c .before .before .before .args in
-    save-goes residues (args .d .0) (args .vals .now) (args .values .now) (args .height) 0 (c .before .before .if1 .left) (c .before .if2 .left)
+returns-3 c = save-goes _ (c .before .before .if1 .left) (c .before .if2 .left)
 
 pub save-spec : {M : Type 1} → statement M
 save-spec =

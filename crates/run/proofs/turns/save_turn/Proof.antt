@@ -1,17 +1,15 @@
 -- `run::turns::save_turn` meets its contract, in either arithmetic.
-use Rattle.number.specs.Residues.{residues}
-use Rattle.number.specs.Doubles.{doubles}
-use Rattle.run.proofs.RowLaws.{save-turn-goes, save-turn-full}
+use borrow.Author.Needs.{needs}
+use Rattle.run.proofs.RowLaws.{in-both, save-turn-goes, save-turn-full}
 use borrow.Author.Needs.{needs}
 use Rattle.run.proofs.turns.save_turn.Statement.{statement}
 use Rattle.run.proofs.turns.save_turn.Tie as tie
 
 returns : tie.Need-returns
-returns c =
-    let args = c .before .args in (
-      save-turn-full residues (args .word) (args .turns .now) (args .height) (c .if1 .taken),
-      save-turn-full doubles (args .word) (args .turns .now) (args .height) (c .if1 .taken),
-    )
+returns c = in-both (λ A. save-turn-full (c .if1 .taken))
+
+word-of-requires : tie.Need-word-of-requires
+word-of-requires c κs = search needs
 
 mul-turns : tie.Need-mul-turns
 mul-turns c = search needs
@@ -26,12 +24,9 @@ same-length : tie.Need-same-length
 same-length c = search needs
 
 returns-2 : tie.Need-returns-2
-returns-2 c =
-    let args = c .before .args in (
-      save-turn-goes residues (args .word) (args .turns .now) (args .height) (c .if1 .left),
-      save-turn-goes doubles (args .word) (args .turns .now) (args .height) (c .if1 .left),
-    )
+returns-2 c = in-both (λ A. save-turn-goes (c .word-of .ensures) (search needs))
 
 pub save-turn-spec : {M : Type 1} → statement M
 save-turn-spec =
-    tie.close (tie.spec returns mul-turns slice-write-turns add-t4 same-length returns-2)
+    tie.close
+    (tie.spec returns word-of-requires mul-turns slice-write-turns add-t4 same-length returns-2)
