@@ -16,7 +16,8 @@ use Rattle.sets.specs.Marks.{varied, useful, activityAt}
 use Rattle.sets.proofs.SetsLeast.{varied-least, useful-least}
 use Rattle.run.specs.Attempts.{through}
 use Rattle.run.specs.Actions.{Setting, seeded}
-use Rattle.run.specs.Calls.{Lent, Ran, settingOf, independentAdjoints, lentAfter, readToRun, run}
+use Rattle.run.specs.Calls.{Lent, Ran, settingOf, independentAdjoints, lentAfter, run}
+use Rattle.claims.specs.ExactlyWhen.{Runnable}
 use Rattle.claims.specs.Execution.{Progress, execution}
 use Rattle.claims.specs.IdealSweep.{swept, Ideal, ideal}
 use Rattle.claims.specs.EquationTwo.{Instance, valueNo, EquationTwo}
@@ -25,9 +26,9 @@ use Rattle.claims.specs.Demands.{AuditSolves}
 use Rattle.run.proofs.AttemptLaws.{same-through, went}
 use Rattle.claims.proofs.Runs.{runs}
 use Rattle.claims.proofs.RunsKeepSizes.{runs-keep}
-use Rattle.claims.proofs.RunAccepted.{RunAccepted, run-accepted}
+use Rattle.claims.proofs.StartExactlyWhen.{accepted-to-run}
 use Rattle.claims.proofs.RunsAnswer.{run-answers}
-use Rattle.claims.proofs.EquationTwoHolds.{Sound, ideal-goes, ideal-solves}
+use Rattle.claims.proofs.EquationTwoHolds.{Sound, Given, ideal-goes, ideal-solves}
 
 pub sound : (words : List ℕ) (sheet : Sheet) → read words ≡ given sheet → Sound sheet
 sound words sheet accepted =
@@ -44,15 +45,26 @@ unfolding independentAdjoints
 adjoint-at [] adjoints x h = absurd (not-suc-le-zero h)
 adjoint-at (role ∷ roles) adjoints zero h = refl
 adjoint-at (role ∷ roles) adjoints (suc x) h =
-    adjoint-at roles (drop 1 adjoints) x (le-of-suc-le-suc h) ∙ ap (λ y. cond (isIndependent (getD roles x 0)) y 0) (getD-drop 1 adjoints x 0 ∙ ap (λ i. getD adjoints i 0) (omega arith))
+    adjoint-at roles (drop 1 adjoints) x (le-of-suc-le-suc h)
+    ∙ ap (λ y. cond (isIndependent (getD roles x 0)) y 0) (getD-drop 1 adjoints x 0 ∙ ap (λ i. getD adjoints i 0) (omega arith))
 
-module _ (words starts seeds : List ℕ) (lent : Lent residues) (sheet : Sheet) (past : readToRun residues words starts seeds lent ≡ given sheet)
-    (below : (x : ℕ) → x < variablesOf sheet → getD seeds x 0 < modulus) where
-  checked : RunAccepted residues words starts seeds lent sheet
-  checked = run-accepted residues words starts seeds lent sheet past
+module _ (words starts seeds : List ℕ) (lent : Lent residues) (sheet : Sheet) (ready : Runnable residues words starts seeds lent sheet)
+    (below : (x : ℕ) → x < variablesOf sheet → getD seeds x 0 < modulus) (answer : Ran residues)
+    (contract : answer ≡ run residues words starts seeds lent) where
+  abbrev values : ℕ
+  values = length (lent .values)
+
+  abbrev turns : ℕ
+  turns = length (lent .turns)
 
   abbrev setting : Setting residues
-  setting = settingOf residues sheet seeds (length (lent .values)) (length (lent .turns))
+  setting = settingOf residues sheet seeds values turns
+
+  given-soundly : Sound sheet
+  given-soundly = sound words sheet (accepted-to-run residues words starts seeds lent sheet ready)
+
+  begins : Given sheet starts seeds
+  begins = record { started = ready .lengths .startValues; below = below }
 
   -- an ideal sweep that ended began with an execution that did
   executes : (i : Ideal residues) → ideal residues sheet setting starts ≡ through i → execution residues sheet starts ≡ through (i .progress)
@@ -66,21 +78,22 @@ module _ (words starts seeds : List ℕ) (lent : Lent residues) (sheet : Sheet) 
   keeps : (progress : Progress residues) → execution residues sheet starts ≡ through progress → length (progress .store) ≡ variablesOf sheet
   unfolding execution
   keeps progress e =
-      runs-keep residues (sheet .constants) (runs residues (sheet .constants) (sheet .body) 0 (record { store = starts; trace = []; turns = [] }) progress e)
-      ∙ checked .startsFit
+      runs-keep residues (sheet .constants)
+      (runs residues (sheet .constants) (sheet .body) 0 (record { store = starts; trace = []; turns = [] }) progress e)
+      ∙ ready .lengths .startValues
 
-  from-answer : (i : Ideal residues) → ideal residues sheet setting starts ≡ through i → AnswersAs residues sheet lent (through i) (run residues words starts seeds lent)
-      → AuditSolves sheet starts seeds (run residues words starts seeds lent)
+  from-answer : (i : Ideal residues) → ideal residues sheet setting starts ≡ through i → AnswersAs residues sheet lent (through i) answer
+      → AuditSolves sheet starts seeds answer
   unfolding AnswersAs lentAfter
-  from-answer i goes answer =
+  from-answer i goes answers =
       let v = variablesOf sheet in
       let size = keeps (i .progress) (executes i goes) in
       let last = independentAdjoints residues (sheet .roles) (i .adjoints) in
-      let result : run residues words starts seeds lent .lent .result ≡ i .progress .store ++ last = ap (λ (r : Ran residues). r .lent .result) answer in
+      let result : answer .lent .result ≡ i .progress .store ++ last = ap (λ (r : Ran residues). r .lent .result) answers in
       record {
         progress = i .progress;
         executes = executes i goes;
-        answers = ap (λ (r : Ran residues). r .number) answer;
+        answers = ap (λ (r : Ran residues). r .number) answers;
         values = ap (take v) result ∙ take-at (i .progress .store) last v size;
         adjoints = λ bar solves x h.
             ap (λ (l : List ℕ). getD (drop v l) x 0) result ∙ ap (λ (l : List ℕ). getD l x 0) (drop-at (i .progress .store) last v size)
@@ -90,12 +103,11 @@ module _ (words starts seeds : List ℕ) (lent : Lent residues) (sheet : Sheet) 
       by-role : (b : Bool) (bar : Instance → ℕ) → EquationTwo (sheet .roles) seeds (i .progress .trace) bar → (x : ℕ) → x < variablesOf sheet
           → isIndependent (getD (sheet .roles) x 0) ≡ b → cond b (getD (i .adjoints) x 0) 0 ≡ cond b (bar (valueNo x 0)) 0
       by-role true bar solves x h independent =
-          ideal-solves sheet starts seeds (length (lent .values)) (length (lent .turns)) (sound words sheet (checked .accepted))
-          (record { started = checked .startsFit; below = below }) i goes bar solves x h independent
+          ideal-solves sheet starts seeds values turns given-soundly begins i goes bar solves x h independent
       by-role false bar solves x h other = refl
 
-  pub audit-solves : AuditSolves sheet starts seeds (run residues words starts seeds lent)
+  pub audit-solves : AuditSolves sheet starts seeds answer
   audit-solves =
-      let i = ideal-goes sheet starts seeds (length (lent .values)) (length (lent .turns)) (sound words sheet (checked .accepted))
-      (record { started = checked .startsFit; below = below }) in
-      from-answer (i .0) (i .1) (subst (λ x. AnswersAs residues sheet lent x (run residues words starts seeds lent)) (i .1) (run-answers residues words starts seeds lent sheet past))
+      let i = ideal-goes sheet starts seeds values turns given-soundly begins in
+      from-answer (i .0) (i .1)
+      (subst (λ x. AnswersAs residues sheet lent x answer) (i .1) (run-answers residues words starts seeds lent sheet ready answer contract))

@@ -25,7 +25,7 @@ use Rattle.run.proofs.MachineFollows.{atRow, past-tree, goes-through}
 use Rattle.claims.specs.Execution.{Progress, execution}
 use Rattle.claims.specs.IdealSweep.{ideal}
 use Rattle.claims.specs.SavedRows.{savedValues, recordedIn}
-use Rattle.claims.specs.WholeRun.{Room, Matches}
+use Rattle.claims.specs.WholeRun.{Matches}
 use Rattle.claims.specs.Demands.{lines, afterSteps, NeverStuck, SavedAtTurning, ReplaysInReverse, DemandThree}
 use Rattle.claims.proofs.Runs.{Runs, runs}
 use Rattle.claims.proofs.RunsKeepSizes.{runs-keep}
@@ -36,8 +36,8 @@ use Rattle.claims.proofs.MachineLogs.{table-log}
 use Rattle.claims.proofs.Heights.{Within, table-never-sticks, table-heights}
 use Rattle.claims.proofs.RowSeventeen.{firstAdjoints, first-size, turns-round}
 use Rattle.claims.proofs.RunInTheLarge.{knownIn, marksOf, memoryAt, enough, forward-part, turning, required-holds}
-use Rattle.claims.proofs.WholeRunMatches.{run-matches}
-use Rattle.claims.proofs.RunsAnswer.{noFurther, as-it-is, our-table, unstuck-run}
+use Rattle.claims.proofs.WholeRunMatches.{own-run-matches}
+use Rattle.claims.proofs.RunsAnswer.{unstuck-run}
 use Rattle.claims.proofs.AtTurningRound.{forward-lines, saved-exactly}
 
 module _ (A : Arithmetic) (words : List ℕ) (sheet : Sheet) (accepted : read words ≡ given sheet) (starts seeds : List (A .Carrier))
@@ -49,13 +49,9 @@ module _ (A : Arithmetic) (words : List ℕ) (sheet : Sheet) (accepted : read wo
   settingIn valueRoom turnRoom = settingOf A sheet seeds valueRoom turnRoom
 
   module _ (valueRoom turnRoom : ℕ) (values : valuesNeeded (marked sheet) ≤ valueRoom) (turns : turnsNeeded (marked sheet) ≤ turnRoom) where
-    room : Room A noFurther sheet valueRoom turnRoom
-    room = record { values = rw (as-it-is (marked sheet)) values; turns = rw (as-it-is (marked sheet)) turns }
-
-    matches : Matches A v (ideal A sheet (settingIn valueRoom turnRoom) starts) (runOf A (tableOf sheet) (settingIn valueRoom turnRoom) (startOf A sheet starts))
-    matches =
-        subst (Matches A v (ideal A sheet (settingIn valueRoom turnRoom) starts)) (our-table A sheet starts seeds valueRoom turnRoom)
-        (run-matches A words sheet accepted noFurther starts seeds n valueRoom turnRoom room)
+    matches : Matches A v (ideal A sheet (settingIn valueRoom turnRoom) starts)
+        (runOf A (tableOf sheet) (settingIn valueRoom turnRoom) (startOf A sheet starts))
+    matches = own-run-matches A words sheet accepted starts seeds n valueRoom turnRoom values turns
 
     unstuck : runOf A (tableOf sheet) (settingIn valueRoom turnRoom) (startOf A sheet starts) ≡ gotStuck → ⊥
     unstuck = unstuck-run A v (ideal A sheet (settingIn valueRoom turnRoom) starts) _ matches

@@ -1,4 +1,4 @@
--- Demand 1's "exactly when", of the calls: which number and place check, write and a run answer, and what the lent buffers then hold.
+-- Demand 1's "exactly when", of the definitions: which number and place check, write and a run answer, and what the lent buffers then hold.
 use Prim.Native.Nat.{ℕ, _≤_}
 use mathlib.Core.Path.{_≡_, refl, sym, ap, subst, _∙_}
 use mathlib.Core.List.{List}
@@ -19,11 +19,13 @@ use Rattle.table.proofs.TableLength.{table-length}
 use Rattle.run.specs.Actions.{Memory}
 use Rattle.run.specs.Machine.{Ending, finished, stoppedAt, gotStuck, outOfFuel}
 use Rattle.run.specs.Calls.{Lent, Ran, resultOf, stuckNumber, lentAfter, ranTo, ranOn, run}
-use Rattle.claims.specs.ExactlyWhen.{ReadingRefuses, Read, WritingRefuses, Writable, Runnable, endingOf, StartRefused, RunRefuses, Stops, beforeStart, resultNotFinite, Finishes, Names, noSizes, StartsWith, LeftBehind, ReadExactly, CheckExactly, WriteExactly, RunExactly}
+use Rattle.claims.specs.ExactlyWhen.{ReadingRefuses, Read, WritingRefuses, Writable, Runnable, endingOf, StartRefused, RunRefuses, Stops, beforeStart, resultNotFinite, Finishes}
+use Rattle.claims.specs.CallsExactly.{Names, ReadExactly, noSizes, CheckExactly, StartsWith, WriteExactly, LeftBehind, RunExactly}
 use Rattle.claims.proofs.ReadingExactlyWhen.{reading-settled, reading-numbers}
-use Rattle.claims.proofs.StartExactlyWhen.{writing-settled, writing-numbers, start-settled, start-numbers}
+use Rattle.claims.proofs.StartExactlyWhen.{writing-settled, writing-numbers, start-settled, started, start-numbers}
+use Rattle.claims.proofs.RunsAnswer.{zero-or-twelve}
 
-pub reading-exactly : (words : List ℕ) → ReadExactly words
+pub reading-exactly : (words : List ℕ) → ReadExactly words (read words)
 reading-exactly words = record { refuses = refused-exactly (reading-settled words); gives = given-exactly (reading-settled words) }
 
 -- ---- check
@@ -44,7 +46,7 @@ module _ (words : List ℕ) where
       by (inl (sheet, is)) = absurd (omega (arith, ap (λ c. c .number) (check-answers _ (reading-settled words .byResult sheet is))))
       by (inr (r, rule)) = ap (λ c. c .sizes) (check-answers _ (reading-settled words .byRule r rule))
 
-  pub check-exactly : CheckExactly words
+  pub check-exactly : CheckExactly words (check words)
   unfolding check
   check-exactly =
       record {
@@ -90,7 +92,7 @@ module _ (words buffer : List ℕ) where
       by (inl (sheet, is)) = absurd (omega (arith, ap (λ w. w .number) (write-answers _ (writing-settled words buffer .byResult sheet is))))
       by (inr (r, rule)) = ap (λ w. w .table) (write-answers _ (writing-settled words buffer .byRule r rule))
 
-  pub write-exactly : WriteExactly words buffer
+  pub write-exactly : WriteExactly words buffer (write words buffer)
   unfolding write
   write-exactly =
       record {
@@ -133,20 +135,22 @@ module _ (A : Arithmetic) (words : List ℕ) (starts seeds : List (A .Carrier)) 
   unfolding run ranOn
   not-started r rule = ap (λ sheet. ranOn A sheet starts seeds lent) (start-settled A words starts seeds lent .byRule r rule)
 
-  started : (sheet : Sheet) (ending : Ending A) → Ready sheet → endingOf A words starts seeds lent sheet ≡ ending → answer ≡ ranTo A sheet lent ending
-  unfolding run ranOn
-  started sheet ending is e =
-      ap (λ sheet. ranOn A sheet starts seeds lent) (start-settled A words starts seeds lent .byResult sheet is) ∙ ap (ranTo A sheet lent) e
-
   stopped : (sheet : Sheet) (row : RowNumber) → Stopped sheet row
       → answer ≡ record { number = 12; place = row .index; lent = lentAfter A sheet lent (lent .result) }
   unfolding ranTo
-  stopped sheet row is = started sheet _ (is .runnable) (is .ending)
+  stopped sheet row is = started A words starts seeds lent sheet _ (is .runnable) (is .ending)
 
   ended : (sheet : Sheet) (memory : Memory A) → Finished sheet memory
       → answer ≡ record { number = 0; place = 0; lent = lentAfter A sheet lent (resultOf A sheet memory) }
   unfolding ranTo
-  ended sheet memory is = started sheet _ (is .runnable) (is .ending)
+  ended sheet memory is = started A words starts seeds lent sheet _ (is .runnable) (is .ending)
+
+  not-stuck : (sheet : Sheet) → Ready sheet → answer .number ≡ stuckNumber A → ⊥
+  not-stuck sheet is e = by (zero-or-twelve A words starts seeds lent sheet is answer refl)
+    where
+      by : (answer .number ≡ 0) ⊎ (answer .number ≡ 12) → ⊥
+      by (inl h) = omega arith
+      by (inr h) = omega arith
 
   left-behind : (sheet : Sheet) (result : List (A .Carrier)) → Ready sheet → LeftBehind A sheet lent (lentAfter A sheet lent result)
   unfolding lentAfter
@@ -162,19 +166,17 @@ module _ (A : Arithmetic) (words : List ℕ) (starts seeds : List (A .Carrier)) 
 
   -- ---- how the run goes, from what is answered
 
-  -- Every way that a run can go. That the last is never gone is a theorem of its own ("never stuck").
   data Way : Type 0 where
     notStarted : (r : Refusal) → NotStarted r → Way
     finishing : (sheet : Sheet) (memory : Memory A) → Finished sheet memory → Way
     stopping : (sheet : Sheet) (row : RowNumber) → Stopped sheet row → Way
-    sticking : answer .number ≡ stuckNumber A → Way
 
   way-to : (sheet : Sheet) → Ready sheet → (ending : Ending A) → endingOf A words starts seeds lent sheet ≡ ending → Way
   unfolding ranTo
   way-to sheet is (finished memory) e = finishing sheet memory (record { runnable = is; ending = e })
   way-to sheet is (stoppedAt row origin why) e = stopping sheet row (record { runnable = is; origin = origin; why = why; ending = e })
-  way-to sheet is gotStuck e = sticking (ap (λ r. r .number) (started sheet gotStuck is e))
-  way-to sheet is outOfFuel e = sticking (ap (λ r. r .number) (started sheet outOfFuel is e))
+  way-to sheet is gotStuck e = absurd (not-stuck sheet is (ap (λ r. r .number) (started A words starts seeds lent sheet gotStuck is e)))
+  way-to sheet is outOfFuel e = absurd (not-stuck sheet is (ap (λ r. r .number) (started A words starts seeds lent sheet outOfFuel is e)))
 
   way : Way
   way = by (start-settled A words starts seeds lent .either)
@@ -196,34 +198,30 @@ module _ (A : Arithmetic) (words : List ℕ) (starts seeds : List (A .Carrier)) 
   rule-of-name : (r : Refusal) → Way → Names (answer .number) (answer .place) r → Rule r
   rule-of-name r (notStarted r′ rule) names = same-name r r′ (beforeStart rule) names
   rule-of-name r (stopping sheet row is) names = same-name r _ (resultNotFinite sheet row is) names
-  rule-of-name r (finishing sheet memory is) names = absurd (omega (arith, ap (λ r. r .number) (ended sheet memory is), names .0, from-1-to-12 r))
-  rule-of-name r (sticking e) names = absurd (omega (arith, names .0, from-1-to-12 r))
+  rule-of-name r (finishing sheet memory is) names =
+      absurd (omega (arith, ap (λ r. r .number) (ended sheet memory is), names .0, from-1-to-12 r))
 
   finished-on-0 : Way → answer .number ≡ 0 → (sheet : Sheet) × (memory : Memory A) × Finished sheet memory
   finished-on-0 (notStarted r rule) e = absurd (omega (arith, named-by-rule (beforeStart rule) .0, from-1-to-12 r))
   finished-on-0 (finishing sheet memory is) e = (sheet, memory, is)
   finished-on-0 (stopping sheet row is) e = absurd (omega (arith, ap (λ r. r .number) (stopped sheet row is)))
-  finished-on-0 (sticking stuck) e = absurd (omega arith)
 
   stopped-on-12 : Way → answer .number ≡ 12 → (sheet : Sheet) × (row : RowNumber) × Stopped sheet row
   stopped-on-12 (notStarted r rule) e = absurd (omega (arith, named-by-rule (beforeStart rule) .0, start-numbers rule))
   stopped-on-12 (finishing sheet memory is) e = absurd (omega (arith, ap (λ r. r .number) (ended sheet memory is)))
   stopped-on-12 (stopping sheet row is) e = (sheet, row, is)
-  stopped-on-12 (sticking stuck) e = absurd (omega arith)
 
-  numbers-of : Way → (answer .number ≤ 12) ⊎ (answer .number ≡ stuckNumber A)
-  numbers-of (notStarted r rule) = inl (omega (arith, named-by-rule (beforeStart rule) .0, from-1-to-12 r))
-  numbers-of (finishing sheet memory is) = inl (omega (arith, ap (λ r. r .number) (ended sheet memory is)))
-  numbers-of (stopping sheet row is) = inl (omega (arith, ap (λ r. r .number) (stopped sheet row is)))
-  numbers-of (sticking stuck) = inr stuck
+  numbers-of : Way → answer .number ≤ 12
+  numbers-of (notStarted r rule) = omega (arith, named-by-rule (beforeStart rule) .0, from-1-to-12 r)
+  numbers-of (finishing sheet memory is) = omega (arith, ap (λ r. r .number) (ended sheet memory is))
+  numbers-of (stopping sheet row is) = omega (arith, ap (λ r. r .number) (stopped sheet row is))
 
   kept-on-1-to-11 : Way → 1 ≤ answer .number → answer .number ≤ 11 → answer .lent ≡ lent
   kept-on-1-to-11 (notStarted r rule) low high = ap (λ r. r .lent) (not-started r rule)
   kept-on-1-to-11 (finishing sheet memory is) low high = absurd (omega (arith, ap (λ r. r .number) (ended sheet memory is)))
   kept-on-1-to-11 (stopping sheet row is) low high = absurd (omega (arith, ap (λ r. r .number) (stopped sheet row is)))
-  kept-on-1-to-11 (sticking stuck) low high = absurd (omega arith)
 
-  pub run-exactly : RunExactly A words starts seeds lent
+  pub run-exactly : RunExactly A words starts seeds lent answer
   run-exactly =
       record {
         refuses = λ r. (rule-of-name r way, named-by-rule);

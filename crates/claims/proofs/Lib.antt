@@ -30,7 +30,6 @@ pub mod StopRow
 pub mod RowSeventeen
 pub mod RunInTheLarge
 pub mod WholeRunMatches
-pub mod RunAccepted
 pub mod RunsAnswer
 pub mod AtTurningRound
 pub mod DemandThreeHolds

@@ -16,11 +16,14 @@ use Rattle.run.specs.Attempts.{Attempt, through, halted, stuck}
 use Rattle.run.specs.Actions.{seeded}
 use Rattle.run.specs.Calls.{Lent, settingOf, readToRun, run}
 use Rattle.run.specs.InTheLarge.{Stop}
+use Rattle.claims.specs.ExactlyWhen.{Runnable}
 use Rattle.claims.specs.Execution.{Progress, execution}
 use Rattle.claims.specs.ReadLog.{sweptLog}
 use Rattle.claims.specs.EquationTwo.{Instance, valueNo, EquationTwo}
 use Rattle.claims.specs.SavedRows.{savedValues, recordedIn}
 use Rattle.claims.specs.Demands.{AuditSolves, DemandThree, SameAsAllSaved}
+use Rattle.sheet.proofs.Settled.{given-exactly}
+use Rattle.claims.proofs.StartExactlyWhen.{start-settled}
 use Rattle.claims.proofs.AuditSolves.{audit-solves}
 use Rattle.claims.proofs.DemandTwoHolds.{same-as-all-saved}
 use Rattle.claims.proofs.DemandThreeHolds.{demand-three}
@@ -54,7 +57,7 @@ E-demand-three = demand-three residues wordsE sheetE E-accepted (1 ∷ 0 ∷ [])
 
 E-same-as-all-saved : SameAsAllSaved residues sheetE (1 ∷ 0 ∷ []) (1 ∷ 0 ∷ [])
 unfolding sheetE
-E-same-as-all-saved = same-as-all-saved residues wordsE sheetE E-accepted (1 ∷ 0 ∷ []) (1 ∷ 0 ∷ []) refl
+E-same-as-all-saved = same-as-all-saved residues wordsE sheetE (1 ∷ 0 ∷ []) (1 ∷ 0 ∷ []) E-accepted refl
 
 -- what E executes from 1 and 0
 ended : Attempt (Stop residues) (Progress residues) → Progress residues
@@ -85,12 +88,12 @@ E-reads = refl
 lentE : Lent residues
 lentE = record { table = replicate 77 7; values = 7 ∷ 7 ∷ []; turns = []; result = 7 ∷ 7 ∷ 7 ∷ 7 ∷ [] }
 
-E-runs : readToRun residues wordsE (1 ∷ 0 ∷ []) (1 ∷ 0 ∷ []) lentE ≡ given sheetE
+E-runs : Runnable residues wordsE (1 ∷ 0 ∷ []) (1 ∷ 0 ∷ []) lentE sheetE
 unfolding readToRun wordsE sheetE lentE
-E-runs = refl
+E-runs = given-exactly (start-settled residues wordsE (1 ∷ 0 ∷ []) (1 ∷ 0 ∷ []) lentE) sheetE .0 refl
 
 E-audit : AuditSolves sheetE (1 ∷ 0 ∷ []) (1 ∷ 0 ∷ []) (run residues wordsE (1 ∷ 0 ∷ []) (1 ∷ 0 ∷ []) lentE)
-E-audit = audit-solves wordsE (1 ∷ 0 ∷ []) (1 ∷ 0 ∷ []) lentE sheetE E-runs small
+E-audit = audit-solves wordsE (1 ∷ 0 ∷ []) (1 ∷ 0 ∷ []) lentE sheetE E-runs small _ refl
   where
     small : (x : ℕ) → x < variablesOf sheetE → getD (1 ∷ 0 ∷ []) x 0 < modulus
     small x h = below x

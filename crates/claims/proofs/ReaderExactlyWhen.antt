@@ -12,7 +12,7 @@ use Rattle.sheet.specs.declared.Reading.the-variants.{Accepted}
 use Rattle.sheet.proofs.Settled.{Settled, given-exactly, named-exactly, done-exactly, numbers-within}
 use Rattle.sheet.proofs.ReaderLaws.{same-said}
 use Rattle.claims.specs.ExactlyWhen.{ReadingRefuses, Read}
-use Rattle.claims.specs.ReaderCall.{ShapeOfRead, ReaderExactly}
+use Rattle.claims.specs.CallsExactly.{ShapeOfRead, ReaderExactly}
 use Rattle.claims.proofs.ReadingExactlyWhen.{reading-settled, reading-numbers}
 
 module _ (words : List ℕ) where

@@ -8,12 +8,13 @@ use lib.Dec.{leb, eqb}
 use native.Mathlib.Omega.{arith}
 use Rattle.number.specs.Arithmetic.{Arithmetic}
 use Rattle.sheet.specs.Refusals.{Refusal, Answer, refused, given, _>>=_, numberOf, smallValueStack, smallTurnStack, wrongStarts, wrongSeeds, wrongResult, notFiniteGiven}
-use Rattle.sheet.specs.Reading.{Sheet, variablesOf, unless}
+use Rattle.sheet.specs.Reading.{Sheet, variablesOf, unless, read}
 use Rattle.sheet.proofs.Judgements.{Tells, leb-tells, eqb-tells, unmet, judged, _andThen_, after-given, after-refused, passes, refuses}
 use Rattle.sheet.proofs.Settled.{Settled}
 use Rattle.table.specs.Calls.{tableRoom, readFor}
-use Rattle.run.specs.Calls.{Lent, allAdmitted, readToRun}
-use Rattle.claims.specs.ExactlyWhen.{First, ReadingRefuses, Read, rowsNeeded, valuesFor, turnsFor, WritingRefuses, whileReading, tableTooSmall, Writable, StacksSuffice, LengthsRight, NotFinite, Runnable, StartRefused, whileWriting, valueStackTooSmall, turnStackTooSmall, startsNotV, seedsNotV, resultNot2V, givenNotFinite}
+use Rattle.run.specs.Machine.{Ending}
+use Rattle.run.specs.Calls.{Lent, allAdmitted, readToRun, ranTo, ranOn, run}
+use Rattle.claims.specs.ExactlyWhen.{First, ReadingRefuses, Read, rowsNeeded, valuesFor, turnsFor, WritingRefuses, whileReading, tableTooSmall, Writable, StacksSuffice, LengthsRight, NotFinite, Runnable, endingOf, StartRefused, whileWriting, valueStackTooSmall, turnStackTooSmall, startsNotV, seedsNotV, resultNot2V, givenNotFinite}
 use Rattle.claims.proofs.FirstFailing.{eachJudged, all-pass, first-refused, all-or-first}
 use Rattle.claims.proofs.ReadingExactlyWhen.{reading-settled, reading-numbers}
 
@@ -145,6 +146,17 @@ module _ (A : Arithmetic) (words : List ℕ) (starts seeds : List (A .Carrier)) 
           record { stacks = stacks; startValues = starts-right; seedValues = seeds-right; results = result-right } in
           admitted-judged sheet lengths (all-or-first (A .admits) (A .zero) (starts ++ seeds)) andThen λ finite.
           inl (sheet, record { lengths = lengths; finite = finite })
+
+  -- ---- a run that starts
+
+  pub accepted-to-run : (sheet : Sheet) → Runnable A words starts seeds lent sheet → read words ≡ given sheet
+  accepted-to-run sheet is = reading-settled words .byResult sheet (is .lengths .stacks .writable .isRead)
+
+  -- it answers by how the machine ends
+  pub started : (sheet : Sheet) (ending : Ending A) → Runnable A words starts seeds lent sheet → endingOf A words starts seeds lent sheet ≡ ending
+      → run A words starts seeds lent ≡ ranTo A sheet lent ending
+  unfolding run ranOn
+  started sheet ending is e = ap (λ answer. ranOn A answer starts seeds lent) (start-result sheet is) ∙ ap (ranTo A sheet lent) e
 
 -- refusals 1 to 8, and 1 to 11
 pub writing-numbers : {words buffer : List ℕ} {r : Refusal} → WritingRefuses words buffer r → numberOf r ≤ 8

@@ -1,7 +1,7 @@
--- Every run of an accepted sheet matches the ideal, for any choice of further saved rows.
+-- Every run of an accepted sheet matches the ideal, for any choice of further saved rows; the sheet's own table is the choice of none.
 use Prim.Native.Nat.{ℕ, suc, _+_, _≤_}
-use mathlib.Core.Path.{_≡_, refl, subst}
-use mathlib.Core.Bool.{Bool, true, _||_}
+use mathlib.Core.Path.{_≡_, refl, ap₂, subst}
+use mathlib.Core.Bool.{Bool, true, false, _||_, or-false}
 use mathlib.Core.List.{List}
 use lib.ListN.{length}
 use Rattle.number.specs.Arithmetic.{Arithmetic}
@@ -10,8 +10,10 @@ use Rattle.sheet.specs.Refusals.{given}
 use Rattle.sheet.specs.Rows.{Assignment, Test}
 use Rattle.sheet.specs.Reading.{Sheet, variablesOf, read}
 use Rattle.sets.specs.Marks.{varied, useful, required, numbered, markBy, marked}
+use Rattle.table.specs.Adjoint.{Body, tableOf}
 use Rattle.table.specs.Sizes.{valuesNeeded, turnsNeeded}
-use Rattle.run.specs.Calls.{settingOf}
+use Rattle.run.specs.Machine.{Ending}
+use Rattle.run.specs.Calls.{settingOf, startOf, runOf}
 use Rattle.claims.specs.IdealSweep.{ideal}
 use Rattle.claims.specs.SavedRows.{alsoSaving, recordedIn}
 use Rattle.claims.specs.WholeRun.{runSaving, Room, Matches}
@@ -41,14 +43,48 @@ module _ (sheet : Sheet) (choice : RowNumber → Bool) where
   recorded-saved : (p : ℕ) (b : Assignment) → recordedIn sheet p b ≡ true → saved p b ≡ true
   recorded-saved p b e = rw e refl
 
+-- ---- no further row saved is the table as it is
+
+abbrev pub noFurther : RowNumber → Bool
+noFurther row = false
+
+as-it-is : (t : Body) → alsoSaving noFurther t ≡ t
+unfolding alsoSaving
+as-it-is done = refl
+as-it-is (one m k) =
+    ap₂ one (λ i. record { row = m .row; assignment = m .assignment; known = m .known; saved = or-false (m .saved) i }) (as-it-is k)
+as-it-is (fork f a b k) = rw (as-it-is a, as-it-is b, as-it-is k)
+as-it-is (again n a k) = rw (as-it-is a, as-it-is k)
+
+module _ (A : Arithmetic) (sheet : Sheet) where
+  pub own-room : (valueRoom turnRoom : ℕ) → valuesNeeded (marked sheet) ≤ valueRoom → turnsNeeded (marked sheet) ≤ turnRoom
+      → Room A noFurther sheet valueRoom turnRoom
+  own-room valueRoom turnRoom values turns = record { values = rw (as-it-is (marked sheet)) values; turns = rw (as-it-is (marked sheet)) turns }
+
+  pub own-run : (starts seeds : List (A .Carrier)) (valueRoom turnRoom : ℕ)
+      → runSaving A noFurther sheet starts seeds valueRoom turnRoom
+      ≡ runOf A (tableOf sheet) (settingOf A sheet seeds valueRoom turnRoom) (startOf A sheet starts)
+  unfolding runSaving tableOf
+  own-run starts seeds valueRoom turnRoom = rw (as-it-is (marked sheet)) refl
+
 -- ---- the run
 
-pub run-matches : (A : Arithmetic) (words : List ℕ) (sheet : Sheet) → read words ≡ given sheet → (choice : RowNumber → Bool) → (starts seeds : List (A .Carrier))
-    → length starts ≡ variablesOf sheet → (valueRoom turnRoom : ℕ) → Room A choice sheet valueRoom turnRoom
-    → Matches A (variablesOf sheet) (ideal A sheet (settingOf A sheet seeds valueRoom turnRoom) starts) (runSaving A choice sheet starts seeds valueRoom turnRoom)
-unfolding runSaving
-run-matches A words sheet accepted choice starts seeds n valueRoom turnRoom room =
-    rw (also-body sheet choice)
-    (matches-ideal A words sheet accepted (saved sheet choice) (recorded-saved sheet choice) starts seeds n valueRoom turnRoom
-    (subst (λ t. valuesNeeded t ≤ valueRoom) (also-body sheet choice) (room .values))
-    (subst (λ t. turnsNeeded t ≤ turnRoom) (also-body sheet choice) (room .turns)))
+module _ (A : Arithmetic) (words : List ℕ) (sheet : Sheet) (accepted : read words ≡ given sheet) (starts seeds : List (A .Carrier))
+    (n : length starts ≡ variablesOf sheet) where
+  abbrev Like : (valueRoom turnRoom : ℕ) → Ending A → Type 0
+  Like valueRoom turnRoom = Matches A (variablesOf sheet) (ideal A sheet (settingOf A sheet seeds valueRoom turnRoom) starts)
+
+  pub run-matches : (choice : RowNumber → Bool) (valueRoom turnRoom : ℕ) → Room A choice sheet valueRoom turnRoom
+      → Like valueRoom turnRoom (runSaving A choice sheet starts seeds valueRoom turnRoom)
+  unfolding runSaving
+  run-matches choice valueRoom turnRoom room =
+      rw (also-body sheet choice)
+      (matches-ideal A words sheet accepted (saved sheet choice) (recorded-saved sheet choice) starts seeds n valueRoom turnRoom
+      (subst (λ t. valuesNeeded t ≤ valueRoom) (also-body sheet choice) (room .values))
+      (subst (λ t. turnsNeeded t ≤ turnRoom) (also-body sheet choice) (room .turns)))
+
+  pub own-run-matches : (valueRoom turnRoom : ℕ) → valuesNeeded (marked sheet) ≤ valueRoom → turnsNeeded (marked sheet) ≤ turnRoom
+      → Like valueRoom turnRoom (runOf A (tableOf sheet) (settingOf A sheet seeds valueRoom turnRoom) (startOf A sheet starts))
+  own-run-matches valueRoom turnRoom values turns =
+      subst (Like valueRoom turnRoom) (own-run A sheet starts seeds valueRoom turnRoom)
+      (run-matches noFurther valueRoom turnRoom (own-room A sheet valueRoom turnRoom values turns))

@@ -6,21 +6,25 @@ use mathlib.Core.Bool.{cond}
 use mathlib.Core.List.{List, [], _∷_, _++_, map}
 use lib.ListN.{length, getD, take, drop}
 use Rattle.number.specs.Arithmetic.{Arithmetic}
-use Rattle.number.specs.Residues.{residues}
+use Rattle.number.specs.Residues.{modulus, residues}
 use Rattle.sheet.specs.Tree.{Tree, done, one, fork, again, basic, RowNumber}
 use Rattle.sheet.specs.Rows.{Assignment, Test, isIndependent}
 use Rattle.sheet.specs.Reading.{Sheet, variablesOf}
 use Rattle.sets.specs.Equations.{Least}
 use Rattle.sets.specs.Marks.{marked, varied, useful, required, variedEquations, usefulEquations, requiredEquations, activityAt}
-use Rattle.table.specs.TableRows.{TableLine, TableRow, Origin, ofTurningRound, turnRound, turnWord, linesOf}
+use Rattle.table.specs.TableRows.{TableLine, TableRow, Origin, ofTurningRound, turnRound, turnWord, linesOf, tableWords}
 use Rattle.table.specs.Adjoint.{tableOf}
 use Rattle.table.specs.Sizes.{valuesNeeded, turnsNeeded}
+use Rattle.table.specs.Calls.{checkedSaid, check, write}
+use Rattle.table.specs.declared.Checked as declared
+use Rattle.table.specs.declared.Answer.{Answer}
 use Rattle.run.specs.Attempts.{through, halted}
 use Rattle.run.specs.Actions.{Memory, Setting, acted, seeded}
-use Rattle.run.specs.Machine.{State, Step, goesOn, sticks, stateAfter, stepsOf}
-use Rattle.run.specs.Calls.{Lent, Ran, settingOf, startOf, runOf, run}
+use Rattle.run.specs.Machine.{State, Step, goesOn, sticks, stateAfter, stepsOf, Ending, finished, stoppedAt}
+use Rattle.run.specs.Calls.{Lent, Ran, settingOf, startOf, runOf, resultOf, run, ranOf}
 use Rattle.run.specs.RowReads.{machineLog}
-use Rattle.claims.specs.ExactlyWhen.{CheckExactly, WriteExactly, RunExactly}
+use Rattle.claims.specs.ExactlyWhen.{Writable, Runnable}
+use Rattle.claims.specs.CallsExactly.{CheckExactly, StartsWith, writtenOf, WriteExactly, RunExactly}
 use Rattle.claims.specs.Execution.{Progress, execution}
 use Rattle.claims.specs.IdealSweep.{ideal}
 use Rattle.claims.specs.ReadLog.{sweptLog}
@@ -30,14 +34,22 @@ use Rattle.claims.specs.WholeRun.{Matches, SameOutcome}
 
 -- ---- demand 1
 
--- "every public call ends with an answer": each refusal exactly when 01 says, and nothing but 01's numbers is ever answered
-pub record DemandOne (A : Arithmetic) (words buffer : List ℕ) (starts seeds : List (A .Carrier)) (lent : Lent A) : Type 0 where
-  pub checks : CheckExactly words
-  pub writes : WriteExactly words buffer
-  pub runs : RunExactly A words starts seeds lent
-  pub answered : run A words starts seeds lent .number ≤ 12
+-- "Whatever words and numbers come in, every public call ends with an answer. It checks everything itself. Each refusal is given exactly when
+-- document 01 says, and what each lent buffer then holds is fixed there.": of whatever a call's contract lets it answer and leave behind
+pub record DemandOne (A : Arithmetic) : Type 0 where
+  pub checks : (words : List ℕ) (answer : declared.Checked) → checkedSaid answer ≡ check words → CheckExactly words (checkedSaid answer)
+  pub writes : (words before after : List ℕ) (answer : Answer) → writtenOf answer after ≡ write words before
+      → WriteExactly words before (writtenOf answer after)
+  pub runs : (words : List ℕ) (starts seeds : List (A .Carrier)) (before after : Lent A) (answer : Answer)
+      → ranOf A answer after ≡ run A words starts seeds before → RunExactly A words starts seeds before (ranOf A answer after)
 
 -- ---- demand 2
+
+-- "The varied, useful and to-be-recorded sets are the least that satisfy 01's equations"
+pub record LeastSets (sheet : Sheet) : Type 0 where
+  pub varies : Least (variedEquations sheet) (varied sheet)
+  pub isUseful : Least (usefulEquations sheet) (useful sheet)
+  pub isRequired : Least (requiredEquations sheet (varied sheet) (useful sheet)) (required sheet)
 
 -- "Run modulo 2^32 it yields equation (2) of "To Be Recorded Analysis" at every independent": the run answers 0, its first V numbers are
 -- the values of executing the sheet, and the other V each independent's adjoint by equation (2), 0 at the others.
@@ -49,21 +61,6 @@ pub record AuditSolves (sheet : Sheet) (starts seeds : List ℕ) (ran : Ran resi
   pub adjoints : (bar : Instance → ℕ) → EquationTwo (sheet .roles) seeds (progress .trace) bar → (x : ℕ) → x < variablesOf sheet
       → getD (drop (variablesOf sheet) (ran .lent .result)) x 0 ≡ cond (isIndependent (getD (sheet .roles) x 0)) (bar (valueNo x 0)) 0
 
--- "run in doubles it gives bit for bit what the all-saved table gives, or stops at the same arithmetic row": stated over any arithmetic, for
--- stacks of at least the sizes that each of the two tables needs
-abbrev pub SameAsAllSaved : (A : Arithmetic) → Sheet → (starts seeds : List (A .Carrier)) → Type 0
-SameAsAllSaved A sheet starts seeds =
-    (values turns allValues allTurns : ℕ) → valuesNeeded (marked sheet) ≤ values → turnsNeeded (marked sheet) ≤ turns
-    → valuesNeeded (alsoSaving every (marked sheet)) ≤ allValues → turnsNeeded (alsoSaving every (marked sheet)) ≤ allTurns
-    → SameOutcome A (variablesOf sheet) (runOf A (tableOf sheet) (settingOf A sheet seeds values turns) (startOf A sheet starts))
-    (runOf A (allSavedTable sheet) (settingOf A sheet seeds allValues allTurns) (startOf A sheet starts))
-
--- "The varied, useful and to-be-recorded sets are the least that satisfy 01's equations"
-pub record LeastSets (sheet : Sheet) : Type 0 where
-  pub varies : Least (variedEquations sheet) (varied sheet)
-  pub isUseful : Least (usefulEquations sheet) (useful sheet)
-  pub isRequired : Least (requiredEquations sheet (varied sheet) (useful sheet)) (required sheet)
-
 -- "A stop is .. reported in the rows of the real table": the row reported stands in the table, has the stop's origin, and is the one whose
 -- operation the arithmetic refused
 pub record StoppedThere (A : Arithmetic) (setting : Setting A) (lines : List TableLine) (row : RowNumber) (origin : Origin) (why : A .Why) : Type 0 where
@@ -73,6 +70,45 @@ pub record StoppedThere (A : Arithmetic) (setting : Setting A) (lines : List Tab
   pub comesFrom : line .origin ≡ origin
   pub memory : Memory A
   pub refuses : acted A setting (line .action) memory ≡ halted why
+
+module _ (A : Arithmetic) (sheet : Sheet) (starts seeds : List (A .Carrier)) where
+  -- stacks of at least the sizes that the all-saved table needs
+  pub record AllSavedRoom (valueRoom turnRoom : ℕ) : Type 0 where
+    pub values : valuesNeeded (alsoSaving every (marked sheet)) ≤ valueRoom
+    pub turns : turnsNeeded (alsoSaving every (marked sheet)) ≤ turnRoom
+
+  abbrev pub allSavedRun : (valueRoom turnRoom : ℕ) → Ending A
+  allSavedRun valueRoom turnRoom = runOf A (allSavedTable sheet) (settingOf A sheet seeds valueRoom turnRoom) (startOf A sheet starts)
+
+  -- "run in doubles it gives bit for bit what the all-saved table gives, or stops at the same arithmetic row": stated over any arithmetic, for
+  -- stacks of at least the sizes that each of the two tables needs
+  abbrev pub SameAsAllSaved : Type 0
+  SameAsAllSaved =
+      (values turns allValues allTurns : ℕ) → valuesNeeded (marked sheet) ≤ values → turnsNeeded (marked sheet) ≤ turns
+      → AllSavedRoom allValues allTurns
+      → SameOutcome A (variablesOf sheet) (runOf A (tableOf sheet) (settingOf A sheet seeds values turns) (startOf A sheet starts))
+      (allSavedRun allValues allTurns)
+
+  -- the same of what a run's call answers, by how the all-saved table ends: 0 with that table's result, or 12 at the row of the real table
+  -- that has the same origin
+  pub data AnswersLike (before : Lent A) (ran : Ran A) : (allSaved : Ending A) → Type 0 where
+    sameResult : {memory : Memory A} → ran .number ≡ 0 → ran .lent .result ≡ resultOf A sheet memory → AnswersLike before ran (finished memory)
+    sameStop : {other : RowNumber} {origin : Origin} {why : A .Why} (row : RowNumber) → ran .number ≡ 12 → ran .place ≡ row .index
+        → StoppedThere A (settingOf A sheet seeds (length (before .values)) (length (before .turns))) (linesOf (tableOf sheet)) row origin why
+        → AnswersLike before ran (stoppedAt other origin why)
+
+-- of an accepted sheet, whatever the calls answer within their contracts
+pub record DemandTwo (A : Arithmetic) (words : List ℕ) (sheet : Sheet) : Type 0 where
+  pub sets : LeastSets sheet
+  -- "the adjoint table is exactly the one 01's rules give"
+  pub table : (before after : List ℕ) (answer : Answer) → writtenOf answer after ≡ write words before → Writable words before sheet
+      → StartsWith (tableWords (tableOf sheet)) before after
+  pub audit : (starts seeds : List ℕ) (before after : Lent residues) (answer : Answer) → Runnable residues words starts seeds before sheet
+      → ((x : ℕ) → x < variablesOf sheet → getD seeds x 0 < modulus) → ranOf residues answer after ≡ run residues words starts seeds before
+      → AuditSolves sheet starts seeds (ranOf residues answer after)
+  pub allSaved : (starts seeds : List (A .Carrier)) (before after : Lent A) (answer : Answer) → Runnable A words starts seeds before sheet
+      → ranOf A answer after ≡ run A words starts seeds before → (valueRoom turnRoom : ℕ) → AllSavedRoom A sheet starts seeds valueRoom turnRoom
+      → AnswersLike A sheet starts seeds before (ranOf A answer after) (allSavedRun A sheet starts seeds valueRoom turnRoom)
 
 -- ---- demand 3: "For every accepted sheet, any start values and seeds, stacks of the sizes 01 computes"
 

@@ -1,27 +1,27 @@
 -- Demand 1's "exactly when": 01's table of refusals as it stands there, a rule for each of its rows, and 01's order in what each rule asks for.
--- It speaks of words, counts, rows and open blocks, and of no judgement that the calls are made of; the theorems stand at the end.
+-- It speaks of words, counts, rows and open blocks, and of no judgement that the calls are made of. What the calls answer is in CallsExactly.
 use Prim.Native.Nat.{ℕ, zero, suc, _+_, _*_, _≤_, _<_}
 use mathlib.Core.Path.{_≡_}
 use mathlib.Core.Bool.{false}
 use mathlib.Core.List.{List, [], _∷_, _++_}
 use mathlib.Core.Option.{some}
-use mathlib.Core.Logic.{_↔_, _≢_, _⊎_}
-use lib.ListN.{length, getD, take, drop, replicate}
+use mathlib.Core.Logic.{_≢_}
+use lib.ListN.{length, getD, take, drop}
 use Rattle.number.specs.Arithmetic.{Arithmetic}
 use Rattle.sheet.specs.Bounds.{limit}
-use Rattle.sheet.specs.Refusals.{Refusal, refused, given, wordsEnd, wordsLeft, countBeyond, roleAbove, badRow, badBlock, tooLong, smallTable, smallValueStack, smallTurnStack, wrongStarts, wrongSeeds, wrongResult, notFiniteGiven, notFiniteResult, numberOf, placeOf}
+use Rattle.sheet.specs.Refusals.{Refusal, wordsEnd, wordsLeft, countBeyond, roleAbove, badRow, badBlock, tooLong, smallTable, smallValueStack, smallTurnStack, wrongStarts, wrongSeeds, wrongResult, notFiniteGiven, notFiniteResult}
 use Rattle.sheet.specs.Tree.{Tree, basic, ifLine, elseLine, endIf, repeat, endRepeat, RowNumber}
 use Rattle.sheet.specs.Rows.{Assignment, Test, SheetLine, Row, Slot, variable, constant, turns, unused, Kind, kindOf, treeRows}
 use Rattle.sheet.specs.LongestRun.{longestRun}
-use Rattle.sheet.specs.Reading.{Sheet, variablesOf, rowAt, rowsAt, read}
+use Rattle.sheet.specs.Reading.{Sheet, variablesOf, rowAt, rowsAt}
 use Rattle.sets.specs.Marks.{marked}
-use Rattle.table.specs.TableRows.{Origin, tableWords}
+use Rattle.table.specs.TableRows.{Origin}
 use Rattle.table.specs.Adjoint.{tableOf}
 use Rattle.table.specs.Sizes.{tableRows, valuesNeeded, turnsNeeded}
-use Rattle.table.specs.Calls.{Sizes, check, tableRoom, write}
+use Rattle.table.specs.Calls.{tableRoom}
 use Rattle.run.specs.Actions.{Memory}
 use Rattle.run.specs.Machine.{Ending, finished, stoppedAt}
-use Rattle.run.specs.Calls.{Lent, settingOf, startOf, runOf, resultOf, Ran, stuckNumber, run}
+use Rattle.run.specs.Calls.{Lent, settingOf, startOf, runOf}
 
 -- ---- where things stand
 
@@ -291,65 +291,3 @@ module _ (A : Arithmetic) (words : List ℕ) (starts seeds : List (A .Carrier)) 
   pub record Finishes (sheet : Sheet) (memory : Memory A) : Type 0 where
     pub runnable : Runnable sheet
     pub ending : endingOf sheet ≡ finished memory
-
--- ---- what each call answers, and what it leaves in the lent buffers
-
--- an answer's number and place are a refusal's
-abbrev pub Names : (number place : ℕ) → Refusal → Type 0
-Names number place r = (number ≡ numberOf r) × (place ≡ placeOf r)
-
-pub record ReadExactly (words : List ℕ) : Type 0 where
-  pub refuses : (r : Refusal) → (read words ≡ refused r) ↔ ReadingRefuses words r
-  pub gives : (sheet : Sheet) → (read words ≡ given sheet) ↔ Read words sheet
-
--- "Checking a sheet uses 1 to 7 and answers W, R, S and T, all 0 when refused."
-abbrev pub sizesOf : Sheet → Sizes
-sizesOf sheet = record { longest = longestRun (sheet .body); rows = rowsNeeded sheet; values = valuesFor sheet; turns = turnsFor sheet }
-
-abbrev pub noSizes : Sizes
-noSizes = record { longest = 0; rows = 0; values = 0; turns = 0 }
-
-pub record CheckExactly (words : List ℕ) : Type 0 where
-  pub refuses : (r : Refusal) → Names (check words .number) (check words .place) r ↔ ReadingRefuses words r
-  pub done : (check words .number ≡ 0) ↔ ((sheet : Sheet) × Read words sheet)
-  pub numbers : check words .number ≤ 7
-  pub whenRefused : 1 ≤ check words .number → check words .sizes ≡ noSizes
-  pub whenDone : (sheet : Sheet) → Read words sheet → (check words .place ≡ 0) × (check words .sizes ≡ sizesOf sheet)
-
--- "the table buffer starts with the table and keeps its other words"
-pub record StartsWith (table before after : List ℕ) : Type 0 where
-  pub starts : take (length table) after ≡ table
-  pub keeps : drop (length table) after ≡ drop (length table) before
-  pub sameLength : length after ≡ length before
-
--- "Writing a table uses 1 to 8"; "Refusals 1 to 11 change no buffer."
-pub record WriteExactly (words buffer : List ℕ) : Type 0 where
-  pub refuses : (r : Refusal) → Names (write words buffer .number) (write words buffer .place) r ↔ WritingRefuses words buffer r
-  pub done : (write words buffer .number ≡ 0) ↔ ((sheet : Sheet) × Writable words buffer sheet)
-  pub numbers : write words buffer .number ≤ 8
-  pub whenRefused : 1 ≤ write words buffer .number → write words buffer .table ≡ buffer
-  pub whenDone : (sheet : Sheet) → Writable words buffer sheet
-      → (write words buffer .place ≡ 0) × StartsWith (tableWords (tableOf sheet)) buffer (write words buffer .table)
-
--- "On 0 and 12 the table buffer starts with the table and keeps its other words, and both stacks are all zeros over their lent length."
-pub record LeftBehind (A : Arithmetic) (sheet : Sheet) (before after : Lent A) : Type 0 where
-  pub table : StartsWith (tableWords (tableOf sheet)) (before .table) (after .table)
-  pub values : after .values ≡ replicate (length (before .values)) (A .zero)
-  pub turns : after .turns ≡ replicate (length (before .turns)) 0
-
--- "Refusals 1 to 11 change no buffer." "On 12 the result is unchanged."
-module _ (A : Arithmetic) (words : List ℕ) (starts seeds : List (A .Carrier)) (lent : Lent A) where
-  abbrev pub ran : Ran A
-  ran = run A words starts seeds lent
-
-  pub record RunExactly : Type 0 where
-    pub refuses : (r : Refusal) → Names (ran .number) (ran .place) r ↔ RunRefuses A words starts seeds lent r
-    pub done : (ran .number ≡ 0) ↔ ((sheet : Sheet) × (memory : Memory A) × Finishes A words starts seeds lent sheet memory)
-    pub stopped : (ran .number ≡ 12) ↔ ((sheet : Sheet) × (row : RowNumber) × Stops A words starts seeds lent sheet row)
-    -- the second is what no run answers (claims, "never stuck")
-    pub numbers : (ran .number ≤ 12) ⊎ (ran .number ≡ stuckNumber A)
-    pub whenRefused : 1 ≤ ran .number → ran .number ≤ 11 → ran .lent ≡ lent
-    pub whenStopped : (sheet : Sheet) (row : RowNumber) → Stops A words starts seeds lent sheet row
-        → LeftBehind A sheet lent (ran .lent) × (ran .lent .result ≡ lent .result)
-    pub whenDone : (sheet : Sheet) (memory : Memory A) → Finishes A words starts seeds lent sheet memory
-        → (ran .place ≡ 0) × LeftBehind A sheet lent (ran .lent) × (ran .lent .result ≡ resultOf A sheet memory)

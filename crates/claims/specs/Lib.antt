@@ -1,7 +1,7 @@
 -- What the claims speak of besides the layers' own definitions: executing a sheet, equation (2), other choices of saved rows,
 -- and the sheets that 01 works by hand.
 pub mod ExactlyWhen
-pub mod ReaderCall
+pub mod CallsExactly
 pub mod Execution
 pub mod IdealSweep
 pub mod ReadLog
