@@ -1,29 +1,31 @@
 -- Demand 2, of every accepted sheet: the sets are least, the table is the one that 01's rules give, in audit a run solves equation (2), and
 -- over any arithmetic it comes to what the all-saved table comes to.
-use Prim.Native.Nat.{ℕ, suc, _≤_}
+use Prim.Native.Nat.{ℕ, suc, _<_}
 use mathlib.Core.Path.{_≡_, refl, sym, ap, ap₂, subst, _∙_}
 use mathlib.Core.List.{List, _++_}
-use lib.ListN.{length, drop}
+use lib.ListN.{length, getD, drop}
 use Rattle.number.specs.Arithmetic.{Arithmetic}
+use Rattle.number.specs.Residues.{modulus, residues}
 use Rattle.sheet.specs.Refusals.{given}
 use Rattle.sheet.specs.Reading.{Sheet, variablesOf, read}
 use Rattle.sets.specs.Marks.{marked}
 use Rattle.sets.proofs.SetsLeast.{varied-least, useful-least, required-least}
 use Rattle.table.specs.TableRows.{linesOf}
 use Rattle.table.specs.Adjoint.{tableOf}
+use Rattle.table.specs.declared.Answer.{Answer}
 use Rattle.run.specs.Actions.{Memory}
 use Rattle.run.specs.Machine.{Ending, finished, stepsOf}
 use Rattle.run.specs.Calls.{Lent, Ran, settingOf, startOf, runOf, independentAdjoints, resultOf, lentAfter, ranTo, run, ranOf}
 use Rattle.claims.specs.ExactlyWhen.{Runnable, endingOf}
 use Rattle.claims.specs.SavedRows.{every, allSavedTable}
 use Rattle.claims.specs.WholeRun.{runSaving, SameOutcome, bothEnd, bothStop}
-use Rattle.claims.specs.Demands.{LeastSets, AllSavedRoom, allSavedRun, SameAsAllSaved, AnswersLike, sameResult, sameStop, DemandTwo}
+use Rattle.claims.specs.Demands.{LeastSets, AllSavedRoom, allSavedRun, SameAsAllSaved, AnswersLike, sameResult, sameStop, DemandTwo, RunMeets, AuditMeets}
 use Rattle.claims.proofs.StartExactlyWhen.{accepted-to-run, started}
 use Rattle.claims.proofs.WholeRunMatches.{noFurther, own-room, own-run}
 use Rattle.claims.proofs.RunsAnswer.{saved-rows-same}
 use Rattle.claims.proofs.StopRow.{stop-names-its-row}
 use Rattle.claims.proofs.AuditSolves.{audit-solves}
-use Rattle.claims.proofs.DemandOneHolds.{write-call}
+use Rattle.claims.proofs.DemandOneHolds.{write-call, run-call}
 
 pub least-sets : (words : List ℕ) (sheet : Sheet) → read words ≡ given sheet → LeastSets sheet
 least-sets words sheet accepted =
@@ -80,4 +82,22 @@ demand-two A words sheet accepted =
       table = λ before after answer contract fits. write-call words before after answer contract .whenDone sheet fits .1;
       audit = λ starts seeds before after answer ready below contract. audit-solves words starts seeds before sheet ready below _ contract;
       allSaved = λ starts seeds before after answer ready contract. answers-like-all-saved A words sheet starts seeds before ready _ contract;
+    }
+
+-- ---- of the code
+
+pub run-meets : (A : Arithmetic) (words : List ℕ) (starts seeds : List (A .Carrier)) (before after : Lent A) (answer : Answer)
+    → ranOf A answer after ≡ run A words starts seeds before → RunMeets A words starts seeds before (ranOf A answer after)
+run-meets A words starts seeds before after answer contract =
+    record {
+      exactly = run-call A words starts seeds before after answer contract;
+      allSaved = λ sheet ready. answers-like-all-saved A words sheet starts seeds before ready _ contract;
+    }
+
+pub audit-meets : (words starts seeds : List ℕ) (before after : Lent residues) (answer : Answer) → ((x : ℕ) → getD seeds x 0 < modulus)
+    → ranOf residues answer after ≡ run residues words starts seeds before → AuditMeets words starts seeds before (ranOf residues answer after)
+audit-meets words starts seeds before after answer below contract =
+    record {
+      run = run-meets residues words starts seeds before after answer contract;
+      solves = λ sheet ready. audit-solves words starts seeds before sheet ready (λ x h. below x) _ contract;
     }

@@ -110,6 +110,17 @@ pub record DemandTwo (A : Arithmetic) (words : List ℕ) (sheet : Sheet) : Type 
       → ranOf A answer after ≡ run A words starts seeds before → (valueRoom turnRoom : ℕ) → AllSavedRoom A sheet starts seeds valueRoom turnRoom
       → AnswersLike A sheet starts seeds before (ranOf A answer after) (allSavedRun A sheet starts seeds valueRoom turnRoom)
 
+-- demands 1 and 2 of what a run answered: the contracts of src/lib.rt
+pub record RunMeets (A : Arithmetic) (words : List ℕ) (starts seeds : List (A .Carrier)) (before : Lent A) (ran : Ran A) : Type 0 where
+  pub exactly : RunExactly A words starts seeds before ran
+  pub allSaved : (sheet : Sheet) → Runnable A words starts seeds before sheet → (valueRoom turnRoom : ℕ)
+      → AllSavedRoom A sheet starts seeds valueRoom turnRoom
+      → AnswersLike A sheet starts seeds before ran (allSavedRun A sheet starts seeds valueRoom turnRoom)
+
+pub record AuditMeets (words starts seeds : List ℕ) (before : Lent residues) (ran : Ran residues) : Type 0 where
+  pub run : RunMeets residues words starts seeds before ran
+  pub solves : (sheet : Sheet) → Runnable residues words starts seeds before sheet → AuditSolves sheet starts seeds ran
+
 -- ---- demand 3: "For every accepted sheet, any start values and seeds, stacks of the sizes 01 computes"
 
 -- a body with no "if" in it
