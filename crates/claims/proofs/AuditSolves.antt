@@ -28,6 +28,7 @@ use Rattle.claims.proofs.Runs.{runs}
 use Rattle.claims.proofs.RunsKeepSizes.{runs-keep}
 use Rattle.claims.proofs.StartExactlyWhen.{accepted-to-run}
 use Rattle.claims.proofs.RunsAnswer.{run-answers}
+use Rattle.claims.proofs.EquationTwoSolved.{equation-two-solvable}
 use Rattle.claims.proofs.EquationTwoHolds.{Sound, Given, ideal-goes, ideal-solves}
 
 pub sound : (words : List ℕ) (sheet : Sheet) → read words ≡ given sheet → Sound sheet
@@ -95,6 +96,7 @@ module _ (words starts seeds : List ℕ) (lent : Lent residues) (sheet : Sheet) 
         executes = executes i goes;
         answers = ap (λ (r : Ran residues). r .number) answers;
         values = ap (take v) result ∙ take-at (i .progress .store) last v size;
+        solvable = equation-two-solvable (sheet .roles) seeds (i .progress .trace);
         adjoints = λ bar solves x h.
             ap (λ (l : List ℕ). getD (drop v l) x 0) result ∙ ap (λ (l : List ℕ). getD l x 0) (drop-at (i .progress .store) last v size)
             ∙ adjoint-at (sheet .roles) (i .adjoints) x h ∙ by-role (isIndependent (getD (sheet .roles) x 0)) bar solves x h refl;

@@ -15,7 +15,7 @@ use Rattle.number.proofs.ResidueLaws.{residue-sum-left, residue-same}
 use Rattle.sheet.specs.Rows.{Assignment, _≔_, Source, copy, fixed, sum, difference, product, negation, isDependent}
 use Rattle.sets.specs.Transfers.{firstRead, secondRead}
 use Rattle.sets.proofs.Truths.{of-T}
-use Rattle.claims.specs.EquationTwo.{Instance, valueNo, sameInstance, Trace, assigns, timesAssigned, current, Node, partialsOf, nodeOf, nodesOf, termsOf, allTerms, startsAt, EquationTwo}
+use Rattle.claims.specs.EquationTwo.{Instance, valueNo, sameInstance, Trace, assigns, timesAssigned, current, Node, partialsOf, nodeOf, nodesOf, termsOf, allTerms, startsAt, EquationTwo, Solvable}
 
 -- ---- equal numbers, as tests
 
@@ -134,11 +134,6 @@ solution-only (e ∷ earlier) start bar solves i =
     i
 
 -- ---- equation (2) itself
-
-pub record Solvable (roles seeds : List ℕ) (trace : Trace) : Type 0 where
-  pub bar : Instance → ℕ
-  pub solves : EquationTwo roles seeds trace bar
-  pub only : (other : Instance → ℕ) → EquationTwo roles seeds trace other → (i : Instance) → other i ≡ bar i
 
 pub equation-two-solvable : (roles seeds : List ℕ) (trace : Trace) → Solvable roles seeds trace
 unfolding EquationTwo

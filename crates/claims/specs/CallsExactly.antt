@@ -60,7 +60,7 @@ pub record CheckExactly (words : List ℕ) (answer : Checked) : Type 0 where
   pub whenRefused : 1 ≤ answer .number → answer .sizes ≡ noSizes
   pub whenDone : (sheet : Sheet) → Read words sheet → (answer .place ≡ 0) × (answer .sizes ≡ sizesOf sheet)
 
--- ---- write: "Writing a table uses 1 to 8"; "Refusals 1 to 11 change no buffer."
+-- ---- write: "Writing a table uses 1 to 8"; "these two answer number and place alone"; "Refusals 1 to 11 change no buffer."
 
 -- "the table buffer starts with the table and keeps its other words"
 pub record StartsWith (table before after : List ℕ) : Type 0 where
@@ -80,7 +80,7 @@ pub record WriteExactly (words before : List ℕ) (answer : Written) : Type 0 wh
   pub whenDone : (sheet : Sheet) → Writable words before sheet
       → (answer .place ≡ 0) × StartsWith (tableWords (tableOf sheet)) before (answer .table)
 
--- ---- a run: "a run .. uses all"
+-- ---- a run: "a run takes a sheet, never a bare table, and uses all"
 
 -- "On 0 and 12 the table buffer starts with the table and keeps its other words, and both stacks are all zeros over their lent length."
 pub record LeftBehind (A : Arithmetic) (sheet : Sheet) (before after : Lent A) : Type 0 where

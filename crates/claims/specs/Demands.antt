@@ -1,5 +1,5 @@
--- The three demands, as the theorems state them of the written definitions. What "exactly when" says is in ExactlyWhen,
--- what "least" says in crates/sets/specs/Equations.antt.
+-- The three demands. What "exactly when" says is in ExactlyWhen, what the calls' answers then are in CallsExactly, what "least" says in
+-- crates/sets/specs/Equations.antt.
 use Prim.Native.Nat.{ℕ, _≤_, _<_}
 use mathlib.Core.Path.{_≡_}
 use mathlib.Core.Bool.{cond}
@@ -28,7 +28,7 @@ use Rattle.claims.specs.CallsExactly.{CheckExactly, StartsWith, writtenO
 use Rattle.claims.specs.Execution.{Progress, execution}
 use Rattle.claims.specs.IdealSweep.{ideal}
 use Rattle.claims.specs.ReadLog.{sweptLog}
-use Rattle.claims.specs.EquationTwo.{Instance, valueNo, EquationTwo}
+use Rattle.claims.specs.EquationTwo.{Instance, valueNo, EquationTwo, Solvable}
 use Rattle.claims.specs.SavedRows.{alsoSaving, every, allSavedTable, savedValues, recordedIn}
 use Rattle.claims.specs.WholeRun.{Matches, SameOutcome}
 
@@ -52,18 +52,20 @@ pub record LeastSets (sheet : Sheet) : Type 0 where
   pub isRequired : Least (requiredEquations sheet (varied sheet) (useful sheet)) (required sheet)
 
 -- "Run modulo 2^32 it yields equation (2) of "To Be Recorded Analysis" at every independent": the run answers 0, its first V numbers are
--- the values of executing the sheet, and the other V each independent's adjoint by equation (2), 0 at the others.
+-- the values of executing the sheet, and the other V each independent's adjoint by equation (2), which has one solution, 0 at the others.
 pub record AuditSolves (sheet : Sheet) (starts seeds : List ℕ) (ran : Ran residues) : Type 0 where
   pub progress : Progress residues
   pub executes : execution residues sheet starts ≡ through progress
   pub answers : ran .number ≡ 0
   pub values : take (variablesOf sheet) (ran .lent .result) ≡ progress .store
+  pub solvable : Solvable (sheet .roles) seeds (progress .trace)
   pub adjoints : (bar : Instance → ℕ) → EquationTwo (sheet .roles) seeds (progress .trace) bar → (x : ℕ) → x < variablesOf sheet
       → getD (drop (variablesOf sheet) (ran .lent .result)) x 0 ≡ cond (isIndependent (getD (sheet .roles) x 0)) (bar (valueNo x 0)) 0
 
 -- "A stop is .. reported in the rows of the real table": the row reported stands in the table, has the stop's origin, and is the one whose
 -- operation the arithmetic refused
-pub record StoppedThere (A : Arithmetic) (setting : Setting A) (lines : List TableLine) (row : RowNumber) (origin : Origin) (why : A .Why) : Type 0 where
+pub record StoppedThere (A : Arithmetic) (setting : Setting A) (lines : List TableLine) (row : RowNumber) (origin : Origin) (why : A .Why)
+    : Type 0 where
   pub line : TableRow
   pub rest : List TableLine
   pub there : drop (row .index) lines ≡ basic line ∷ rest
@@ -121,7 +123,8 @@ pub record AuditMeets (words starts seeds : List ℕ) (before : Lent residues) (
   pub run : RunMeets residues words starts seeds before ran
   pub solves : (sheet : Sheet) → Runnable residues words starts seeds before sheet → AuditSolves sheet starts seeds ran
 
--- ---- demand 3: "For every accepted sheet, any start values and seeds, stacks of the sizes 01 computes"
+-- ---- demand 3: "For every accepted sheet, any start values and seeds, stacks of the sizes 01 computes". It speaks of the states of the row
+-- machine, whose steps are the single rows' written meanings.
 
 -- a body with no "if" in it
 unfoldable pub WithoutIf : Tree Assignment Test → Type 0
@@ -141,13 +144,13 @@ module _ (A : Arithmetic) (sheet : Sheet) (starts seeds : List (A .Carrier)) (va
   abbrev pub afterSteps : ℕ → Step A
   afterSteps n = stateAfter A n setting lines (startOf A sheet starts)
 
-  -- "the run never gets stuck"; the stacks never hold more than S and T
+  -- "the run never gets stuck"; S and T: "the height never exceeds them"
   pub record NeverStuck : Type 0 where
     pub unstuck : (n : ℕ) → afterSteps n ≡ sticks → ⊥
     pub valuesWithin : (n : ℕ) (s : State A) → afterSteps n ≡ goesOn s → length (s .memory .values) ≤ valuesNeeded (marked sheet)
     pub turnsWithin : (n : ℕ) (s : State A) → afterSteps n ≡ goesOn s → length (s .memory .turns) ≤ turnsNeeded (marked sheet)
 
-  -- At row 17, where nothing has been taken back yet: "only recorded values and turns are saved", in order; without "if" as many as S.
+  -- At row 17, where nothing has been taken back yet: "only recorded values and turns are saved", in order; the height "without "if" reaches S".
   pub record SavedAtTurning (progress : Progress A) : Type 0 where
     pub steps : ℕ
     pub state : State A

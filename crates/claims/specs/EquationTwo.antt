@@ -86,3 +86,9 @@ startsAt roles seeds trace (valueNo x n) = cond (isDependent (getD roles x 0) &&
 unfoldable pub EquationTwo : (roles seeds : List ℕ) → Trace → (bar : Instance → ℕ) → Type 0
 unfolding residue startsAt allTerms nodesOf
 EquationTwo roles seeds trace bar = (i : Instance) → bar i ≡ residue (startsAt roles seeds trace i + allTerms i bar (nodesOf trace))
+
+-- there is one such assignment of adjoints, and no other
+pub record Solvable (roles seeds : List ℕ) (trace : Trace) : Type 0 where
+  pub bar : Instance → ℕ
+  pub solves : EquationTwo roles seeds trace bar
+  pub only : (other : Instance → ℕ) → EquationTwo roles seeds trace other → (i : Instance) → other i ≡ bar i

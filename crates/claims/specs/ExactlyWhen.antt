@@ -77,8 +77,8 @@ pub data Opening : Type 0 where
   secondBranch : Opening
   repeatBody : Opening
 
--- Which lines may stand where, and what is open after them, nearest first: "else" splits an "if" that is not split yet, "end if" closes one
--- that is, "end repeat" closes a repeat, and "blocks nest at most 8 deep".
+-- "Every "if" has one "else" and one "end if"; blocks nest at most 8 deep.": which lines may stand where, and what is open after them, nearest
+-- first. "else" splits an "if" that is not split yet, "end if" closes one that is, "end repeat" closes a repeat.
 pub data Takes : SheetLine → (before after : List Opening) → Type 0 where
   assigns : {b : Assignment} {outer : List Opening} → Takes (basic b) outer outer
   opensIf : {f : Test} {outer : List Opening} → length outer < limit .depth → Takes (ifLine f) outer (firstBranch ∷ outer)
@@ -185,18 +185,22 @@ module _ (words : List ℕ) where
     -- 2 | words left after the rows | first such word
     wordsAfterRows : AllClosed → afterRows < length words → ReadingRefuses (wordsLeft afterRows)
     -- 3 | V, K or N beyond its range | the count
-    countOutOfRange : (section : Section) → Reached section → CountThere section → ¬ CountInRange section → ReadingRefuses (countBeyond (countPlace section))
+    countOutOfRange : (section : Section) → Reached section → CountThere section → ¬ CountInRange section
+        → ReadingRefuses (countBeyond (countPlace section))
     -- 4 | role above 3 | the word
     roleTooGreat : (i : ℕ) → InOrder variables → First RoleAbove i → ReadingRefuses (roleAbove (1 + i))
     -- 5 | kind not 1 to 11, absent variable or constant, repeat count not 1 to 1000, unused word not 0 | the row's first word
     rowSaysNothing : (i : ℕ) (before : List Opening) → RowsReached → i < rowCount → OpenAfter i before → ((line : SheetLine) → ¬ RowSays i line)
         → ReadingRefuses (badRow (rowPlace i))
     -- 6 | a block closed or split wrongly, never closed, or a ninth level opened | that row's first word; never closed: the index after the rows
+    -- "At a row 5 comes before 6."
     blockWrong : (i : ℕ) (before : List Opening) (line : SheetLine) → RowsReached → i < rowCount → OpenAfter i before → RowSays i line
         → ((after : List Opening) → ¬ Takes line before after) → ReadingRefuses (badBlock (rowPlace i))
-    neverClosed : (opening : Opening) (outer : List Opening) → RowsReached → OpenAfter rowCount (opening ∷ outer) → ReadingRefuses (badBlock afterRows)
+    neverClosed : (opening : Opening) (outer : List Opening) → RowsReached → OpenAfter rowCount (opening ∷ outer)
+        → ReadingRefuses (badBlock afterRows)
     -- 7 | W above 4,096 | 0
-    runTooLong : (body : Tree Assignment Test) → NothingLeft → treeRows body ≡ sheetRows → limit .longestRun < longestRun body → ReadingRefuses tooLong
+    runTooLong : (body : Tree Assignment Test) → NothingLeft → treeRows body ≡ sheetRows → limit .longestRun < longestRun body
+        → ReadingRefuses tooLong
 
   -- what is read where none of these is given
   pub record Read (sheet : Sheet) : Type 0 where
@@ -233,7 +237,7 @@ module _ (words : List ℕ) (buffer : List ℕ) where
 
 -- ---- a run
 
--- "a start value or seed not finite": a start value by its index, a seed by its index "from V"
+-- "a start value or seed not finite": a start value by its index, a seed by its index "from V"; "all must be finite", at dependents or not
 abbrev pub NotFinite : (A : Arithmetic) → (starts seeds : List (A .Carrier)) → ℕ → Type 0
 NotFinite A starts seeds i = (i < length (starts ++ seeds)) × (A .admits (getD (starts ++ seeds) i (A .zero)) ≡ false)
 

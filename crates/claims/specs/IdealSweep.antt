@@ -17,7 +17,8 @@ use Rattle.claims.specs.Execution.{Executed, Progress, execution}
 
 module _ (A : Arithmetic) where
   -- an assignment's derivative rows on these originals and these adjoints, t and u: what the latter then are
-  unfoldable pub derivedBy : Setting A → Assignment → RowNumber → Activity → (originals adjoints : List (A .Carrier)) → Attempt (Stop A) (List (A .Carrier))
+  unfoldable pub derivedBy : Setting A → Assignment → RowNumber → Activity → (originals adjoints : List (A .Carrier))
+      → Attempt (Stop A) (List (A .Carrier))
   unfolding tableRun derivativeRows
   derivedBy setting (d ≔ source) row known originals adjoints = do
     after ← tableRun A setting (derivativeRows (setting .variables) (known .active) d source row known done)

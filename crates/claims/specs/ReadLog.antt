@@ -13,14 +13,13 @@ use Rattle.claims.specs.Execution.{Executed}
 use Rattle.claims.specs.IdealSweep.{derivedBy}
 
 module _ (A : Arithmetic) where
-  -- each executed assignment, the latest first, by its derivative rows on the values just before it
-
   unfoldable pub derivedLog : Setting A → Assignment → RowNumber → Activity → (originals adjoints : List (A .Carrier)) → List (Entry A)
   unfolding tableLog derivativeRows
   derivedLog setting (d ≔ source) row known originals adjoints =
       tableLog A setting (derivativeRows (setting .variables) (known .active) d source row known done)
       (record { store = originals ++ adjoints; values = []; turns = []; copied = [] })
 
+  -- each executed assignment, the latest first, by its derivative rows on the values just before it
   unfoldable pub sweptLog : Setting A → (ℕ → Assignment → Activity) → List (Executed A) → List (A .Carrier) → List (Entry A)
   unfolding derivedLog derivedBy
   sweptLog setting known [] adjoints = []

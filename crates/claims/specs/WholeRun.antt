@@ -24,7 +24,8 @@ module _ (A : Arithmetic) where
   unfoldable pub runSaving : (RowNumber → Bool) → Sheet → (starts seeds : List (A .Carrier)) → (valueRoom turnRoom : ℕ) → Ending A
   unfolding marked alsoSaving adjointTable settingOf startOf runOf
   runSaving choice sheet starts seeds valueRoom turnRoom =
-      runOf A (adjointTable (variablesOf sheet) (alsoSaving choice (marked sheet))) (settingOf A sheet seeds valueRoom turnRoom) (startOf A sheet starts)
+      runOf A (adjointTable (variablesOf sheet) (alsoSaving choice (marked sheet))) (settingOf A sheet seeds valueRoom turnRoom)
+      (startOf A sheet starts)
 
   -- at least the sizes that 01 computes, every saved row counted
   pub record Room (choice : RowNumber → Bool) (sheet : Sheet) (valueRoom turnRoom : ℕ) : Type 0 where
@@ -67,7 +68,8 @@ module _ (A : Arithmetic) where
       })
   AnswersAs sheet lent stuck ran = ⊥
 
-  -- two runs that give the same values and the same adjoints, or stop at the same sheet row and operation for the same reason
+  -- Two runs that give the same values and the same adjoints, or stop: "A stop is compared by the sheet row and the operation it comes from",
+  -- which are its origin.
   pub data SameOutcome (variables : ℕ) (one other : Ending A) : Type 0 where
     bothEnd : (first second : Memory A) → one ≡ finished first → other ≡ finished second → first .copied ≡ second .copied
         → drop variables (first .store) ≡ drop variables (second .store) → SameOutcome variables one other

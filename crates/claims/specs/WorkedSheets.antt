@@ -1,4 +1,5 @@
--- "Sheets worked by hand": the starred ones as one table, what 01 states of each, and what the definitions find.
+-- "Sheets worked by hand": the starred ones as one table, what is stated of each, and what the definitions find. Where 01 leaves out one of
+-- W, R, S and T, it is the one that its rules give.
 use Prim.Native.Nat.{ℕ}
 use mathlib.Core.Bool.{Bool, true, false}
 use mathlib.Core.List.{List, [], _∷_, _++_, map}
@@ -189,10 +190,10 @@ recordedRows (one m k) = alsoThis (m .saved) (recordedRows k)
 recordedRows (fork f a b k) = recordedRows a ++ recordedRows b ++ recordedRows k
 recordedRows (again n a k) = recordedRows a ++ recordedRows k
 
-unfoldable pub recordedIn : Answer Sheet → List ℕ
+unfoldable pub recordedFound : Answer Sheet → List ℕ
 unfolding marked recordedRows
-recordedIn (refused r) = []
-recordedIn (given sheet) = recordedRows (marked sheet)
+recordedFound (refused r) = []
+recordedFound (given sheet) = recordedRows (marked sheet)
 
 unfoldable pub runFound : (A : Arithmetic) → List ℕ → Sizes → Trial → Run A
 unfolding run
@@ -207,11 +208,11 @@ runFound A words sizes trial =
     }
 
 unfoldable pub found : Worked → Findings
-unfolding check read recordedIn write runFound
+unfolding check read recordedFound write runFound
 found w =
     record {
       check = check (w .words);
-      recorded = recordedIn (read (w .words));
+      recorded = recordedFound (read (w .words));
       table = map (λ words. write (w .words) (replicate (length words) 7)) (w .table);
       doubleRuns = map (runFound doubles (w .words) (w .sizes)) (w .trials);
       auditRuns = map (runFound residues (w .words) (w .sizes)) (w .trials ++ w .audits);
