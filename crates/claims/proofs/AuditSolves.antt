@@ -18,7 +18,7 @@ use Rattle.run.specs.Attempts.{through}
 use Rattle.run.specs.Actions.{Setting, seeded}
 use Rattle.run.specs.Calls.{Lent, Ran, settingOf, independentAdjoints, lentAfter, run}
 use Rattle.claims.specs.ExactlyWhen.{Runnable}
-use Rattle.claims.specs.Execution.{Progress, execution}
+use Rattle.claims.specs.Execution.{Progress, beginning, execution}
 use Rattle.claims.specs.IdealSweep.{swept, Ideal, ideal}
 use Rattle.claims.specs.EquationTwo.{Instance, valueNo, EquationTwo}
 use Rattle.claims.specs.WholeRun.{AnswersAs}
@@ -80,7 +80,7 @@ module _ (words starts seeds : List ℕ) (lent : Lent residues) (sheet : Sheet) 
   unfolding execution
   keeps progress e =
       runs-keep residues (sheet .constants)
-      (runs residues (sheet .constants) (sheet .body) 0 (record { store = starts; trace = []; turns = [] }) progress e)
+      (runs residues (sheet .constants) (sheet .body) 0 (beginning residues starts) progress e)
       ∙ ready .lengths .startValues
 
   from-answer : (i : Ideal residues) → ideal residues sheet setting starts ≡ through i → AnswersAs residues sheet lent (through i) answer

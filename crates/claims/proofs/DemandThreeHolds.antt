@@ -1,7 +1,7 @@
 -- Demand 3, of every accepted sheet, over any arithmetic.
 use Prim.Native.Nat.{ℕ, _+_, _≤_}
 use mathlib.Core.Path.{_≡_, refl, sym, ap, subst, _∙_}
-use mathlib.Core.List.{List, [], _++_, map}
+use mathlib.Core.List.{List, []}
 use lib.ListN.{length, replicate}
 use lib.Seq.{take-at}
 use native.Mathlib.Omega.{arith}
@@ -9,33 +9,25 @@ use Rattle.number.specs.Arithmetic.{Arithmetic}
 use Rattle.sheet.specs.Tree.{done, one, rows, flat}
 use Rattle.sheet.specs.Refusals.{given}
 use Rattle.sheet.specs.Reading.{Sheet, variablesOf, read}
-use Rattle.sheet.proofs.NamesPresent.{names-present}
-use Rattle.sets.specs.Equations.{setAt}
-use Rattle.sets.specs.Marks.{required, markBy, marked}
-use Rattle.table.specs.TableRows.{Table, ofTurningRound, turnRound, turnWord, linesOf}
+use Rattle.sets.specs.Marks.{markBy, marked}
+use Rattle.table.specs.TableRows.{Table, ofTurningRound, turnRound, linesOf}
 use Rattle.table.specs.Adjoint.{Body, forwardPart, backwardPart, adjointTable, tableOf}
 use Rattle.table.specs.Sizes.{valuesNeeded, turnsNeeded}
 use Rattle.run.specs.Attempts.{Attempt, through, _>>=_}
-use Rattle.run.specs.Actions.{Memory, Setting, acted}
+use Rattle.run.specs.Actions.{Memory, Setting}
 use Rattle.run.specs.Machine.{State, goesOn, gotStuck}
 use Rattle.run.specs.Calls.{settingOf, startOf, runOf}
 use Rattle.run.specs.InTheLarge.{tableRun}
 use Rattle.run.specs.RowReads.{tableLog, onThrough}
 use Rattle.run.proofs.MachineFollows.{atRow, past-tree, goes-through}
-use Rattle.claims.specs.Execution.{Progress, execution}
+use Rattle.claims.specs.Execution.{Progress, beginning, execution}
 use Rattle.claims.specs.IdealSweep.{ideal}
 use Rattle.claims.specs.SavedRows.{savedValues, recordedIn}
 use Rattle.claims.specs.WholeRun.{Matches}
 use Rattle.claims.specs.Demands.{lines, afterSteps, NeverStuck, SavedAtTurning, ReplaysInReverse, DemandThree}
-use Rattle.claims.proofs.Runs.{Runs, runs}
-use Rattle.claims.proofs.RunsKeepSizes.{runs-keep}
-use Rattle.claims.proofs.Forward.{body}
-use Rattle.claims.proofs.ForwardLog.{forward-notes-nothing}
-use Rattle.claims.proofs.Replay.{backward-notes}
 use Rattle.claims.proofs.MachineLogs.{table-log}
 use Rattle.claims.proofs.Heights.{Within, table-never-sticks, table-heights}
-use Rattle.claims.proofs.RowSeventeen.{firstAdjoints, first-size, turns-round}
-use Rattle.claims.proofs.RunInTheLarge.{knownIn, marksOf, memoryAt, enough, forward-part, turning, required-holds}
+use Rattle.claims.proofs.RunInTheLarge.{knownIn, marksOf, turningOf, memoryAt, Prepared, forward-part, forward-notes, ran, keeps-size, turning-notes}
 use Rattle.claims.proofs.WholeRunMatches.{own-run-matches}
 use Rattle.claims.proofs.RunsAnswer.{unstuck-run}
 use Rattle.claims.proofs.AtTurningRound.{forward-lines, saved-exactly}
@@ -79,98 +71,76 @@ module _ (A : Arithmetic) (words : List ℕ) (sheet : Sheet) (accepted : read wo
           table-heights A (tableOf sheet) (settingIn S T) (startOf A sheet starts .memory) (unstuck S T (omega arith) (omega arith))
           (record { valuesFit = omega arith; turnsFit = omega arith }) valueRoom turnRoom values turns k s e
 
-  -- ---- the execution in the forward part
+  -- ---- an execution that goes through
 
   module _ (valueRoom turnRoom : ℕ) (values : valuesNeeded (marked sheet) ≤ valueRoom) (turns : turnsNeeded (marked sheet) ≤ turnRoom)
       (e : Progress A) (executes : execution A sheet starts ≡ through e) where
     abbrev setting : Setting A
     setting = settingIn valueRoom turnRoom
 
-    -- no row is saved but the recorded ones
-    is-marked : marked sheet ≡ marksOf sheet (recordedIn sheet)
-    unfolding marked markBy
-    is-marked = refl
-
-    saves : valuesNeeded (marksOf sheet (recordedIn sheet)) ≤ valueRoom
-    saves = subst (λ t. valuesNeeded t ≤ valueRoom) is-marked values
-
-    takes : turnsNeeded (marksOf sheet (recordedIn sheet)) ≤ turnRoom
-    takes = subst (λ t. turnsNeeded t ≤ turnRoom) is-marked turns
-
     abbrev marks : Body
     marks = marksOf sheet (recordedIn sheet)
 
-    abbrev memoryNow : Progress A → Memory A
-    memoryNow now = memoryAt A words sheet accepted (recordedIn sheet) (λ p b h. h) starts seeds n valueRoom turnRoom saves takes now
+    abbrev turning : Table
+    turning = turningOf sheet (recordedIn sheet)
 
-    abbrev start₀ : Progress A
-    start₀ = record { store = starts; trace = []; turns = [] }
+    abbrev memory : Progress A → Memory A
+    memory = memoryAt A sheet (recordedIn sheet)
 
-    abbrev turning₀ : Table
-    turning₀ = turning A words sheet accepted (recordedIn sheet) (λ p b h. h) starts seeds n valueRoom turnRoom saves takes
+    -- no row is saved but the recorded ones
+    is-marked : marked sheet ≡ marks
+    unfolding marked markBy
+    is-marked = refl
 
-    run : Runs A (sheet .constants) (sheet .body) 0 start₀ e
-    unfolding execution
-    run = runs A (sheet .constants) (sheet .body) 0 start₀ e executes
+    prepared : Prepared A words sheet (recordedIn sheet) starts valueRoom turnRoom
+    prepared =
+        record {
+          accepted = accepted;
+          covers = λ p b recorded. recorded;
+          started = n;
+          values = subst (λ t. valuesNeeded t ≤ valueRoom) is-marked values;
+          turns = subst (λ t. turnsNeeded t ≤ turnRoom) is-marked turns;
+        }
 
-    size : length (e .store) ≡ v
-    size = runs-keep A (sheet .constants) run ∙ n
-
-    forward-goes : tableRun A setting (forwardPart marks done) (memoryNow start₀) ≡ through (memoryNow e)
+    forward-goes : tableRun A setting (forwardPart marks done) (memory (beginning A starts)) ≡ through (memory e)
     unfolding tableRun
-    forward-goes =
-        forward-part A words sheet accepted (recordedIn sheet) (λ p b h. h) starts seeds n valueRoom turnRoom saves takes done
-        ∙ ap (λ (x : Attempt _ _). x >>= λ m. through (memoryNow m)) executes
+    forward-goes = forward-part A seeds prepared done ∙ ap (λ (x : Attempt _ _). x >>= λ m. through (memory m)) executes
 
-    table-lines : lines A sheet starts seeds valueRoom turnRoom ≡ flat (forwardPart marks done) (flat turning₀ [])
-    unfolding linesOf tableOf adjointTable
-    table-lines = ap (λ t. flat (forwardPart t (one (record { origin = ofTurningRound; action = turnRound }) (backwardPart v t done))) []) is-marked ∙ forward-lines marks turning₀ []
+    table-is : tableOf sheet ≡ forwardPart marks turning
+    unfolding tableOf adjointTable
+    table-is = ap (λ t. forwardPart t (one (record { origin = ofTurningRound; action = turnRound }) (backwardPart v t done))) is-marked
+
+    table-lines : lines A sheet starts seeds valueRoom turnRoom ≡ flat (forwardPart marks done) (flat turning [])
+    unfolding linesOf
+    table-lines = ap (λ t. flat t []) table-is ∙ forward-lines marks turning []
 
     saved-at-turning : SavedAtTurning A sheet starts seeds valueRoom turnRoom e
     unfolding startOf savedValues flat
     saved-at-turning =
-        let there = goes-through A setting (lines A sheet starts seeds valueRoom turnRoom) (forwardPart marks done) 0 (flat turning₀ []) []
-        (memoryNow start₀) (memoryNow e) table-lines forward-goes in
+        let there = goes-through A setting (lines A sheet starts seeds valueRoom turnRoom) (forwardPart marks done) 0 (flat turning []) []
+        (memory (beginning A starts)) (memory e) table-lines forward-goes in
         record {
           steps = there .0;
-          state = atRow A (0 + rows (forwardPart marks done)) [] (memoryNow e);
+          state = atRow A (0 + rows (forwardPart marks done)) [] (memory e);
           reached = there .2;
           rest = flat (backwardPart v marks done) [];
-          there = past-tree (lines A sheet starts seeds valueRoom turnRoom) 0 (forwardPart marks done) (flat turning₀ []) table-lines;
-          originals = take-at (e .store) (replicate (v + 2) (A .zero)) v size;
+          there = past-tree (lines A sheet starts seeds valueRoom turnRoom) 0 (forwardPart marks done) (flat turning []) table-lines;
+          originals = take-at (e .store) (replicate (v + 2) (A .zero)) v (keeps-size A seeds prepared e executes);
           values = refl;
           turns = refl;
-          full = λ none. saved-exactly (knownIn sheet) (recordedIn sheet) A (sheet .constants) run none ∙ ap (λ t. 0 + valuesNeeded t) (sym is-marked) ∙ omega arith;
+          full = λ none.
+              saved-exactly (knownIn sheet) (recordedIn sheet) A (sheet .constants) (ran A seeds prepared e executes) none
+              ∙ ap (λ t. 0 + valuesNeeded t) (sym is-marked) ∙ omega arith;
         }
 
-    -- ---- the derivative rows executed, and what they read
-
-    forward-notes : tableLog A setting (forwardPart marks turning₀) (memoryNow start₀) ≡ tableLog A setting turning₀ (memoryNow e)
-    unfolding settingOf execution
-    forward-notes =
-        forward-notes-nothing A setting (knownIn sheet) (recordedIn sheet) (length (sheet .constants)) (replicate (v + 2) (A .zero)) [] (sheet .body) 0 start₀ turning₀ (names-present words sheet accepted) n
-        (enough A words sheet accepted (recordedIn sheet) (λ p b h. h) starts seeds n valueRoom turnRoom saves takes)
-        ∙ ap (λ (x : Attempt _ _). onThrough A x (λ m. tableLog A setting turning₀ (memoryNow m))) executes
-
-    turning-notes : tableLog A setting turning₀ (memoryNow e)
-        ≡ tableLog A setting (backwardPart v marks done)
-        (record {
-          store = e .store ++ firstAdjoints A (sheet .roles) seeds;
-          values = savedValues A (recordedIn sheet) (e .trace);
-          turns = map turnWord (e .turns);
-          copied = e .store;
-        })
-    unfolding tableLog acted settingOf
-    turning-notes = ap (tableLog A setting (backwardPart v marks done)) (turns-round A setting (e .store) _ _ size)
-
+    -- the derivative rows executed, and what they read
     replays-in-reverse : ReplaysInReverse A sheet starts seeds valueRoom turnRoom e
-    unfolding startOf savedValues settingOf tableOf adjointTable
+    unfolding startOf savedValues settingOf
     replays-in-reverse k h =
         table-log A setting (tableOf sheet) (startOf A sheet starts .memory) k h
-        ∙ ap (λ t. tableLog A setting (forwardPart t (one (record { origin = ofTurningRound; action = turnRound }) (backwardPart v t done))) (memoryNow start₀)) is-marked
-        ∙ forward-notes ∙ turning-notes
-        ∙ backward-notes (knownIn sheet) (recordedIn sheet) (setAt (required sheet)) A setting (length (sheet .constants)) (e .store) (λ p b recorded. recorded) run
-        (names-present words sheet accepted) n [] (required-holds A words sheet accepted (recordedIn sheet) (λ p b h. h) starts seeds n valueRoom turnRoom saves takes) (firstAdjoints A (sheet .roles) seeds) (first-size A (sheet .roles) seeds)
+        ∙ ap (λ t. tableLog A setting t (memory (beginning A starts))) table-is ∙ forward-notes A seeds prepared turning
+        ∙ ap (λ (x : Attempt _ _). onThrough A x (λ m. tableLog A setting turning (memory m))) executes
+        ∙ turning-notes A seeds prepared e executes
 
   pub demand-three : (valueRoom turnRoom : ℕ) → valuesNeeded (marked sheet) ≤ valueRoom → turnsNeeded (marked sheet) ≤ turnRoom
       → DemandThree A sheet starts seeds valueRoom turnRoom

@@ -24,7 +24,7 @@ use Rattle.run.specs.Attempts.{Attempt, through}
 use Rattle.run.specs.Actions.{Setting, seeded}
 use Rattle.run.specs.Calls.{settingOf}
 use Rattle.run.specs.InTheLarge.{Stop}
-use Rattle.claims.specs.Execution.{Executed, Progress, performed, execution, executed}
+use Rattle.claims.specs.Execution.{Executed, Progress, performed, beginning, execution, executed}
 use Rattle.claims.specs.IdealSweep.{swept, Ideal, ideal}
 use Rattle.claims.specs.EquationTwo.{Instance, valueNo, Trace, EquationTwo}
 use Rattle.run.proofs.AttemptLaws.{same-through, went}
@@ -282,7 +282,7 @@ module _ (sheet : Sheet) (starts seeds : List ℕ) (valueRoom turnRoom : ℕ) (s
       let end = rows body in
       let variedAlong = forward-along (λ p. variedAfter) (setAt variedSets) body 0 [] (sound .varies .1) .0 in
       let usefulAlong = backward-along (λ p. usefulBefore) (setAt usefulSets) body 0 [] (sound .uses .1) .0 in
-      let executed = runs residues (sheet .constants) body 0 (record { store = starts; trace = []; turns = [] }) progress executes in
+      let executed = runs residues (sheet .constants) body 0 (beginning residues starts) progress executes in
       let seeds-there : Agrees (setAt variedSets end) (setAt usefulSets end) (variablesOf sheet) full lean =
       subst (λ s. Agrees (setAt variedSets end) s (variablesOf sheet) full lean) (sym (sound .uses .0))
       (seeds-agree (setAt variedSets end) (sheet .roles) seeds (given .below)) in

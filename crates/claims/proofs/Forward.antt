@@ -39,6 +39,11 @@ in-turn part stuck memory rest next after e h = rw e refl
 
 -- ---- the marks of a choice of saved rows
 
+-- the machine's memory: these originals, what stands behind them, and what an execution has saved so far
+abbrev pub memoryWith : (A : Arithmetic) → (saved : ℕ → Assignment → Bool) → (originals beyond copied : List (A .Carrier)) → Progress A → Memory A
+memoryWith A saved originals beyond copied now =
+    record { store = originals ++ beyond; values = savedValues A saved (now .trace); turns = map turnWord (now .turns); copied = copied }
+
 module _ (known : ℕ → Assignment → Activity) (saved : ℕ → Assignment → Bool) where
   abbrev pub marking : ℕ → Assignment → Marked
   marking p b = record { row = record { index = p }; assignment = b; known = known p b; saved = saved p b }
@@ -47,10 +52,6 @@ module _ (known : ℕ → Assignment → Activity) (saved : ℕ → Assignment �
   body t p = numbered marking t p
 
   module _ (A : Arithmetic) where
-    -- what the machine's memory is once the forward part has come so far
-    abbrev pub memoryOf : (rest copied : List (A .Carrier)) → Progress A → Memory A
-    memoryOf rest copied now = record { store = now .store ++ rest; values = savedValues A saved (now .trace); turns = map turnWord (now .turns); copied = copied }
-
     -- ---- an execution keeps the store's size, and saves no more than is counted
 
     module _ (constants : List ℕ) where
@@ -107,8 +108,9 @@ module _ (known : ℕ → Assignment → Activity) (saved : ℕ → Assignment �
     -- ---- the forward part
 
     module _ (setting : Setting A) (k : ℕ) (tail copied : List (A .Carrier)) where
+      -- where the forward part has come so far
       abbrev memory : Progress A → Memory A
-      memory now = memoryOf tail copied now
+      memory now = memoryWith A saved (now .store) tail copied now
 
       -- room on both stacks for what is still to come
       abbrev Room : Progress A → (values turns : ℕ) → Type 0

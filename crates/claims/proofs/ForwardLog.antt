@@ -18,7 +18,7 @@ use Rattle.run.specs.InTheLarge.{Stop, from, chosen, tableRun}
 use Rattle.run.specs.RowReads.{Entry, isDerivative, notedBy, onThrough, chosenLog, tableLog}
 use Rattle.claims.specs.Execution.{Progress, executed}
 use Rattle.claims.specs.SavedRows.{savedValues}
-use Rattle.claims.proofs.Forward.{body, memoryOf, forward-executes}
+use Rattle.claims.proofs.Forward.{body, memoryWith, forward-executes}
 
 module _ (A : Arithmetic) where
   -- where what is noted first is nothing, and what follows is noted at its end only
@@ -95,14 +95,17 @@ module _ (A : Arithmetic) where
         repeat-silent n _ (forwardPart k) (silent-before (forwardPart a) (forward-silent a) done done-silent) (forward-silent k)
 
     module _ (known : ℕ → Assignment → Activity) (saved : ℕ → Assignment → Bool) (k : ℕ) (tail copied : List (A .Carrier)) where
+      abbrev memory : Progress A → Memory A
+      memory now = memoryWith A saved (now .store) tail copied now
+
       pub forward-notes-nothing : (t : Tree Assignment Test) (p : ℕ) (now : Progress A) (rest : Table) → Present (setting .variables) k t
           → length (now .store) ≡ setting .variables
           → (length (savedValues A saved (now .trace)) + valuesNeeded (body known saved t p) ≤ setting .valueRoom)
           × (length (now .turns) + turnsNeeded (body known saved t p) ≤ setting .turnRoom)
-          → tableLog A setting (forwardPart (body known saved t p) rest) (memoryOf known saved A tail copied now)
-          ≡ onThrough A (executed A (setting .constants) t p now) (λ m. tableLog A setting rest (memoryOf known saved A tail copied m))
+          → tableLog A setting (forwardPart (body known saved t p) rest) (memory now)
+          ≡ onThrough A (executed A (setting .constants) t p now) (λ m. tableLog A setting rest (memory m))
       unfolding tableRun
       forward-notes-nothing t p now rest named n room =
-          forward-silent (body known saved t p) rest (memoryOf known saved A tail copied now)
+          forward-silent (body known saved t p) rest (memory now)
           ∙ ap (λ y. onThrough A y (tableLog A setting rest)) (forward-executes known saved A setting k tail copied t p now done named n room)
           ∙ sym (in-turn-silent (executed A (setting .constants) t p now) _ [] _ _ refl (λ m. refl))

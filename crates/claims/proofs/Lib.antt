@@ -22,6 +22,8 @@ pub mod Originals
 pub mod ExecutionReady
 pub mod Forward
 pub mod ForwardLog
+pub mod Undoing
+pub mod BackwardRest
 pub mod Replay
 pub mod MachineLogs
 pub mod Heights

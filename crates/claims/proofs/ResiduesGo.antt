@@ -7,7 +7,7 @@ use Rattle.number.specs.Residues.{residues}
 use Rattle.sheet.specs.Names.{Present}
 use Rattle.sheet.specs.Reading.{Sheet, variablesOf}
 use Rattle.run.specs.Attempts.{through}
-use Rattle.claims.specs.Execution.{Progress, execution}
+use Rattle.claims.specs.Execution.{Progress, beginning, execution}
 use Rattle.run.proofs.AttemptLaws.{Ready, gives, stops}
 use Rattle.claims.proofs.ExecutionReady.{executed-ready}
 
@@ -16,7 +16,7 @@ pub execution-goes : (sheet : Sheet) (starts : List ℕ) → length starts ≡ v
     → (progress : Progress residues) × (execution residues sheet starts ≡ through progress)
 unfolding execution
 execution-goes sheet starts n named =
-    by-end (executed-ready residues (sheet .constants) (variablesOf sheet) (sheet .body) 0 (record { store = starts; trace = []; turns = [] }) n named)
+    by-end (executed-ready residues (sheet .constants) (variablesOf sheet) (sheet .body) 0 (beginning residues starts) n named)
   where
     by-end : Ready (execution residues sheet starts) → (progress : Progress residues) × (execution residues sheet starts ≡ through progress)
     by-end (gives progress e) = (progress, e)

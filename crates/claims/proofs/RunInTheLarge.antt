@@ -2,8 +2,8 @@
 -- round, the backward part sweeps back; the whole matches the ideal.
 use Prim.Native.Nat.{ℕ, zero, _+_, _≤_}
 use mathlib.Core.Path.{_≡_, refl, sym, ap, subst, _∙_}
-use mathlib.Core.Bool.{Bool, true}
-use mathlib.Core.List.{List, [], _++_, map}
+use mathlib.Core.Bool.{Bool}
+use mathlib.Core.List.{List, [], _++_}
 use lib.ListN.{length, replicate}
 use lib.Seq.{drop-at}
 use native.Mathlib.Omega.{arith}
@@ -11,30 +11,37 @@ use Rattle.number.specs.Arithmetic.{Arithmetic}
 use Rattle.sheet.specs.Tree.{Tree, done, one}
 use Rattle.sheet.specs.Refusals.{given}
 use Rattle.sheet.specs.Rows.{Assignment}
+use Rattle.sheet.specs.Names.{Present}
 use Rattle.sheet.specs.Reading.{Sheet, variablesOf, read}
 use Rattle.sheet.proofs.NamesPresent.{names-present}
-use Rattle.sets.specs.Equations.{setAt, Satisfy, forward}
+use Rattle.sets.specs.Equations.{setAt, Satisfy}
 use Rattle.sets.specs.Transfers.{Activity, requiredAfter}
 use Rattle.sets.specs.Marks.{Marked, MarkedTest, varied, useful, required, activityAt, requiredEquations}
+use Rattle.sets.proofs.EquationsAlong.{forward-along}
 use Rattle.sets.proofs.SetsLeast.{required-least}
-use Rattle.table.specs.TableRows.{Table, turnWord, turnRound, ofTurningRound}
+use Rattle.table.specs.TableRows.{Table, turnRound, ofTurningRound}
 use Rattle.table.specs.Adjoint.{forwardPart, backwardPart, adjointTable}
 use Rattle.table.specs.Sizes.{valuesNeeded, turnsNeeded}
 use Rattle.run.specs.Attempts.{Attempt, through, halted, _>>=_}
 use Rattle.run.specs.Actions.{Memory, Setting, acted}
 use Rattle.run.specs.Calls.{settingOf, startOf, runOf}
 use Rattle.run.specs.InTheLarge.{Stop, tableRun}
-use Rattle.run.proofs.MachineFollows.{EndsAs, run-follows}
-use Rattle.claims.specs.Execution.{Progress, execution}
-use Rattle.claims.specs.IdealSweep.{swept, Ideal, ideal}
-use Rattle.claims.specs.SavedRows.{savedValues, recordedIn}
-use Rattle.claims.specs.WholeRun.{Matches}
+use Rattle.run.specs.RowReads.{tableLog, onThrough}
 use Rattle.run.proofs.AttemptLaws.{Ready, gives, stops}
+use Rattle.run.proofs.MachineFollows.{EndsAs, run-follows}
+use Rattle.claims.specs.Execution.{Progress, beginning, execution}
+use Rattle.claims.specs.IdealSweep.{swept, Ideal, ideal}
+use Rattle.claims.specs.ReadLog.{sweptLog}
+use Rattle.claims.specs.SavedRows.{savedValues}
+use Rattle.claims.specs.WholeRun.{Matches}
 use Rattle.claims.proofs.Runs.{Runs, runs}
 use Rattle.claims.proofs.RunsKeepSizes.{runs-keep}
+use Rattle.claims.proofs.Accounts.{Account, account, sweeping}
 use Rattle.claims.proofs.ExecutionReady.{executed-ready}
-use Rattle.claims.proofs.Forward.{body, memoryOf, forward-executes}
-use Rattle.claims.proofs.Replay.{Replays, replayed, stoppedShort, replays}
+use Rattle.claims.proofs.Forward.{body, memoryWith, forward-executes}
+use Rattle.claims.proofs.ForwardLog.{forward-notes-nothing}
+use Rattle.claims.proofs.Undoing.{Covers}
+use Rattle.claims.proofs.Replay.{Requires, Retraces, retraced, cutShort, retraces}
 use Rattle.claims.proofs.RowSeventeen.{firstAdjoints, first-size, turns-round}
 
 abbrev pub knownIn : Sheet → ℕ → Assignment → Activity
@@ -44,159 +51,164 @@ knownIn sheet = activityAt (varied sheet) (useful sheet)
 abbrev pub marksOf : Sheet → (ℕ → Assignment → Bool) → Tree Marked MarkedTest
 marksOf sheet saved = body (knownIn sheet) saved (sheet .body) 0
 
-module _ (A : Arithmetic) (words : List ℕ) (sheet : Sheet) (accepted : read words ≡ given sheet) (saved : ℕ → Assignment → Bool)
-    (covers : (p : ℕ) (b : Assignment) → recordedIn sheet p b ≡ true → saved p b ≡ true) (starts seeds : List (A .Carrier))
-    (n : length starts ≡ variablesOf sheet) (valueRoom turnRoom : ℕ) (values : valuesNeeded (marksOf sheet saved) ≤ valueRoom)
-    (turns : turnsNeeded (marksOf sheet saved) ≤ turnRoom) where
-  abbrev setting : Setting A
-  setting = settingOf A sheet seeds valueRoom turnRoom
+-- row 17 and the backward part
+abbrev pub turningOf : Sheet → (ℕ → Assignment → Bool) → Table
+turningOf sheet saved = one (record { origin = ofTurningRound; action = turnRound }) (backwardPart (variablesOf sheet) (marksOf sheet saved) done)
 
-  abbrev known : ℕ → Assignment → Activity
-  known = knownIn sheet
+module _ (A : Arithmetic) where
+  -- on the way to row 17 adjoints, t and u are 0, and nothing has been copied
+  abbrev pub memoryAt : Sheet → (ℕ → Assignment → Bool) → Progress A → Memory A
+  memoryAt sheet saved now = memoryWith A saved (now .store) (replicate (variablesOf sheet + 2) (A .zero)) [] now
 
-  abbrev marks : Tree Marked MarkedTest
-  marks = marksOf sheet saved
+  -- what a run of an accepted sheet goes by
+  pub record Prepared (words : List ℕ) (sheet : Sheet) (saved : ℕ → Assignment → Bool) (starts : List (A .Carrier)) (valueRoom turnRoom : ℕ)
+      : Type 0 where
+    pub accepted : read words ≡ given sheet
+    pub covers : Covers (knownIn sheet) saved (setAt (required sheet))
+    pub started : length starts ≡ variablesOf sheet
+    pub values : valuesNeeded (marksOf sheet saved) ≤ valueRoom
+    pub turns : turnsNeeded (marksOf sheet saved) ≤ turnRoom
 
-  abbrev table : Table
-  table = adjointTable (variablesOf sheet) marks
+  module _ {words : List ℕ} {sheet : Sheet} {saved : ℕ → Assignment → Bool} {starts : List (A .Carrier)} {valueRoom turnRoom : ℕ}
+      (seeds : List (A .Carrier)) (is : Prepared words sheet saved starts valueRoom turnRoom) where
+    abbrev setting : Setting A
+    setting = settingOf A sheet seeds valueRoom turnRoom
 
-  abbrev pub start : Progress A
-  start = record { store = starts; trace = []; turns = [] }
+    abbrev memory : Progress A → Memory A
+    memory = memoryAt sheet saved
 
-  abbrev pub turning : Table
-  turning = one (record { origin = ofTurningRound; action = turnRound }) (backwardPart (variablesOf sheet) marks done)
+    abbrev marks : Tree Marked MarkedTest
+    marks = marksOf sheet saved
 
-  abbrev pub memoryAt : Progress A → Memory A
-  memoryAt now = memoryOf known saved A (replicate (variablesOf sheet + 2) (A .zero)) [] now
+    abbrev turning : Table
+    turning = turningOf sheet saved
 
-  -- the stacks hold nothing yet, and there is room for all that is to come
-  pub enough : (length (savedValues A saved []) + valuesNeeded marks ≤ valueRoom) × (length {A = Bool} [] + turnsNeeded marks ≤ turnRoom)
-  unfolding savedValues
-  enough = (omega (arith, values), omega (arith, turns))
+    abbrev adjoints₀ : List (A .Carrier)
+    adjoints₀ = firstAdjoints A (sheet .roles) seeds
 
-  -- the forward part executes the sheet
-  pub forward-part : (rest : Table)
-      → tableRun A setting (forwardPart marks rest) (memoryAt start) ≡ (execution A sheet starts >>= λ e. tableRun A setting rest (memoryAt e))
-  unfolding settingOf execution
-  forward-part rest =
-      forward-executes known saved A setting (length (sheet .constants)) (replicate (variablesOf sheet + 2) (A .zero)) []
-      (sheet .body) 0 start rest (names-present words sheet accepted) n enough
+    present : Present (variablesOf sheet) (length (sheet .constants)) (sheet .body)
+    present = names-present words sheet (is .accepted)
 
-  pub required-holds : Satisfy (forward (λ p b. requiredAfter b (known p b)) (sheet .body) 0 []) (setAt (required sheet))
-  unfolding requiredEquations Satisfy
-  required-holds = required-least words sheet accepted .satisfies .1
+    -- ---- the forward part
 
-  -- from row 17 on
-  data FromTurning (e : Progress A) : Type 0 where
-    endsIn : (originals adjoints : List (A .Carrier)) → length originals ≡ variablesOf sheet
-        → swept A setting known (e .trace) (firstAdjoints A (sheet .roles) seeds) ≡ through adjoints
-        → tableRun A setting turning (memoryAt e) ≡ through (record { store = originals ++ adjoints; values = []; turns = []; copied = e .store })
-        → FromTurning e
-    stopsIn : (stop : Stop A) → swept A setting known (e .trace) (firstAdjoints A (sheet .roles) seeds) ≡ halted stop
-        → tableRun A setting turning (memoryAt e) ≡ halted stop → FromTurning e
+    -- the stacks hold nothing yet, and there is room for all that is to come
+    enough : (length (savedValues A saved []) + valuesNeeded marks ≤ valueRoom) × (length {A = Bool} [] + turnsNeeded marks ≤ turnRoom)
+    unfolding savedValues
+    enough = (omega (arith, is .values), omega (arith, is .turns))
 
-  turning-runs : (e : Progress A) → length (e .store) ≡ variablesOf sheet
-      → tableRun A setting turning (memoryAt e)
-      ≡ tableRun A setting (backwardPart (variablesOf sheet) marks done)
-      (record {
-        store = e .store ++ firstAdjoints A (sheet .roles) seeds;
-        values = savedValues A saved (e .trace);
-        turns = map turnWord (e .turns);
-        copied = e .store;
-      })
-  unfolding tableRun acted settingOf
-  turning-runs e size = ap (tableRun A setting (backwardPart (variablesOf sheet) marks done)) (turns-round A setting (e .store) _ _ size)
+    pub forward-part : (rest : Table)
+        → tableRun A setting (forwardPart marks rest) (memory (beginning A starts)) ≡ (execution A sheet starts >>= λ e. tableRun A setting rest (memory e))
+    unfolding settingOf execution
+    forward-part rest =
+        forward-executes (knownIn sheet) saved A setting (length (sheet .constants)) (replicate (variablesOf sheet + 2) (A .zero)) []
+        (sheet .body) 0 (beginning A starts) rest present (is .started) enough
 
-  nothing-left : (adjoints : List (A .Carrier)) → swept A setting known [] adjoints ≡ through adjoints
-  unfolding swept
-  nothing-left adjoints = refl
+    pub forward-notes : (rest : Table)
+        → tableLog A setting (forwardPart marks rest) (memory (beginning A starts)) ≡ onThrough A (execution A sheet starts) (λ e. tableLog A setting rest (memory e))
+    unfolding settingOf execution
+    forward-notes rest =
+        forward-notes-nothing A setting (knownIn sheet) saved (length (sheet .constants)) (replicate (variablesOf sheet + 2) (A .zero)) []
+        (sheet .body) 0 (beginning A starts) rest present (is .started) enough
 
-  at-the-end : (originals adjoints copied : List (A .Carrier))
-      → tableRun A setting done
-      (record {
-        store = originals ++ adjoints;
-        values = savedValues A saved (start .trace);
-        turns = map turnWord (start .turns);
-        copied = copied;
-      })
-      ≡ through (record { store = originals ++ adjoints; values = []; turns = []; copied = copied })
-  unfolding tableRun savedValues
-  at-the-end originals adjoints copied = refl
+    -- ---- an execution that went through, and the rows from row 17 on
 
-  backward-part : (e : Progress A) → execution A sheet starts ≡ through e → FromTurning e
-  unfolding execution settingOf
-  backward-part e h =
-      after
-      (replays known saved (setAt (required sheet)) A setting (length (sheet .constants)) (e .store) covers
-      run (names-present words sheet accepted) n [] required-holds (e .store) first size (first-size A (sheet .roles) seeds) (λ i m. refl) done)
-    where
-      run : Runs A (sheet .constants) (sheet .body) 0 start e
-      run = runs A (sheet .constants) (sheet .body) 0 start e h
+    module _ (e : Progress A) (executes : execution A sheet starts ≡ through e) where
+      pub ran : Runs A (sheet .constants) (sheet .body) 0 (beginning A starts) e
+      unfolding execution
+      ran = runs A (sheet .constants) (sheet .body) 0 (beginning A starts) e executes
 
-      size : length (e .store) ≡ variablesOf sheet
-      size = runs-keep A (sheet .constants) run ∙ n
+      pub keeps-size : length (e .store) ≡ variablesOf sheet
+      keeps-size = runs-keep A (sheet .constants) ran ∙ is .started
 
-      first : List (A .Carrier)
-      first = firstAdjoints A (sheet .roles) seeds
+      required-holds : Requires (knownIn sheet) saved (setAt (required sheet)) (sheet .body) 0
+      unfolding requiredEquations Satisfy
+      required-holds =
+          forward-along (λ p b. requiredAfter b (knownIn sheet p b)) (setAt (required sheet)) (sheet .body) 0 []
+          (required-least words sheet (is .accepted) .satisfies .1) .0
 
-      after : Replays known saved (setAt (required sheet)) A setting (length (sheet .constants)) (e .store)
-          covers (sheet .body) 0 start e (e .store) first done → FromTurning e
-      after (replayed originals adjoints o z agree sw ran log swept-notes table-notes) = endsIn originals adjoints o (sw ∙ nothing-left adjoints) (turning-runs e size ∙ ran ∙ at-the-end originals adjoints (e .store))
-      after (stoppedShort stop sw ran same-notes) = stopsIn stop sw (turning-runs e size ∙ ran)
+      -- where the backward part begins
+      abbrev turned : Memory A
+      turned = memoryWith A saved (e .store) adjoints₀ (e .store) e
 
-  -- the machine does what the table does in the large
-  machine-follows : (result : Attempt (Stop A) (Memory A)) → tableRun A setting table (memoryAt start) ≡ result
-      → EndsAs A result (runOf A table setting (startOf A sheet starts))
-  unfolding startOf savedValues
-  machine-follows result e = subst (λ r. EndsAs A r (runOf A table setting (startOf A sheet starts))) e (run-follows A table setting (memoryAt start))
+      turning-comes : account A setting turning (memory e) ≡ account A setting (backwardPart (variablesOf sheet) marks done) turned
+      unfolding tableRun tableLog acted settingOf
+      turning-comes =
+          ap (account A setting (backwardPart (variablesOf sheet) marks done)) (turns-round A setting (e .store) _ _ keeps-size)
 
-  ideal-ends : (e : Progress A) (adjoints : List (A .Carrier)) → execution A sheet starts ≡ through e
-      → swept A setting known (e .trace) (firstAdjoints A (sheet .roles) seeds) ≡ through adjoints
-      → ideal A sheet setting starts ≡ through (record { progress = e; adjoints = adjoints })
-  unfolding ideal settingOf
-  ideal-ends e adjoints h sw = rw (h, sw) refl
+      abbrev Back : Type 0
+      Back =
+          Retraces (knownIn sheet) saved (setAt (required sheet)) A setting (e .store) (sheet .body) 0 (beginning A starts) e (e .store) adjoints₀ done
 
-  ideal-stops : (e : Progress A) (stop : Stop A) → execution A sheet starts ≡ through e
-      → swept A setting known (e .trace) (firstAdjoints A (sheet .roles) seeds) ≡ halted stop
-      → ideal A sheet setting starts ≡ halted stop
-  unfolding ideal settingOf
-  ideal-stops e stop h sw = rw (h, sw) refl
+      backward-part : Back
+      unfolding settingOf
+      backward-part =
+          retraces (knownIn sheet) saved (setAt (required sheet)) A setting (e .store) (length (sheet .constants)) (is .covers) ran present
+          (is .started) required-holds (e .store) adjoints₀
+          (record { size = keeps-size; adjointSize = first-size A (sheet .roles) seeds; agree = λ i h. refl }) done
 
-  execution-stops : (stop : Stop A) → execution A sheet starts ≡ halted stop → ideal A sheet setting starts ≡ halted stop
-  unfolding ideal
-  execution-stops stop h = rw h refl
+      -- from row 17 on the same is noted as in the ideal sweep
+      pub turning-notes : tableLog A setting turning (memory e) ≡ sweptLog A setting (knownIn sheet) (e .trace) adjoints₀
+      unfolding tableLog sweptLog settingOf
+      turning-notes = ap (λ x. x .log) turning-comes ∙ by-end backward-part
+        where
+          by-end : Back → tableLog A setting (backwardPart (variablesOf sheet) marks done) turned ≡ sweptLog A setting (knownIn sheet) (e .trace) adjoints₀
+          by-end (retraced originals adjoints then log sw goes) = ap (λ x. x .log) goes ∙ sym (ap (λ x. x .log) sw)
+          by-end (cutShort stop log sw goes) = ap (λ x. x .log) goes ∙ sym (ap (λ x. x .log) sw)
 
-  forward-stops : (stop : Stop A) → execution A sheet starts ≡ halted stop → tableRun A setting table (memoryAt start) ≡ halted stop
-  unfolding adjointTable
-  forward-stops stop h = forward-part turning ∙ rw h refl
+      table-comes : tableRun A setting (forwardPart marks turning) (memory (beginning A starts))
+          ≡ tableRun A setting (backwardPart (variablesOf sheet) marks done) turned
+      table-comes = forward-part turning ∙ rw executes refl ∙ ap (λ x. x .outcome) turning-comes
 
-  forward-ends : (e : Progress A) → execution A sheet starts ≡ through e → tableRun A setting table (memoryAt start) ≡ tableRun A setting turning (memoryAt e)
-  unfolding adjointTable
-  forward-ends e h = forward-part turning ∙ rw h refl
+      ideal-comes : ideal A sheet setting starts
+          ≡ (swept A setting (knownIn sheet) (e .trace) adjoints₀ >>= λ adjoints. through (record { progress = e; adjoints = adjoints }))
+      unfolding ideal settingOf
+      ideal-comes = rw executes refl
 
-  abbrev Claim : Attempt (Stop A) (Ideal A) → Type 0
-  Claim i = Matches A (variablesOf sheet) i (runOf A table setting (startOf A sheet starts))
+    -- ---- the whole run
 
-  pub matches-ideal : Claim (ideal A sheet setting starts)
-  unfolding Matches execution
-  matches-ideal =
-      by-execution
-      (executed-ready A (sheet .constants) (variablesOf sheet) (sheet .body) 0 start n
-      (names-present words sheet accepted))
-    where
-      back-to : (e : Progress A) → execution A sheet starts ≡ through e → FromTurning e → Claim (ideal A sheet setting starts)
-      back-to e h (endsIn originals adjoints o sw ran) =
-          subst Claim (sym (ideal-ends e adjoints h sw))
-          (record {
-            memory = record { store = originals ++ adjoints; values = []; turns = []; copied = e .store };
-            ends = machine-follows (through (record { store = originals ++ adjoints; values = []; turns = []; copied = e .store })) (forward-ends e h ∙ ran);
-            values = refl;
-            adjoints = drop-at originals adjoints (variablesOf sheet) o;
-            valuesEmpty = refl;
-            turnsEmpty = refl;
-          })
-      back-to e h (stopsIn stop sw ran) = subst Claim (sym (ideal-stops e stop h sw)) (machine-follows (halted stop) (forward-ends e h ∙ ran))
+    abbrev Claim : Attempt (Stop A) (Ideal A) → Type 0
+    Claim i = Matches A (variablesOf sheet) i (runOf A (adjointTable (variablesOf sheet) marks) setting (startOf A sheet starts))
 
-      by-execution : Ready (execution A sheet starts) → Claim (ideal A sheet setting starts)
-      by-execution (gives e h) = back-to e h (backward-part e h)
-      by-execution (stops stop h) = subst Claim (sym (execution-stops stop h)) (machine-follows (halted stop) (forward-stops stop h))
+    -- the machine does what the table does in the large
+    machine-follows : (result : Attempt (Stop A) (Memory A)) → tableRun A setting (forwardPart marks turning) (memory (beginning A starts)) ≡ result
+        → EndsAs A result (runOf A (adjointTable (variablesOf sheet) marks) setting (startOf A sheet starts))
+    unfolding startOf savedValues adjointTable
+    machine-follows result e =
+        subst (λ r. EndsAs A r (runOf A (adjointTable (variablesOf sheet) marks) setting (startOf A sheet starts))) e
+        (run-follows A (adjointTable (variablesOf sheet) marks) setting (memory (beginning A starts)))
+
+    ends-alike : (i : Ideal A) (originals : List (A .Carrier)) → length originals ≡ variablesOf sheet → ideal A sheet setting starts ≡ through i
+        → tableRun A setting (forwardPart marks turning) (memory (beginning A starts))
+        ≡ through (record { store = originals ++ i .adjoints; values = []; turns = []; copied = i .progress .store })
+        → Claim (ideal A sheet setting starts)
+    unfolding Matches
+    ends-alike i originals size goes e =
+        subst Claim (sym goes)
+        (record {
+          memory = record { store = originals ++ i .adjoints; values = []; turns = []; copied = i .progress .store };
+          ends = machine-follows _ e;
+          values = refl;
+          adjoints = drop-at originals (i .adjoints) (variablesOf sheet) size;
+          valuesEmpty = refl;
+          turnsEmpty = refl;
+        })
+
+    stops-alike : (stop : Stop A) → ideal A sheet setting starts ≡ halted stop
+        → tableRun A setting (forwardPart marks turning) (memory (beginning A starts)) ≡ halted stop → Claim (ideal A sheet setting starts)
+    unfolding Matches
+    stops-alike stop goes e = subst Claim (sym goes) (machine-follows (halted stop) e)
+
+    pub matches-ideal : Claim (ideal A sheet setting starts)
+    unfolding execution ideal swept tableRun savedValues settingOf
+    matches-ideal = by-execution (executed-ready A (sheet .constants) (variablesOf sheet) (sheet .body) 0 (beginning A starts) (is .started) present)
+      where
+        by-sweep : (e : Progress A) (h : execution A sheet starts ≡ through e) → Back e h → Claim (ideal A sheet setting starts)
+        by-sweep e h (retraced originals adjoints then log sw goes) =
+            ends-alike (record { progress = e; adjoints = adjoints }) originals (then .size) (ideal-comes e h ∙ rw (ap (λ x. x .outcome) sw) refl)
+            (table-comes e h ∙ ap (λ x. x .outcome) goes)
+        by-sweep e h (cutShort stop log sw goes) =
+            stops-alike stop (ideal-comes e h ∙ rw (ap (λ x. x .outcome) sw) refl) (table-comes e h ∙ ap (λ x. x .outcome) goes)
+
+        by-execution : Ready (execution A sheet starts) → Claim (ideal A sheet setting starts)
+        by-execution (gives e h) = by-sweep e h (backward-part e h)
+        by-execution (stops stop h) = stops-alike stop (rw h refl) (forward-part turning ∙ rw h refl)

@@ -79,9 +79,14 @@ module _ (A : Arithmetic) (words : List ℕ) (sheet : Sheet) (accepted : read wo
   unfolding runSaving
   run-matches choice valueRoom turnRoom room =
       rw (also-body sheet choice)
-      (matches-ideal A words sheet accepted (saved sheet choice) (recorded-saved sheet choice) starts seeds n valueRoom turnRoom
-      (subst (λ t. valuesNeeded t ≤ valueRoom) (also-body sheet choice) (room .values))
-      (subst (λ t. turnsNeeded t ≤ turnRoom) (also-body sheet choice) (room .turns)))
+      (matches-ideal A {words = words} seeds
+      (record {
+        accepted = accepted;
+        covers = recorded-saved sheet choice;
+        started = n;
+        values = subst (λ t. valuesNeeded t ≤ valueRoom) (also-body sheet choice) (room .values);
+        turns = subst (λ t. turnsNeeded t ≤ turnRoom) (also-body sheet choice) (room .turns);
+      }))
 
   pub own-run-matches : (valueRoom turnRoom : ℕ) → valuesNeeded (marked sheet) ≤ valueRoom → turnsNeeded (marked sheet) ≤ turnRoom
       → Like valueRoom turnRoom (runOf A (tableOf sheet) (settingOf A sheet seeds valueRoom turnRoom) (startOf A sheet starts))

@@ -62,6 +62,10 @@ module _ (A : Arithmetic) where
     next ← executed constants a (suc p) now
     executed constants (again m a k) p next
 
+  -- nothing executed yet
+  abbrev pub beginning : (starts : List (A .Carrier)) → Progress
+  beginning starts = record { store = starts; trace = []; turns = [] }
+
   unfoldable pub execution : Sheet → (starts : List (A .Carrier)) → Attempt (Stop A) Progress
   unfolding executed
-  execution sheet starts = executed (sheet .constants) (sheet .body) 0 (record { store = starts; trace = []; turns = [] })
+  execution sheet starts = executed (sheet .constants) (sheet .body) 0 (beginning starts)

@@ -1,0 +1,77 @@
+-- What stands after a backward part may be exchanged for what does the same: so that the last turn of a repeat is a turn like any other.
+use Prim.Native.Nat.{ℕ, zero, suc, _+_}
+use mathlib.Core.Path.{_≡_, refl}
+use mathlib.Core.Bool.{Bool, true, false}
+use Rattle.number.specs.Arithmetic.{Arithmetic}
+use Rattle.sheet.specs.Tree.{Tree, done, one, fork, again, rows}
+use Rattle.sheet.specs.Rows.{Assignment, _≔_, Test}
+use Rattle.sheet.specs.Names.{AssignmentPresent, Present}
+use Rattle.sets.specs.Transfers.{Activity}
+use Rattle.sets.specs.Marks.{numbered}
+use Rattle.table.specs.TableRows.{Table, ofRow, takeBack, takingBack, onTurn}
+use Rattle.table.specs.Adjoint.{putIf, derivativeRows, backwardOf, backwardPart}
+use Rattle.run.specs.Attempts.{present}
+use Rattle.run.specs.Actions.{Setting, acted, tested}
+use Rattle.run.specs.InTheLarge.{from, chosen, tableRun}
+use Rattle.run.specs.RowReads.{chosenLog, tableLog}
+use Rattle.claims.proofs.Accounts.{account, Same, quiet, in-turn-same}
+use Rattle.claims.proofs.DerivativesAlike.{derivative-rows-same}
+use Rattle.claims.proofs.Forward.{body}
+use Rattle.claims.proofs.Undoing.{rowsBack}
+
+module _ (A : Arithmetic) (setting : Setting A) where
+  repeat-same : (n : ℕ) (a rest other : Table) → Same A setting rest other → Same A setting (again n a rest) (again n a other)
+  unfolding tableRun tableLog
+  repeat-same zero a rest other same x = in-turn-same A (account A setting a x) _ _ same
+  repeat-same (suc n) a rest other same x = in-turn-same A (account A setting a x) _ _ (repeat-same n a rest other same)
+
+  pub last-turn : (n : ℕ) (a rest : Table) → Same A setting (again (suc n) a rest) (again n a (again zero a rest))
+  unfolding tableRun tableLog
+  last-turn zero a rest x = refl
+  last-turn (suc n) a rest x = in-turn-same A (account A setting a x) _ _ (last-turn n a rest)
+
+  branches-same : (a b rest other : Table) → Same A setting rest other → Same A setting (fork onTurn a b rest) (fork onTurn a b other)
+  unfolding tableRun tableLog
+  branches-same a b rest other same x =
+      in-turn-same A (quiet A (present (tested A onTurn x))) _ _
+      (λ w.
+      in-turn-same A
+      (record {
+        log = chosenLog A (w .first) (tableLog A setting a (w .memory)) (tableLog A setting b (w .memory));
+        outcome = chosen A (w .first) (tableRun A setting a (w .memory)) (tableRun A setting b (w .memory));
+      })
+      _ _ same)
+
+  module _ (known : ℕ → Assignment → Activity) (saved : ℕ → Assignment → Bool) (k : ℕ) where
+    abbrev v : ℕ
+    v = setting .variables
+
+    row-same : (p : ℕ) (b : Assignment) → AssignmentPresent v k b → (rest other : Table) → Same A setting rest other
+        → Same A setting (rowsBack known saved v p b rest) (rowsBack known saved v p b other)
+    unfolding backwardOf AssignmentPresent tableRun tableLog
+    row-same p (d ≔ source) named rest other same x = by-choice (saved p (d ≔ source))
+      where
+        derivatives : Table → Table
+        derivatives = derivativeRows v (known p (d ≔ source) .active) d source (record { index = p }) (known p (d ≔ source))
+
+        inside : Same A setting (derivatives rest) (derivatives other)
+        inside = derivative-rows-same A setting k d source (record { index = p }) (known p (d ≔ source)) (named .0) (named .1) rest other same
+
+        by-choice : (choice : Bool)
+            → account A setting (putIf choice (record { index = p }) takingBack (takeBack d) (derivatives rest)) x
+            ≡ account A setting (putIf choice (record { index = p }) takingBack (takeBack d) (derivatives other)) x
+        by-choice true = in-turn-same A (quiet A (from A (ofRow (record { index = p }) takingBack) (acted A setting (takeBack d) x))) _ _ inside
+        by-choice false = inside x
+
+    pub back-same : (t : Tree Assignment Test) (p : ℕ) → Present v k t → (rest other : Table) → Same A setting rest other
+        → Same A setting (backwardPart v (body known saved t p) rest) (backwardPart v (body known saved t p) other)
+    unfolding numbered backwardPart Present
+    back-same done p named rest other same = same
+    back-same (one b kk) p named rest other same = back-same kk (suc p) (named .1) _ _ (row-same p b (named .0) rest other same)
+    back-same (fork f a b kk) p named rest other same =
+        let split : ℕ = suc p + rows a in
+        back-same kk (suc (suc split + rows b)) (named .3) _ _
+        (branches-same (backwardPart v (body known saved a (suc p)) done) (backwardPart v (body known saved b (suc split)) done) rest other same)
+    back-same (again n a kk) p named rest other same =
+        back-same kk (suc (suc p + rows a)) (named .1) _ _
+        (repeat-same n (backwardPart v (body known saved a (suc p)) done) rest other same)
