@@ -33,7 +33,8 @@ unfolding forwardPart forwardRow flat
 forward-lines done rest after = refl
 forward-lines (one m k) rest after =
     row-lines (m .saved) (m .row) saving (save (targetOf (m .assignment))) _ _ after (flat rest after)
-    (row-lines true (m .row) itself (assign (m .assignment)) (forwardPart k rest) (forwardPart k done) after (flat rest after) (forward-lines k rest after))
+    (row-lines true (m .row) itself (assign (m .assignment)) (forwardPart k rest) (forwardPart k done) after (flat rest after)
+    (forward-lines k rest after))
 forward-lines (fork f a b k) rest after = rw (forward-lines k rest after) refl
 forward-lines (again n a k) rest after = rw (forward-lines k rest after) refl
 

@@ -55,7 +55,9 @@ module _ (A : Arithmetic) (words : List ℕ) (sheet : Sheet) (accepted : read wo
   unfolding startOf settingOf
   never-stuck valueRoom turnRoom values turns =
       record {
-        unstuck = table-never-sticks A (tableOf sheet) (settingIn valueRoom turnRoom) (startOf A sheet starts .memory) (unstuck valueRoom turnRoom values turns);
+        unstuck =
+            table-never-sticks A (tableOf sheet) (settingIn valueRoom turnRoom) (startOf A sheet starts .memory)
+            (unstuck valueRoom turnRoom values turns);
         valuesWithin = λ k s e. within k s e .valuesFit;
         turnsWithin = λ k s e. within k s e .turnsFit;
       }

@@ -1,21 +1,20 @@
 -- Demand 2, of every accepted sheet: the sets are least, the table is the one that 01's rules give, in audit a run solves equation (2), and
 -- over any arithmetic it comes to what the all-saved table comes to.
 use Prim.Native.Nat.{ℕ, suc, _<_}
-use mathlib.Core.Path.{_≡_, refl, sym, ap, ap₂, subst, _∙_}
+use mathlib.Core.Path.{_≡_, sym, ap, ap₂, subst, _∙_}
 use mathlib.Core.List.{List, _++_}
 use lib.ListN.{length, getD, drop}
 use Rattle.number.specs.Arithmetic.{Arithmetic}
 use Rattle.number.specs.Residues.{modulus, residues}
 use Rattle.sheet.specs.Refusals.{given}
 use Rattle.sheet.specs.Reading.{Sheet, variablesOf, read}
-use Rattle.sets.specs.Marks.{marked}
 use Rattle.sets.proofs.SetsLeast.{varied-least, useful-least, required-least}
 use Rattle.table.specs.TableRows.{linesOf}
 use Rattle.table.specs.Adjoint.{tableOf}
 use Rattle.table.specs.declared.Answer.{Answer}
 use Rattle.run.specs.Actions.{Memory}
-use Rattle.run.specs.Machine.{Ending, finished, stepsOf}
-use Rattle.run.specs.Calls.{Lent, Ran, settingOf, startOf, runOf, independentAdjoints, resultOf, lentAfter, ranTo, run, ranOf}
+use Rattle.run.specs.Machine.{Ending, stepsOf}
+use Rattle.run.specs.Calls.{Lent, Ran, startOf, runOf, independentAdjoints, resultOf, lentAfter, ranTo, run, ranOf}
 use Rattle.claims.specs.ExactlyWhen.{Runnable, endingOf}
 use Rattle.claims.specs.SavedRows.{every, allSavedTable}
 use Rattle.claims.specs.WholeRun.{runSaving, SameOutcome, bothEnd, bothStop}
@@ -65,7 +64,7 @@ module _ (A : Arithmetic) (words : List ℕ) (sheet : Sheet) (starts seeds : Lis
         let says = contract ∙ started A words starts seeds before sheet _ ready e in
         subst (AnswersLike A sheet starts seeds before answer) (sym e′)
         (sameStop row (ap (λ r. r .number) says) (ap (λ r. r .place) says)
-        (stop-names-its-row A _ (linesOf (tableOf sheet)) row (stop .origin) (stop .why) (suc (stepsOf (tableOf sheet))) (startOf A sheet starts) e))
+        (stop-names-its-row A _ (linesOf (tableOf sheet)) (suc (stepsOf (tableOf sheet))) (startOf A sheet starts) row (stop .origin) (stop .why) e))
 
     pub answers-like-all-saved : (valueRoom turnRoom : ℕ) → AllSavedRoom A sheet starts seeds valueRoom turnRoom
         → AnswersLike A sheet starts seeds before answer (allSavedRun A sheet starts seeds valueRoom turnRoom)

@@ -51,11 +51,13 @@ module _ (A : Arithmetic) where
   AdjointSize v adjoints = length adjoints ≡ v + 2
 
   module _ (v : ℕ) where
-    store-size : (originals adjoints : List (A .Carrier)) → length originals ≡ v → AdjointSize v adjoints → length (originals ++ adjoints) ≡ tableVariables v
+    store-size : (originals adjoints : List (A .Carrier)) → length originals ≡ v → AdjointSize v adjoints
+        → length (originals ++ adjoints) ≡ tableVariables v
     store-size originals adjoints n m = length-append originals adjoints ∙ (omega arith)
 
     -- a place among the adjoints
-    at-adjoint : (originals adjoints : List (A .Carrier)) (i : ℕ) → length originals ≡ v → v ≤ i → getElem? (originals ++ adjoints) i ≡ getElem? adjoints (i - v)
+    at-adjoint : (originals adjoints : List (A .Carrier)) (i : ℕ) → length originals ≡ v → v ≤ i
+        → getElem? (originals ++ adjoints) i ≡ getElem? adjoints (i - v)
     at-adjoint originals adjoints i n h =
         let place : i ≡ length originals + (i - v) = omega arith in
         ap (getElem? (originals ++ adjoints)) place ∙ at-second-part originals adjoints (i - v)
@@ -80,7 +82,8 @@ module _ (A : Arithmetic) where
           let y = readable-known b q in
           rw (x .1, y .1) (whole-ready (f (x .0) (y .0)))
 
-      evaluated-ready : (constants : List ℕ) (source : Source) → SourceReadable v needed source → Ready (evaluated A constants source (originals ++ adjoints))
+      evaluated-ready : (constants : List ℕ) (source : Source) → SourceReadable v needed source
+          → Ready (evaluated A constants source (originals ++ adjoints))
       unfolding evaluated
       evaluated-ready constants (copy a) p = let x = readable-known a p in rw (x .1) (gives (x .0) refl)
       evaluated-ready constants (fixed c) p = absurd p
@@ -122,7 +125,8 @@ module _ (A : Arithmetic) where
       same-original i h = ap (λ x. cond (ltb i v) (x ∷ []) []) (same-default (originals ++ adjoints) (others ++ adjoints) i (A .zero) (same-at i h))
 
       -- what a row is noted to read
-      pub same-reads : (action : Action) → OnAdjoints v needed action → readsOf A v action (originals ++ adjoints) ≡ readsOf A v action (others ++ adjoints)
+      pub same-reads : (action : Action) → OnAdjoints v needed action
+          → readsOf A v action (originals ++ adjoints) ≡ readsOf A v action (others ++ adjoints)
       unfolding readsOf
       same-reads (assign (d ≔ copy a)) p = same-original a (p .2)
       same-reads (assign (d ≔ fixed c)) p = refl

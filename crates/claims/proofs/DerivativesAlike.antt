@@ -94,7 +94,8 @@ product-needs : (a b : ℕ) (known : Activity) → known .active ≡ true
     → T (has (adjointUse (product a b) known) a) × T (has (adjointUse (product a b) known) b)
 unfolding adjointUse
 product-needs a b known e =
-    rw e (union-left (single a) (single b) a (rw (single-has a a) (eqb-refl a)), union-right (single a) (single b) b (rw (single-has b b) (eqb-refl b)))
+    rw e
+    (union-left (single a) (single b) a (rw (single-has a a) (eqb-refl a)), union-right (single a) (single b) b (rw (single-has b b) (eqb-refl b)))
 
 parts-listed : (v k : ℕ) (source : Source) (row : RowNumber) (known : Activity) → SourcePresent v k source → known .active ≡ true
     → Listed v (adjointUse source known) (partsOf v source row known)
@@ -152,14 +153,16 @@ module _ (A : Arithmetic) (setting : Setting A) where
   StopsIn part store log at = (memory : Memory A) (rest : Table) → account A setting (part rest) (withStore A memory store) ≡ stopping A log at
 
   pub data PartAlike (originals others : List (A .Carrier)) (part : Table → Table) (adjoints : List (A .Carrier)) : Type 0 where
-    bothReach : (next : List (A .Carrier)) → AdjointSize A v next → (log : List (Entry A)) → Reaches part (originals ++ adjoints) (originals ++ next) log
+    bothReach : (next : List (A .Carrier)) → AdjointSize A v next → (log : List (Entry A))
+        → Reaches part (originals ++ adjoints) (originals ++ next) log
         → Reaches part (others ++ adjoints) (others ++ next) log → PartAlike originals others part adjoints
     bothStop : (at : Stop A) (log : List (Entry A)) → StopsIn part (originals ++ adjoints) log at → StopsIn part (others ++ adjoints) log at
         → PartAlike originals others part adjoints
 
   -- one row before others, on a store of which it reads this
   module _ (r : TableRow) (rs : List TableRow) (store reads : List (A .Carrier)) (h : readsOf A v (r .action) store ≡ reads) where
-    row-before : (memory : Memory A) (rest : Table) (result : Attempt (A .Why) (Memory A)) → acted A setting (r .action) (withStore A memory store) ≡ result
+    row-before : (memory : Memory A) (rest : Table) (result : Attempt (A .Why) (Memory A))
+        → acted A setting (r .action) (withStore A memory store) ≡ result
         → account A setting (puts (r ∷ rs) rest) (withStore A memory store)
         ≡ inTurn A (record { log = entries A (r .origin) reads; outcome = from A (r .origin) result }) (account A setting (puts rs rest))
     unfolding puts tableRun tableLog
@@ -172,9 +175,11 @@ module _ (A : Arithmetic) (setting : Setting A) where
     row-reaches : (next last : List (A .Carrier)) (log : List (Entry A)) → Does A setting (r .action) store next → Reaches (puts rs) next last log
         → Reaches (puts (r ∷ rs)) store last (entries A (r .origin) reads ++ log)
     row-reaches next last log e f memory rest =
-        row-before memory rest _ (e memory) ∙ ap (noting A (entries A (r .origin) reads)) (f memory rest) ∙ noting-more A (entries A (r .origin) reads) log _
+        row-before memory rest _ (e memory) ∙ ap (noting A (entries A (r .origin) reads)) (f memory rest)
+        ∙ noting-more A (entries A (r .origin) reads) log _
 
-    row-stops : (next : List (A .Carrier)) (log : List (Entry A)) (at : Stop A) → Does A setting (r .action) store next → StopsIn (puts rs) next log at
+    row-stops : (next : List (A .Carrier)) (log : List (Entry A)) (at : Stop A) → Does A setting (r .action) store next
+        → StopsIn (puts rs) next log at
         → StopsIn (puts (r ∷ rs)) store (entries A (r .origin) reads ++ log) at
     row-stops next log at e f memory rest = row-before memory rest _ (e memory) ∙ ap (noting A (entries A (r .origin) reads)) (f memory rest)
 
@@ -239,7 +244,8 @@ module _ (A : Arithmetic) (setting : Setting A) where
       adjointsOf : Account A (Memory A) → Account A (List (A .Carrier))
       adjointsOf after = record { log = after .log; outcome = after .outcome >>= λ x. through (drop v (x .store)) }
 
-      against : PartAlike originals before (derivativeRows v (known .active) d source row known) adjoints → Derives d source row known originals before adjoints
+      against : PartAlike originals before (derivativeRows v (known .active) d source row known) adjoints
+          → Derives d source row known originals before adjoints
       against (bothReach next size log f g) =
           derives next size log f
           (ap adjointsOf (g alone done) ∙ nothing-more A log _ ∙ ap (λ x. record { log = log; outcome = through x }) (drop-at before next v m))

@@ -169,7 +169,8 @@ share (some a) amount x = cond (eqb a x) amount 0
 
 unfoldable pub gain : Source → (before : List ℕ) → (bar x : ℕ) → ℕ
 unfolding firstRead secondRead firstFactor secondFactor
-gain source before bar x = share (firstRead source) (firstFactor source before * bar) x + share (secondRead source) (secondFactor source before * bar) x
+gain source before bar x =
+    share (firstRead source) (firstFactor source before * bar) x + share (secondRead source) (secondFactor source before * bar) x
 
 unfoldable pub fullStep : Assignment → (before : List ℕ) → (full : ℕ → ℕ) → ℕ → ℕ
 unfolding gain

@@ -47,7 +47,8 @@ module _ (A : Arithmetic) (constants : List ℕ) (v : ℕ) where
   compared-ready : (f : Test) (store : List (A .Carrier)) → length store ≡ v → TestPresent v f → (first : Bool) × (compared A f store ≡ some first)
   unfolding compared TestPresent
   compared-ready (less a b) store n p =
-      (A .less (getD store a (A .zero)) (getD store b (A .zero)), rw (known-at store a (A .zero) (omega arith), known-at store b (A .zero) (omega arith)) refl)
+      let first = known-at store a (A .zero) (omega arith) in
+      (A .less (getD store a (A .zero)) (getD store b (A .zero)), rw (first, known-at store b (A .zero) (omega arith)) refl)
 
   pub executed-ready : (t : Tree Assignment Test) (p : ℕ) (now : Progress A) → length (now .store) ≡ v → Present v (length constants) t
       → Ready (executed A constants t p now)
@@ -69,7 +70,8 @@ module _ (A : Arithmetic) (constants : List ℕ) (v : ℕ) where
       either false x y = y
 
       size : (first : Bool) (m : Progress A)
-          → chosen A first (executed A constants a (suc p) now) (executed A constants b (suc (suc p + rows a)) now) ≡ through m → length (m .store) ≡ v
+          → chosen A first (executed A constants a (suc p) now) (executed A constants b (suc (suc p + rows a)) now) ≡ through m
+          → length (m .store) ≡ v
       size true m e = runs-keep A constants (runs A constants a (suc p) now m e) ∙ n
       size false m e = runs-keep A constants (runs A constants b (suc (suc p + rows a)) now m e) ∙ n
   executed-ready (again zero a k) p now n named =

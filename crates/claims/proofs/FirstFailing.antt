@@ -56,7 +56,8 @@ module _ {A : Type 0} (test : A → Bool) (d : A) where
   all-pass refusal [] place none = refl
   all-pass refusal (x ∷ xs) place none = rw (first-passes x xs (none 0)) (all-pass refusal xs (suc place) (λ i f. none (suc i) (later x xs i f)))
 
-  pub first-refused : (refusal : ℕ → Refusal) (xs : List A) (place i : ℕ) → First (Fails xs) i → eachJudged test refusal xs place ≡ refused (refusal (place + i))
+  pub first-refused : (refusal : ℕ → Refusal) (xs : List A) (place i : ℕ) → First (Fails xs) i
+      → eachJudged test refusal xs place ≡ refused (refusal (place + i))
   unfolding eachJudged
   first-refused refusal [] place i first = absurd (omega (arith, first .here .0))
   first-refused refusal (x ∷ xs) place zero first =

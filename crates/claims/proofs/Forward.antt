@@ -139,7 +139,8 @@ module _ (known : ℕ → Assignment → Activity) (saved : ℕ → Assignment �
           by-value (halted why) = refl
           by-value stuck = refl
           by-value (through x) =
-              rw (replaced-original A (setting .variables) k (now .store) tail n {W = A .Why} d x h, replaced-alone A (setting .variables) k (now .store) tail n {W = Stop A} d x h, e)
+              let with-tail = replaced-original A (setting .variables) k (now .store) tail n {W = A .Why} d x h in
+              rw (with-tail, replaced-alone A (setting .variables) k (now .store) tail n {W = Stop A} d x h, e)
 
       saved-first : (rest : Table) (row : RowNumber) (d : ℕ) (now : Progress A) → length (now .store) ≡ setting .variables → d < setting .variables
           → length (savedValues A saved (now .trace)) < setting .valueRoom
@@ -153,7 +154,8 @@ module _ (known : ℕ → Assignment → Activity) (saved : ℕ → Assignment �
           })
       unfolding tableRun acted
       saved-first rest r d now n h room =
-          rw (looked-up A (setting .variables) k (now .store) tail n d h, is-below (length (savedValues A saved (now .trace))) (setting .valueRoom) room)
+          let fits = is-below (length (savedValues A saved (now .trace))) (setting .valueRoom) room in
+          rw (looked-up A (setting .variables) k (now .store) tail n d h, fits)
 
       -- an assignment's rows: the save, if it is saved, and itself
       forward-row : (rest : Table) (p : ℕ) (b : Assignment) (now : Progress A) → length (now .store) ≡ setting .variables
@@ -197,17 +199,20 @@ module _ (known : ℕ → Assignment → Activity) (saved : ℕ → Assignment �
           turn-saved done r first m (omega (arith, grew .turns)))
 
       -- by the branch that the test picks
-      fork-executes : (o : Option Bool) (now : Progress A) (first second : Memory A → Attempt (Stop A) (Memory A)) (a b : Attempt (Stop A) (Progress A))
-          (rest : Memory A → Attempt (Stop A) (Memory A)) (next : Progress A → Attempt (Stop A) (Progress A))
+      fork-executes : (o : Option Bool) (now : Progress A) (first second : Memory A → Attempt (Stop A) (Memory A))
+          (a b : Attempt (Stop A) (Progress A)) (rest : Memory A → Attempt (Stop A) (Memory A)) (next : Progress A → Attempt (Stop A) (Progress A))
           (after : Progress A → Attempt (Stop A) (Memory A)) → first (memory now) ≡ (a >>= λ m. through (memory (turned A true m)))
           → second (memory now) ≡ (b >>= λ m. through (memory (turned A false m)))
           → ((m : Progress A) → a ≡ through m → rest (memory (turned A true m)) ≡ (next (turned A true m) >>= after))
           → ((m : Progress A) → b ≡ through m → rest (memory (turned A false m)) ≡ (next (turned A false m) >>= after))
-          → (present {Why = Stop A} (verdictOn A (memory now) o) >>= λ verdict. chosen A (verdict .first) (first (verdict .memory)) (second (verdict .memory)) >>= rest)
+          → (present {Why = Stop A} (verdictOn A (memory now) o)
+          >>= λ verdict. chosen A (verdict .first) (first (verdict .memory)) (second (verdict .memory)) >>= rest)
           ≡ (present o >>= (λ way. chosen A way a b >>= λ m. next (turned A way m)) >>= after)
       fork-executes none now first second a b rest next after e f g h = refl
-      fork-executes (some true) now first second a b rest next after e f g h = in-turn (first (memory now)) a (λ m. memory (turned A true m)) rest _ after e g
-      fork-executes (some false) now first second a b rest next after e f g h = in-turn (second (memory now)) b (λ m. memory (turned A false m)) rest _ after f h
+      fork-executes (some true) now first second a b rest next after e f g h =
+          in-turn (first (memory now)) a (λ m. memory (turned A true m)) rest _ after e g
+      fork-executes (some false) now first second a b rest next after e f g h =
+          in-turn (second (memory now)) b (λ m. memory (turned A false m)) rest _ after f h
 
       -- The forward part executes the sheet: it comes to where the execution comes to, or stops where it stops.
       pub forward-executes : (t : Tree Assignment Test) (p : ℕ) (now : Progress A) (rest : Table) → Present (setting .variables) k t

@@ -22,8 +22,8 @@ use Rattle.claims.proofs.Forward.{body, memoryWith, forward-executes}
 
 module _ (A : Arithmetic) where
   -- where what is noted first is nothing, and what follows is noted at its end only
-  in-turn-silent : {W X Y : Type 0} (first : Attempt W X) (next : X → Attempt W Y) (log : List (Entry A)) (logs : X → List (Entry A)) (after : Y → List (Entry A))
-      → log ≡ [] → ((x : X) → logs x ≡ onThrough A (next x) after) → log ++ onThrough A first logs ≡ onThrough A (first >>= next) after
+  in-turn-silent : {W X Y : Type 0} (first : Attempt W X) (next : X → Attempt W Y) (log : List (Entry A)) (logs : X → List (Entry A))
+      (after : Y → List (Entry A)) → log ≡ [] → ((x : X) → logs x ≡ onThrough A (next x) after) → log ++ onThrough A first logs ≡ onThrough A (first >>= next) after
   in-turn-silent (through x) next log logs after e h = rw e (h x)
   in-turn-silent (halted why) next log logs after e h = rw e refl
   in-turn-silent stuck next log logs after e h = rw e refl
@@ -44,7 +44,8 @@ module _ (A : Arithmetic) where
     -- a part that notes nothing before the rest
     abbrev Silent : (Table → Table) → Type 0
     Silent part =
-        (rest : Table) (x : Memory A) → tableLog A setting (part rest) x ≡ onThrough A (tableRun A setting (part done) x) (λ y. tableLog A setting rest y)
+        (rest : Table) (x : Memory A)
+        → tableLog A setting (part rest) x ≡ onThrough A (tableRun A setting (part done) x) (λ y. tableLog A setting rest y)
 
     silent-before : (part : Table → Table) → Silent part → (rest : Table) → NotesNothing rest → NotesNothing (part rest)
     silent-before part silent rest nothing x = silent rest x ∙ nothing-after (tableRun A setting (part done) x) _ nothing
@@ -69,7 +70,8 @@ module _ (A : Arithmetic) where
         (rw e refl) (silent rest)
     put-silent false row operation action part e silent rest x = silent rest x
 
-    fork-silent : (f : TableTest) (a b : Table) (part : Table → Table) → NotesNothing a → NotesNothing b → Silent part → Silent (λ rest. fork f a b (part rest))
+    fork-silent : (f : TableTest) (a b : Table) (part : Table → Table) → NotesNothing a → NotesNothing b
+        → Silent part → Silent (λ rest. fork f a b (part rest))
     unfolding tableLog tableRun
     fork-silent f a b part p q silent rest x =
         in-turn-silent (present {Why = Stop A} (tested A f x)) _ [] _ _ refl
@@ -86,7 +88,8 @@ module _ (A : Arithmetic) where
     unfolding forwardPart forwardRow
     forward-silent done = silent-none
     forward-silent (one m k) =
-        put-silent (m .saved) (m .row) saving (save (targetOf (m .assignment))) (λ rest. put (m .row) itself (assign (m .assignment)) (forwardPart k rest)) refl
+        put-silent (m .saved) (m .row) saving (save (targetOf (m .assignment)))
+        (λ rest. put (m .row) itself (assign (m .assignment)) (forwardPart k rest)) refl
         (put-silent true (m .row) itself (assign (m .assignment)) (forwardPart k) refl (forward-silent k))
     forward-silent (fork f a b k) =
         fork-silent (whether (f .test)) _ _ (forwardPart k) (silent-before (forwardPart a) (forward-silent a) _ (turn-silent (f .row) true))

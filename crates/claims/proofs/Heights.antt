@@ -1,22 +1,22 @@
--- Stacks never stand higher than their rooms, and a machine that does not get stuck does the same with more room.
-use Prim.Native.Nat.{ℕ, zero, suc, _+_, _≤_, _<_}
+-- Stacks never stand higher than their rooms, whatever more is lent, and a run that does not get stuck is at no step.
+use Prim.Native.Nat.{ℕ, zero, suc, _+_, _≤_}
 use mathlib.Core.Path.{_≡_, refl, sym, ap, subst, _∙_}
 use mathlib.Core.Bool.{Bool, true, false, cond}
 use mathlib.Core.List.{List, [], _∷_}
 use mathlib.Core.Option.{Option, none, some}
 use lib.ListN.{length, drop}
-use lib.Dec.{eqb, ltb, ltb→lt, lt→ltb}
+use lib.Dec.{eqb, ltb, ltb→lt}
 use native.Mathlib.Omega.{arith}
 use Rattle.number.specs.Arithmetic.{Arithmetic}
-use Rattle.sheet.specs.Tree.{done, one, fork, again, basic, ifLine, elseLine, endIf, repeat, endRepeat}
+use Rattle.sheet.specs.Tree.{basic, ifLine, elseLine, endIf, repeat, endRepeat}
 use Rattle.sheet.specs.Rows.{_≔_}
 use Rattle.table.specs.TableRows.{Action, assign, save, takeBack, saveTurn, clear, turnRound, whether, onTurn, turnWord, Origin, TableLine, Table, linesOf}
-use Rattle.run.specs.Attempts.{Attempt, through, halted, stuck, _>>=_, present, look, replaced, pushed}
-use Rattle.run.specs.Actions.{Memory, Setting, evaluated, saved, restored, turnedRound, acted, compared, verdictOn, turnTaken, tested}
+use Rattle.run.specs.Attempts.{Attempt, through, halted, stuck, _>>=_, look, replaced, pushed}
+use Rattle.run.specs.Actions.{Memory, Setting, evaluated, restored, turnedRound, acted, compared, verdictOn, turnTaken, tested}
 use Rattle.run.specs.Machine.{itsElse, itsEnd, oneMore, seek, Repeat, State, Step, goesOn, ended, stops, sticks, jump, afterAction, branchTo, afterTest, afterTurn, stepAt, step, gotStuck, outOfFuel, runFor, ifItGoesOn, stateAfter, stepsOf}
 use Rattle.run.specs.Calls.{runOf}
-use Rattle.run.specs.InTheLarge.{Stop, from, chosen, tableRun}
-use Rattle.run.proofs.MachineFollows.{atRow, endingFrom, run-on, run-through, more-fuel-same, fuel-suffices}
+use Rattle.run.proofs.MachineFollows.{atRow, endingFrom, run-on, more-fuel-same, fuel-suffices}
+use Rattle.claims.proofs.MoreRoom.{withRooms, more-room-same}
 
 -- ---- what holds of whatever goes through
 
@@ -39,39 +39,6 @@ pushed-fits {W} {X} P room x stack next h = by-test (ltb (length stack) room) re
         → Through P (cond {A = Attempt W (List X)} b (through (x ∷ stack)) stuck >>= next)
     by-test true e = h (ltb→lt (length stack) room (rw e tt))
     by-test false e = tt
-
--- ---- the same, unless the first is a thing that means stuck
-
-abbrev SameUnless : {X : Type 0} → X → X → X → Type 0
-SameUnless bad x y = (x ≡ bad → ⊥) → y ≡ x
-
-same-under : {X Y : Type 0} (f : X → Y) (bad x y : X) → SameUnless bad x y → SameUnless (f bad) (f x) (f y)
-same-under f bad x y same unlike = ap f (same (λ e. unlike (ap f e)))
-
-abbrev Alike : {W X : Type 0} → Attempt W X → Attempt W X → Type 0
-Alike x y = SameUnless stuck x y
-
-alike-then : {W X Y : Type 0} (x x′ : Attempt W X) (next next′ : X → Attempt W Y) → Alike x x′ → ((v : X) → Alike (next v) (next′ v))
-    → Alike (x >>= next) (x′ >>= next′)
-alike-then {W} {X} {Y} x x′ next next′ same sameAfter unstuck =
-    ap (λ y. y >>= next′) (same (λ e. unstuck (ap (λ y. y >>= next) e))) ∙ by-first x unstuck
-  where
-    by-first : (y : Attempt W X) → Alike (y >>= next) (y >>= next′)
-    by-first (through v) = sameAfter v
-    by-first (halted why) = λ unstuck′. refl
-    by-first stuck = λ unstuck′. refl
-
-pushed-alike : {W X : Type 0} (room more : ℕ) (x : X) (stack : List X) → room ≤ more
-    → Alike (pushed {Why = W} room x stack) (pushed {Why = W} more x stack)
-pushed-alike {W} {X} room more x stack le = by-tests (ltb (length stack) room) (ltb (length stack) more) refl refl
-  where
-    by-tests : (b c : Bool) → ltb (length stack) room ≡ b → ltb (length stack) more ≡ c
-        → Alike {W = W} {X = List X} (cond b (through (x ∷ stack)) stuck) (cond c (through (x ∷ stack)) stuck)
-    by-tests true true p q unstuck = refl
-    by-tests true false p q unstuck =
-        let fits : length stack < room = ltb→lt (length stack) room (rw p tt) in
-        absurd (rw q at (lt→ltb (length stack) more (omega arith)))
-    by-tests false c p q unstuck = absurd (unstuck refl)
 
 module _ (A : Arithmetic) where
   pub record Within (values turns : ℕ) (memory : Memory A) : Type 0 where
@@ -176,113 +143,6 @@ module _ (A : Arithmetic) where
         → stateAfter A n setting lines start ≡ goesOn s → Within (setting .valueRoom) (setting .turnRoom) (s .memory)
     within-room n lines start s h e = subst FitsAfter e (steps-within n lines start h)
 
-  -- ---- with more room
-
-  abbrev pub withRooms : Setting A → (valueRoom turnRoom : ℕ) → Setting A
-  withRooms setting valueRoom turnRoom =
-      record {
-        variables = setting .variables;
-        roles = setting .roles;
-        constants = setting .constants;
-        seeds = setting .seeds;
-        valueRoom = valueRoom;
-        turnRoom = turnRoom;
-      }
-
-  module _ (setting : Setting A) (values turns : ℕ) (moreValues : setting .valueRoom ≤ values) (moreTurns : setting .turnRoom ≤ turns) where
-    abbrev roomier : Setting A
-    roomier = withRooms setting values turns
-
-    acted-alike : (action : Action) (memory : Memory A) → Alike (acted A setting action memory) (acted A roomier action memory)
-    unfolding acted turnedRound
-    acted-alike (assign (d ≔ source)) memory = λ unstuck. refl
-    acted-alike (save d) memory =
-        alike-then (look (memory .store) d) (look (memory .store) d) (λ x. saved A (setting .valueRoom) memory x) (λ x. saved A values memory x)
-        (λ unstuck. refl)
-        (λ x. alike-then (pushed (setting .valueRoom) x (memory .values)) (pushed values x (memory .values)) _ _
-        (pushed-alike (setting .valueRoom) values x (memory .values) moreValues) (λ stack unstuck. refl))
-    acted-alike (takeBack d) memory = λ unstuck. refl
-    acted-alike (saveTurn first) memory =
-        alike-then (pushed (setting .turnRoom) (turnWord first) (memory .turns)) (pushed turns (turnWord first) (memory .turns)) _ _
-        (pushed-alike (setting .turnRoom) turns (turnWord first) (memory .turns) moreTurns) (λ stack unstuck. refl)
-    acted-alike (clear d) memory = λ unstuck. refl
-    acted-alike turnRound memory = λ unstuck. refl
-
-    step-at-alike : (s : State A) (here : List TableLine) → SameUnless sticks (stepAt A setting s here) (stepAt A roomier s here)
-    unfolding stepAt
-    step-at-alike s [] = λ unstuck. refl
-    step-at-alike s (basic row ∷ rest) =
-        same-under (afterAction A s (row .origin)) stuck (acted A setting (row .action) (s .memory)) (acted A roomier (row .action) (s .memory))
-        (acted-alike (row .action) (s .memory))
-    step-at-alike s (ifLine f ∷ rest) = λ unstuck. refl
-    step-at-alike s (elseLine ∷ rest) = λ unstuck. refl
-    step-at-alike s (endIf ∷ rest) = λ unstuck. refl
-    step-at-alike s (repeat m ∷ rest) = λ unstuck. refl
-    step-at-alike s (endRepeat ∷ rest) = λ unstuck. refl
-
-    step-alike : (lines : List TableLine) (s : State A) → SameUnless sticks (step A setting lines s) (step A roomier lines s)
-    unfolding step
-    step-alike lines s = step-at-alike s (drop (s .at) lines)
-
-    pub more-room-same : (n : ℕ) (lines : List TableLine) (s : State A) → (stateAfter A n setting lines s ≡ sticks → ⊥)
-        → stateAfter A n (withRooms setting values turns) lines s ≡ stateAfter A n setting lines s
-    unfolding stateAfter
-    more-room-same zero lines s unstuck = refl
-    more-room-same (suc n) lines s unstuck =
-        ap (λ x. ifItGoesOn A x (λ next. stateAfter A n roomier lines next))
-        (step-alike lines s (λ e. unstuck (ap (λ x. ifItGoesOn A x (λ next. stateAfter A n setting lines next)) e)))
-        ∙ by-step (step A setting lines s) (λ next. more-room-same n lines next) unstuck
-      where
-        by-step : (x : Step A) → ((next : State A) → SameUnless sticks (stateAfter A n setting lines next) (stateAfter A n roomier lines next))
-            → SameUnless sticks (ifItGoesOn A x (λ next. stateAfter A n setting lines next))
-            (ifItGoesOn A x (λ next. stateAfter A n roomier lines next))
-        by-step (goesOn next) ih = ih next
-        by-step (ended memory) ih = λ unstuck′. refl
-        by-step (stops row origin why) ih = λ unstuck′. refl
-        by-step sticks ih = λ unstuck′. refl
-
-    -- without fuel neither goes on
-    no-fuel-alike : (lines : List TableLine) (x : Step A) → endingFrom A roomier lines 0 x ≡ endingFrom A setting lines 0 x
-    unfolding runFor
-    no-fuel-alike lines (goesOn s) = refl
-    no-fuel-alike lines (ended memory) = refl
-    no-fuel-alike lines (stops row origin why) = refl
-    no-fuel-alike lines sticks = refl
-
-    pub more-room-runs-same : (fuel : ℕ) (lines : List TableLine) (s : State A) → (runFor A fuel setting lines s ≡ gotStuck → ⊥)
-        → runFor A fuel (withRooms setting values turns) lines s ≡ runFor A fuel setting lines s
-    more-room-runs-same fuel lines s unstuck =
-        let same = more-room-same fuel lines s (λ e. unstuck (run-through A setting lines fuel s ∙ ap (endingFrom A setting lines 0) e)) in
-        run-through A roomier lines fuel s ∙ ap (endingFrom A roomier lines 0) same ∙ no-fuel-alike lines (stateAfter A fuel setting lines s)
-        ∙ sym (run-through A setting lines fuel s)
-
-    -- the same in the large
-    chosen-alike : (first : Bool) (x x′ y y′ : Attempt (Stop A) (Memory A)) → Alike x x′ → Alike y y′
-        → Alike (chosen A first x y) (chosen A first x′ y′)
-    chosen-alike true x x′ y y′ same other = same
-    chosen-alike false x x′ y y′ same other = other
-
-    tree-alike : (t : Table) (memory : Memory A) → Alike (tableRun A setting t memory) (tableRun A roomier t memory)
-    unfolding tableRun
-    tree-alike done memory = λ unstuck. refl
-    tree-alike (one row k) memory =
-        alike-then (from A (row .origin) (acted A setting (row .action) memory)) (from A (row .origin) (acted A roomier (row .action) memory)) _ _
-        (same-under (from A (row .origin)) stuck (acted A setting (row .action) memory) (acted A roomier (row .action) memory)
-        (acted-alike (row .action) memory))
-        (λ next. tree-alike k next)
-    tree-alike (fork f a b k) memory =
-        alike-then (present (tested A f memory)) (present (tested A f memory)) _ _ (λ unstuck. refl)
-        (λ v. alike-then (chosen A (v .first) (tableRun A setting a (v .memory)) (tableRun A setting b (v .memory))) _ _ _
-        (chosen-alike (v .first) _ _ _ _ (tree-alike a (v .memory)) (tree-alike b (v .memory))) (λ next. tree-alike k next))
-    tree-alike (again zero a k) memory =
-        alike-then (tableRun A setting a memory) (tableRun A roomier a memory) _ _ (tree-alike a memory) (λ next. tree-alike k next)
-    tree-alike (again (suc m) a k) memory =
-        alike-then (tableRun A setting a memory) (tableRun A roomier a memory) _ _ (tree-alike a memory) (λ next. tree-alike (again m a k) next)
-
-    pub more-room-same-in-the-large : (t : Table) (memory : Memory A) → (tableRun A setting t memory ≡ stuck → ⊥)
-        → tableRun A (withRooms setting values turns) t memory ≡ tableRun A setting t memory
-    more-room-same-in-the-large = tree-alike
-
   -- ---- a run that does not get stuck
 
   module _ (setting : Setting A) (lines : List TableLine) where
@@ -296,10 +156,10 @@ module _ (A : Arithmetic) where
 
     pub heights-within : (values turns : ℕ) → setting .valueRoom ≤ values → setting .turnRoom ≤ turns → (start : State A)
         → Within (setting .valueRoom) (setting .turnRoom) (start .memory) → ((n : ℕ) → stateAfter A n setting lines start ≡ sticks → ⊥)
-        → (n : ℕ) (s : State A) → stateAfter A n (withRooms setting values turns) lines start ≡ goesOn s
+        → (n : ℕ) (s : State A) → stateAfter A n (withRooms A setting values turns) lines start ≡ goesOn s
         → Within (setting .valueRoom) (setting .turnRoom) (s .memory)
     heights-within values turns moreValues moreTurns start h unstuck n s e =
-        within-room setting n lines start s h (sym (more-room-same setting values turns moreValues moreTurns n lines start (unstuck n)) ∙ e)
+        within-room setting n lines start s h (sym (more-room-same A setting values turns moreValues moreTurns n lines start (unstuck n)) ∙ e)
 
   -- a table's run that does not get stuck: no number of steps is, and the stacks stay within these rooms whatever more is lent
   module _ (table : Table) (setting : Setting A) (memory : Memory A) (unstuck : runOf A table setting (atRow A 0 [] memory) ≡ gotStuck → ⊥) where
@@ -310,7 +170,7 @@ module _ (A : Arithmetic) where
 
     pub table-heights : Within (setting .valueRoom) (setting .turnRoom) memory → (values turns : ℕ)
         → setting .valueRoom ≤ values → setting .turnRoom ≤ turns
-        → (n : ℕ) (s : State A) → stateAfter A n (withRooms setting values turns) (linesOf table) (atRow A 0 [] memory) ≡ goesOn s
+        → (n : ℕ) (s : State A) → stateAfter A n (withRooms A setting values turns) (linesOf table) (atRow A 0 [] memory) ≡ goesOn s
         → Within (setting .valueRoom) (setting .turnRoom) (s .memory)
     table-heights h values turns moreValues moreTurns =
         heights-within setting (linesOf table) values turns moreValues moreTurns (atRow A 0 [] memory) h table-never-sticks

@@ -16,9 +16,10 @@ use Rattle.run.specs.InTheLarge.{Stop, tableRun}
 use Rattle.claims.specs.Execution.{Executed, execution}
 use Rattle.claims.specs.IdealSweep.{derivedBy, swept, Ideal, ideal}
 use Rattle.run.proofs.AttemptLaws.{bind-unless}
-use Rattle.claims.proofs.Heights.{withRooms, more-room-same-in-the-large}
+use Rattle.claims.proofs.MoreRoom.{withRooms, more-room-same-in-the-large}
 
-module _ (A : Arithmetic) (setting : Setting A) (values turns : ℕ) (moreValues : setting .valueRoom ≤ values) (moreTurns : setting .turnRoom ≤ turns) where
+module _ (A : Arithmetic) (setting : Setting A) (values turns : ℕ) (moreValues : setting .valueRoom ≤ values)
+    (moreTurns : setting .turnRoom ≤ turns) where
   abbrev larger : Setting A
   larger = withRooms A setting values turns
 
@@ -29,7 +30,8 @@ module _ (A : Arithmetic) (setting : Setting A) (values turns : ℕ) (moreValues
   derived-in-more-room (d ≔ source) row known originals adjoints =
       bind-unless (tableRun A setting (derivativeRows (setting .variables) (known .active) d source row known done) _)
       (tableRun A larger (derivativeRows (setting .variables) (known .active) d source row known done) _) _ _
-      (more-room-same-in-the-large A setting values turns moreValues moreTurns (derivativeRows (setting .variables) (known .active) d source row known done) _)
+      (more-room-same-in-the-large A setting values turns moreValues moreTurns
+      (derivativeRows (setting .variables) (known .active) d source row known done) _)
       (λ x unstuck. refl)
 
   swept-in-more-room : (known : ℕ → Assignment → Activity) (trace : List (Executed A)) (adjoints : List (A .Carrier))
@@ -57,5 +59,6 @@ module _ (A : Arithmetic) (sheet : Sheet) (starts seeds : List (A .Carrier)) whe
       → idealIn values turns ≡ idealIn values′ turns′
   unfolding settingOf
   ideal-in-any-room values turns values′ turns′ unstuck unstuck′ =
-      sym (ideal-in-more-room A (settingOf A sheet seeds values turns) (values + values′) (turns + turns′) (omega arith) (omega arith) sheet starts unstuck)
-      ∙ ideal-in-more-room A (settingOf A sheet seeds values′ turns′) (values + values′) (turns + turns′) (omega arith) (omega arith) sheet starts unstuck′
+      let in-both = ideal-in-more-room A (settingOf A sheet seeds values turns) (values + values′) (turns + turns′) (omega arith) (omega arith) in
+      let in-both′ = ideal-in-more-room A (settingOf A sheet seeds values′ turns′) (values + values′) (turns + turns′) (omega arith) (omega arith) in
+      sym (in-both sheet starts unstuck) ∙ in-both′ sheet starts unstuck′

@@ -6,6 +6,7 @@ pub mod TableBoundReached
 -- demand 1: each refusal exactly when
 pub mod FirstFailing
 pub mod SectionsJudged
+pub mod LinesJudged
 pub mod RowsJudged
 pub mod ReadingExactlyWhen
 pub mod StartExactlyWhen
@@ -26,6 +27,7 @@ pub mod Undoing
 pub mod BackwardRest
 pub mod Replay
 pub mod MachineLogs
+pub mod MoreRoom
 pub mod Heights
 pub mod IdealRooms
 pub mod StopRow
@@ -41,6 +43,7 @@ pub mod EquationTwoSolved
 pub mod ResidueDerivatives
 pub mod ResiduesGo
 pub mod LeanStep
+pub mod LeanSweep
 pub mod EquationTwoHolds
 pub mod AuditSolves
 pub mod DemandTwoHolds

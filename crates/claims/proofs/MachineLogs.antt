@@ -38,6 +38,7 @@ module _ (A : Arithmetic) (setting : Setting A) where
       let few = h .few in
       let more = n - h .steps in
       let split : n ≡ h .steps + more = omega arith in
-      let last = nothing-noted-after lines (0 + rows table) (past-tree lines 0 table [] refl) [] more (tableRun A setting table memory) _ (h .lands) in
+      let behind = past-tree lines 0 table [] refl in
+      let last = nothing-noted-after lines (0 + rows table) behind [] more (tableRun A setting table memory) _ (h .lands) in
       ap (λ m. machineLog A m setting lines start) split ∙ log-add A setting lines (h .steps) more start
       ∙ ap (machineLog A (h .steps) setting lines start ++_) last ∙ append-nil _ ∙ h .notes

@@ -79,7 +79,8 @@ unfolding savedValues recordedBy required progressE
 E-saves = refl
 
 -- Each turn's sum reads no original; each turn's product reads x twice: 2 in the second turn, which is taken back first, and 1 in the first.
-E-reads : map (λ entry. entry .reads) (sweptLog residues (settingOf residues sheetE (1 ∷ 0 ∷ []) 2 0) (activityAt (varied sheetE) (useful sheetE)) (progressE .trace)
+E-reads : map (λ entry. entry .reads)
+    (sweptLog residues (settingOf residues sheetE (1 ∷ 0 ∷ []) 2 0) (activityAt (varied sheetE) (useful sheetE)) (progressE .trace)
     (seeded residues (sheetE .roles) (1 ∷ 0 ∷ []) ++ (0 ∷ 0 ∷ [])))
     ≡ [] ∷ [] ∷ [] ∷ [] ∷ [] ∷ [] ∷ (2 ∷ []) ∷ [] ∷ (2 ∷ []) ∷ [] ∷ [] ∷ [] ∷ [] ∷ [] ∷ [] ∷ [] ∷ (1 ∷ []) ∷ [] ∷ (1 ∷ []) ∷ [] ∷ []
 unfolding sweptLog settingOf activityAt varied useful progressE seeded residue

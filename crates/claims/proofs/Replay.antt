@@ -1,7 +1,7 @@
 -- The backward part, for any choice of saved rows that includes the recorded ones: it takes the executed assignments in reverse, each by
 -- its derivative rows, as if the values were what they were just before that assignment. Every value that these rows read is that value.
 use Prim.Native.Nat.{ℕ, zero, suc, _+_}
-use mathlib.Core.Path.{_≡_, refl, sym, ap, subst, _∙_}
+use mathlib.Core.Path.{_≡_, refl, ap, subst, _∙_}
 use mathlib.Core.Bool.{Bool, true, false}
 use mathlib.Core.List.{List, [], _++_}
 use lib.ListN.{length, set}
@@ -89,7 +89,8 @@ module _ (known : ℕ → Assignment → Activity) (saved : ℕ → Assignment �
           (undo known saved at A setting copied k p d source s x others next rest n named
           (restored-on-less A (λ i w. enough-covers kk (suc p) (h .1) i (rw (h .0) w)) now) covers)
         where
-          combine : Undone known saved at A setting copied p (d ≔ source) s m others next rest → Retraces (one (d ≔ source) kk) p s e originals adjoints rest
+          combine : Undone known saved at A setting copied p (d ≔ source) s m others next rest
+              → Retraces (one (d ≔ source) kk) p s e originals adjoints rest
           combine (undone olds final then earlier g after) =
               retraced olds final then (log ++ earlier)
               (sw ∙ ap (λ y. noting A log (inTurn A y (sweep (s .trace)))) g ∙ noting-more A log earlier _)
@@ -104,7 +105,8 @@ module _ (known : ℕ → Assignment → Activity) (saved : ℕ → Assignment �
     -- the inner part is a tree `a` at `pa`, run from s to m; w is where what follows, `kk` at `pk`, began
     module _ (t a kk : Tree Assignment Test) (p pa pk : ℕ) (s m w e : Progress A) (originals adjoints : List (A .Carrier)) (rest opening : Table)
         (same : sweep (w .trace) ≡ sweep (m .trace))
-        (whole : account A setting (back t p rest) (memory originals adjoints e) ≡ account A setting (back kk pk opening) (memory originals adjoints e))
+        (whole : account A setting (back t p rest) (memory originals adjoints e)
+        ≡ account A setting (back kk pk opening) (memory originals adjoints e))
         (opens : (others next : List (A .Carrier)) → account A setting opening (memory others next w)
         ≡ inTurn A (account A setting (back a pa done) (memory others next m)) (account A setting rest))
         (covered : enough t p ⊆ enough a pa)

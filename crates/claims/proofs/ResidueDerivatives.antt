@@ -183,7 +183,8 @@ module _ (setting : Setting residues) (originals : List ℕ) (sized : length ori
     went-same : (g h : ℕ → ℕ) (table rest : Table) (α : List ℕ) → ((x : ℕ) → g x ≡ h x) → Went g table rest α → Went h table rest α
     went-same g h table rest α e w = record { after = w .after; goes = w .goes; gained = gained-same g h (w .after) e (w .gained) }
 
-    then-went : (g h : ℕ → ℕ) (table middle rest : Table) (α : List ℕ) (w : Went g table middle α) → Went h middle rest (w .after) → Went h table rest α
+    then-went : (g h : ℕ → ℕ) (table middle rest : Table) (α : List ℕ) (w : Went g table middle α)
+        → Went h middle rest (w .after) → Went h table rest α
     then-went g h table middle rest α w w′ = record { after = w′ .after; goes = w .goes ∙ w′ .goes; gained = w′ .gained }
 
     -- one row that adds, only if

@@ -1,7 +1,7 @@
 -- In residues no operation stops: every execution goes through.
 use Prim.Native.Nat.{ℕ}
 use mathlib.Core.Path.{_≡_}
-use mathlib.Core.List.{List, []}
+use mathlib.Core.List.{List}
 use lib.ListN.{length}
 use Rattle.number.specs.Residues.{residues}
 use Rattle.sheet.specs.Names.{Present}

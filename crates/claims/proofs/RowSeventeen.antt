@@ -35,5 +35,6 @@ module _ (A : Arithmetic) where
       let tail = replicate (v + 2) (A .zero) in
       let taken : take v (store ++ tail) ≡ store = take-at store tail v n in
       let twice : 2 * v ≡ length store + v = omega arith in
-      let left : drop (2 * v) (store ++ tail) ≡ A .zero ∷ A .zero ∷ [] = ap (λ k. drop k (store ++ tail)) twice ∙ drop-append-add store tail v ∙ drop-zeros v 2 in
+      let left : drop (2 * v) (store ++ tail) ≡ A .zero ∷ A .zero ∷ [] =
+      ap (λ k. drop k (store ++ tail)) twice ∙ drop-append-add store tail v ∙ drop-zeros v 2 in
       rw (taken, left, append-assoc) refl

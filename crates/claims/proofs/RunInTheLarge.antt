@@ -36,7 +36,7 @@ use Rattle.claims.specs.SavedRows.{savedValues}
 use Rattle.claims.specs.WholeRun.{Matches}
 use Rattle.claims.proofs.Runs.{Runs, runs}
 use Rattle.claims.proofs.RunsKeepSizes.{runs-keep}
-use Rattle.claims.proofs.Accounts.{Account, account, sweeping}
+use Rattle.claims.proofs.Accounts.{account}
 use Rattle.claims.proofs.ExecutionReady.{executed-ready}
 use Rattle.claims.proofs.Forward.{body, memoryWith, forward-executes}
 use Rattle.claims.proofs.ForwardLog.{forward-notes-nothing}
@@ -97,14 +97,16 @@ module _ (A : Arithmetic) where
     enough = (omega (arith, is .values), omega (arith, is .turns))
 
     pub forward-part : (rest : Table)
-        → tableRun A setting (forwardPart marks rest) (memory (beginning A starts)) ≡ (execution A sheet starts >>= λ e. tableRun A setting rest (memory e))
+        → tableRun A setting (forwardPart marks rest) (memory (beginning A starts))
+        ≡ (execution A sheet starts >>= λ e. tableRun A setting rest (memory e))
     unfolding settingOf execution
     forward-part rest =
         forward-executes (knownIn sheet) saved A setting (length (sheet .constants)) (replicate (variablesOf sheet + 2) (A .zero)) []
         (sheet .body) 0 (beginning A starts) rest present (is .started) enough
 
     pub forward-notes : (rest : Table)
-        → tableLog A setting (forwardPart marks rest) (memory (beginning A starts)) ≡ onThrough A (execution A sheet starts) (λ e. tableLog A setting rest (memory e))
+        → tableLog A setting (forwardPart marks rest) (memory (beginning A starts))
+        ≡ onThrough A (execution A sheet starts) (λ e. tableLog A setting rest (memory e))
     unfolding settingOf execution
     forward-notes rest =
         forward-notes-nothing A setting (knownIn sheet) saved (length (sheet .constants)) (replicate (variablesOf sheet + 2) (A .zero)) []
@@ -137,7 +139,8 @@ module _ (A : Arithmetic) where
 
       abbrev Back : Type 0
       Back =
-          Retraces (knownIn sheet) saved (setAt (required sheet)) A setting (e .store) (sheet .body) 0 (beginning A starts) e (e .store) adjoints₀ done
+          Retraces (knownIn sheet) saved (setAt (required sheet)) A setting (e .store) (sheet .body) 0 (beginning A starts) e
+          (e .store) adjoints₀ done
 
       backward-part : Back
       unfolding settingOf
@@ -151,7 +154,8 @@ module _ (A : Arithmetic) where
       unfolding tableLog sweptLog settingOf
       turning-notes = ap (λ x. x .log) turning-comes ∙ by-end backward-part
         where
-          by-end : Back → tableLog A setting (backwardPart (variablesOf sheet) marks done) turned ≡ sweptLog A setting (knownIn sheet) (e .trace) adjoints₀
+          by-end : Back
+              → tableLog A setting (backwardPart (variablesOf sheet) marks done) turned ≡ sweptLog A setting (knownIn sheet) (e .trace) adjoints₀
           by-end (retraced originals adjoints then log sw goes) = ap (λ x. x .log) goes ∙ sym (ap (λ x. x .log) sw)
           by-end (cutShort stop log sw goes) = ap (λ x. x .log) goes ∙ sym (ap (λ x. x .log) sw)
 

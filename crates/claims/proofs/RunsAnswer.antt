@@ -12,11 +12,10 @@ use Rattle.sheet.specs.Tree.{RowNumber}
 use Rattle.sheet.specs.Refusals.{given, numberOf}
 use Rattle.sheet.specs.Reading.{Sheet, variablesOf, read}
 use Rattle.run.specs.Attempts.{Attempt, through, halted, stuck}
-use Rattle.run.specs.Actions.{Setting}
 use Rattle.run.specs.Machine.{Ending, gotStuck}
 use Rattle.run.specs.Calls.{Lent, Ran, settingOf, resultOf, ranTo, run}
 use Rattle.run.specs.InTheLarge.{Stop}
-use Rattle.claims.specs.ExactlyWhen.{Runnable, endingOf}
+use Rattle.claims.specs.ExactlyWhen.{Runnable}
 use Rattle.claims.specs.IdealSweep.{Ideal, ideal}
 use Rattle.claims.specs.WholeRun.{runSaving, Room, Matches, AnswersAs, SameOutcome, bothEnd, bothStop}
 use Rattle.claims.proofs.IdealRooms.{ideal-in-any-room}
