@@ -40,8 +40,8 @@ in-turn part stuck memory rest next after e h = rw e refl
 -- ---- the marks of a choice of saved rows
 
 -- the machine's memory: these originals, what stands behind them, and what an execution has saved so far
-abbrev pub memoryWith : (A : Arithmetic) → (saved : ℕ → Assignment → Bool) → (originals beyond copied : List (A .Carrier)) → Progress A → Memory A
-memoryWith A saved originals beyond copied now =
+abbrev pub memoryWith : (A : Arithmetic) → (saved : ℕ → Assignment → Bool) → (copied originals beyond : List (A .Carrier)) → Progress A → Memory A
+memoryWith A saved copied originals beyond now =
     record { store = originals ++ beyond; values = savedValues A saved (now .trace); turns = map turnWord (now .turns); copied = copied }
 
 module _ (known : ℕ → Assignment → Activity) (saved : ℕ → Assignment → Bool) where
@@ -110,7 +110,7 @@ module _ (known : ℕ → Assignment → Activity) (saved : ℕ → Assignment �
     module _ (setting : Setting A) (k : ℕ) (tail copied : List (A .Carrier)) where
       -- where the forward part has come so far
       abbrev memory : Progress A → Memory A
-      memory now = memoryWith A saved (now .store) tail copied now
+      memory now = memoryWith A saved copied (now .store) tail now
 
       -- room on both stacks for what is still to come
       abbrev Room : Progress A → (values turns : ℕ) → Type 0

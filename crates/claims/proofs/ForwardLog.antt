@@ -99,7 +99,7 @@ module _ (A : Arithmetic) where
 
     module _ (known : ℕ → Assignment → Activity) (saved : ℕ → Assignment → Bool) (k : ℕ) (tail copied : List (A .Carrier)) where
       abbrev memory : Progress A → Memory A
-      memory now = memoryWith A saved (now .store) tail copied now
+      memory now = memoryWith A saved copied (now .store) tail now
 
       pub forward-notes-nothing : (t : Tree Assignment Test) (p : ℕ) (now : Progress A) (rest : Table) → Present (setting .variables) k t
           → length (now .store) ≡ setting .variables

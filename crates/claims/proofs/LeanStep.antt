@@ -19,7 +19,7 @@ use Rattle.sets.specs.Transfers.{firstRead, secondRead, anyRead, reads, variedA
 use Rattle.sets.proofs.Truths.{of-T}
 use Rattle.sets.proofs.VariableSetLaws.{single-has, without-has, union-left, union-right}
 use Rattle.claims.proofs.EquationTwoSolved.{eqb-same, eqb-other, firstFactor, secondFactor, share, gain, fullStep}
-use Rattle.claims.proofs.ResidueDerivatives.{variedGain, leanGain, cleared, Grown}
+use Rattle.claims.proofs.LeanGain.{variedGain, leanGain, cleared, Grown}
 
 -- the full and the lean adjoints at a point of the sheet, of so many variables; lean ones with t and u
 pub record Agrees (varied useful : VariableSet) (variables : ℕ) (full : ℕ → ℕ) (lean : List ℕ) : Type 0 where

@@ -40,6 +40,7 @@ pub mod DemandThreeHolds
 pub mod DemandOneHolds
 -- demand 2: equation (2)
 pub mod EquationTwoSolved
+pub mod LeanGain
 pub mod ResidueDerivatives
 pub mod ResiduesGo
 pub mod LeanStep

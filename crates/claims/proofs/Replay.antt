@@ -55,7 +55,7 @@ module _ (known : ℕ → Assignment → Activity) (saved : ℕ → Assignment �
     v = setting .variables
 
     abbrev memory : (originals adjoints : List (A .Carrier)) → Progress A → Memory A
-    memory originals adjoints now = memoryWith A saved originals adjoints copied now
+    memory = memoryWith A saved copied
 
     abbrev sweep : List (Executed A) → List (A .Carrier) → Account A (List (A .Carrier))
     sweep = sweeping A setting known

@@ -14,15 +14,16 @@ use Rattle.number.proofs.ResidueLaws.{residue-below, residue-same, residue-sum-
 use Rattle.sheet.specs.Tree.{done, RowNumber}
 use Rattle.sheet.specs.Rows.{_≔_, Source, copy, fixed, sum, difference, product, negation}
 use Rattle.sheet.specs.Names.{SourcePresent}
-use Rattle.sets.specs.Transfers.{firstRead, secondRead, Activity}
+use Rattle.sets.specs.Transfers.{Activity}
 use Rattle.table.specs.TableRows.{t, u, Action, assign, clear, Operation, holding, clearing, scalingForA, addingToA, scalingForB, addingToB, Table}
 use Rattle.table.specs.Adjoint.{put, putIf, addInto, subtractFrom, scaled, partsOf, derivativeRows}
 use Rattle.run.specs.Attempts.{through, look, replaced}
 use Rattle.run.specs.Actions.{Memory, Setting, acted}
 use Rattle.run.specs.InTheLarge.{tableRun}
 use Rattle.claims.specs.IdealSweep.{derivedBy}
+use Rattle.claims.proofs.LeanGain.{variedGain, leanGain, cleared, Grown}
 use Rattle.claims.proofs.Stores.{is-below, known-at, at-first-part, at-second-part, set-second-part}
-use Rattle.claims.proofs.EquationTwoSolved.{eqb-same, eqb-other, firstFactor, secondFactor, share}
+use Rattle.claims.proofs.EquationTwoSolved.{eqb-same, eqb-other}
 
 -- a list of residues, one of them replaced
 set-below : (α : List ℕ) (i y : ℕ) → i < length α → y < modulus → ((x : ℕ) → getD α x 0 < modulus) → (x : ℕ) → getD (set α i y) x 0 < modulus
@@ -32,29 +33,7 @@ set-below α i y h k below x = by-case (ℕ-discrete x i)
     by-case (yes e) = rw (e, getD-set-same α i y 0 h) k
     by-case (no d) = rw (getD-set-other α i x y 0 d) (below x)
 
--- ---- what an assignment's derivative rows are to add
-
--- what the operands that are varied gain
-unfoldable pub variedGain : Activity → Source → (before : List ℕ) → (bar x : ℕ) → ℕ
-unfolding firstRead secondRead firstFactor secondFactor
-variedGain known source before bar x =
-    cond (known .variedA) (share (firstRead source) (firstFactor source before * bar) x) 0
-    + cond (known .variedB) (share (secondRead source) (secondFactor source before * bar) x) 0
-
--- only if the row is active
-unfoldable pub leanGain : Activity → Source → (before : List ℕ) → (bar x : ℕ) → ℕ
-unfolding variedGain
-leanGain known source before bar x = cond (known .active) (variedGain known source before bar x) 0
-
--- the adjoints with d̄ cleared
-abbrev pub cleared : ℕ → List ℕ → ℕ → ℕ
-cleared d α x = cond (eqb d x) 0 (getD α x 0)
-
--- V adjoints, t and u, all residues, and what each adjoint is
-pub record Grown (variables : ℕ) (adjoint : ℕ → ℕ) (α : List ℕ) : Type 0 where
-  pub size : length α ≡ variables + 2
-  pub below : (x : ℕ) → getD α x 0 < modulus
-  pub each : (x : ℕ) → x < variables → getD α x 0 ≡ residue (adjoint x)
+-- ---- what an assignment's operands gain, summed
 
 one-gain : (m : ℕ) (b : Bool) → 0 + m ≡ m + cond b 0 0
 one-gain m true = omega arith

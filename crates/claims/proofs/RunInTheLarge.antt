@@ -58,7 +58,7 @@ turningOf sheet saved = one (record { origin = ofTurningRound; action = turnRoun
 module _ (A : Arithmetic) where
   -- on the way to row 17 adjoints, t and u are 0, and nothing has been copied
   abbrev pub memoryAt : Sheet → (ℕ → Assignment → Bool) → Progress A → Memory A
-  memoryAt sheet saved now = memoryWith A saved (now .store) (replicate (variablesOf sheet + 2) (A .zero)) [] now
+  memoryAt sheet saved now = memoryWith A saved [] (now .store) (replicate (variablesOf sheet + 2) (A .zero)) now
 
   -- what a run of an accepted sheet goes by
   pub record Prepared (words : List ℕ) (sheet : Sheet) (saved : ℕ → Assignment → Bool) (starts : List (A .Carrier)) (valueRoom turnRoom : ℕ)
@@ -130,7 +130,7 @@ module _ (A : Arithmetic) where
 
       -- where the backward part begins
       abbrev turned : Memory A
-      turned = memoryWith A saved (e .store) adjoints₀ (e .store) e
+      turned = memoryWith A saved (e .store) (e .store) adjoints₀ e
 
       turning-comes : account A setting turning (memory e) ≡ account A setting (backwardPart (variablesOf sheet) marks done) turned
       unfolding tableRun tableLog acted settingOf

@@ -1,7 +1,6 @@
 -- The row that a stop reports is the table row that was stopped: its origin is the stop's, and its operation is what the arithmetic refused.
 use Prim.Native.Nat.{ℕ, zero, suc}
 use mathlib.Core.Path.{_≡_, refl, subst}
-use Rattle.run.specs.Machine.{Ending, finished, gotStuck, outOfFuel}
 use mathlib.Core.Bool.{Bool, true, false}
 use mathlib.Core.List.{List, [], _∷_}
 use mathlib.Core.Option.{Option, none, some}
@@ -11,7 +10,7 @@ use Rattle.sheet.specs.Tree.{basic, ifLine, elseLine, endIf, repeat, endRepeat,
 use Rattle.table.specs.TableRows.{TableRow, TableLine, Origin}
 use Rattle.run.specs.Attempts.{Attempt, through, halted, stuck}
 use Rattle.run.specs.Actions.{Memory, Setting, Verdict, acted, tested}
-use Rattle.run.specs.Machine.{State, Step, goesOn, ended, stops, sticks, Repeat, oneMore, itsElse, itsEnd, seek, jump, afterAction, branchTo, afterTest, afterTurn, stepAt, step, stoppedAt, runFor}
+use Rattle.run.specs.Machine.{Ending, finished, gotStuck, outOfFuel, State, Step, goesOn, ended, stops, sticks, Repeat, oneMore, itsElse, itsEnd, seek, jump, afterAction, branchTo, afterTest, afterTurn, stepAt, step, stoppedAt, runFor}
 use Rattle.run.proofs.MachineFollows.{endingFrom, run-step}
 use Rattle.claims.specs.Demands.{StoppedThere}
 

@@ -19,7 +19,7 @@ use Rattle.sets.proofs.VariableSetLaws.{union-has, without-has, union-left, uni
 use Rattle.table.specs.TableRows.{Table}
 use Rattle.table.specs.Adjoint.{derivativeRows, backwardOf}
 use Rattle.run.specs.Attempts.{through}
-use Rattle.run.specs.Actions.{Memory, Setting, acted}
+use Rattle.run.specs.Actions.{Setting, acted}
 use Rattle.run.specs.InTheLarge.{Stop, tableRun}
 use Rattle.run.specs.RowReads.{Entry, tableLog}
 use Rattle.claims.specs.Execution.{Progress, onward}
@@ -98,9 +98,6 @@ module _ (known : ℕ → Assignment → Activity) (saved : ℕ → Assignment �
       abbrev v : ℕ
       v = setting .variables
 
-      abbrev memory : (originals adjoints : List (A .Carrier)) → Progress A → Memory A
-      memory originals adjoints now = memoryWith A saved originals adjoints copied now
-
       -- the assignment's derivative rows in the ideal sweep
       abbrev ideally : ℕ → Assignment → (before adjoints : List (A .Carrier)) → Account A (List (A .Carrier))
       ideally p b before adjoints = derived A setting b (record { index = p }) (known p b) before adjoints
@@ -108,10 +105,11 @@ module _ (known : ℕ → Assignment → Activity) (saved : ℕ → Assignment �
       pub data Undone (p : ℕ) (b : Assignment) (s m : Progress A) (originals adjoints : List (A .Carrier)) (rest : Table) : Type 0 where
         undone : (others next : List (A .Carrier)) → Restored A v (at p) others next (s .store) → (log : List (Entry A))
             → ideally p b (s .store) adjoints ≡ record { log = log; outcome = through next }
-            → account A setting (rowsBack v p b rest) (memory originals adjoints m) ≡ noting A log (account A setting rest (memory others next s))
+            → account A setting (rowsBack v p b rest) (memoryWith A saved copied originals adjoints m)
+            ≡ noting A log (account A setting rest (memoryWith A saved copied others next s))
             → Undone p b s m originals adjoints rest
         stopped : (stop : Stop A) (log : List (Entry A)) → ideally p b (s .store) adjoints ≡ stopping A log stop
-            → account A setting (rowsBack v p b rest) (memory originals adjoints m) ≡ stopping A log stop
+            → account A setting (rowsBack v p b rest) (memoryWith A saved copied originals adjoints m) ≡ stopping A log stop
             → Undone p b s m originals adjoints rest
 
       module _ (k p d : ℕ) (source : Source) (s : Progress A) (x : A .Carrier) (originals adjoints : List (A .Carrier)) (rest : Table)
@@ -131,8 +129,8 @@ module _ (known : ℕ → Assignment → Activity) (saved : ℕ → Assignment �
 
         -- the derivative rows, once the originals agree on what is needed
         derive : (others : List (A .Carrier)) → length others ≡ v → Agree A others (s .store) needed
-            → account A setting (rowsBack v p (d ≔ source) rest) (memory originals adjoints m)
-            ≡ account A setting (derivativeRows v (is .active) d source (record { index = p }) is rest) (memory others adjoints s)
+            → account A setting (rowsBack v p (d ≔ source) rest) (memoryWith A saved copied originals adjoints m)
+            ≡ account A setting (derivativeRows v (is .active) d source (record { index = p }) is rest) (memoryWith A saved copied others adjoints s)
             → Goal
         unfolding AssignmentPresent
         derive others size fit e =
@@ -144,8 +142,8 @@ module _ (known : ℕ → Assignment → Activity) (saved : ℕ → Assignment �
             against (derives next z log f g) =
                 undone others next
                 (record { size = size; adjointSize = z; agree = λ i h. fit i (union-left (at p) (adjointUse source is) i h) })
-                log g (e ∙ f (memory others adjoints s) rest)
-            against (breaks stop log f g) = stopped stop log g (e ∙ f (memory others adjoints s) rest)
+                log g (e ∙ f (memoryWith A saved copied others adjoints s) rest)
+            against (breaks stop log f g) = stopped stop log g (e ∙ f (memoryWith A saved copied others adjoints s) rest)
 
         pub undo : Covers known saved at → Goal
         unfolding savedValues backwardOf tableRun tableLog acted AssignmentPresent
