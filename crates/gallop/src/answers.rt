@@ -1,18 +1,14 @@
 // Answer lines, put together in a buffer: each function answers how much of it is used.
+use super::fields::BITS_DIGITS;
+use super::fields::Form;
 use super::lend;
-use super::pattern;
+use super::widths;
 use libc::STDOUT_FILENO;
 
-// Room for the longest answer, a table of 18,437 words.
-pub const MAX_ANSWER: usize = 131_072;
+// Room for the longest answer, the longest table: a word takes six bytes at most, number, place and end not more than 32.
+pub const MAX_ANSWER: usize = 32 + 6 * (1 + sheet::ROW_WORDS * table::MAX_TABLE_ROWS);
 
-fn wide(word: u16) -> u64 {
-    word as u64
-}
-
-fn wide_residue(residue: u32) -> u64 {
-    residue as u64
-}
+const MAX_DIGITS: usize = 20;
 
 fn put_byte(out: &mut [u8; MAX_ANSWER], used: usize, byte: u8) -> usize {
     if used < MAX_ANSWER {
@@ -32,49 +28,47 @@ pub fn put_text(out: &mut [u8; MAX_ANSWER], used: usize, text: &[u8]) -> usize {
     end
 }
 
-pub fn put_number(out: &mut [u8; MAX_ANSWER], used: usize, number: u64) -> usize {
-    let mut digits = [0u8; 20];
+fn put_decimal(out: &mut [u8; MAX_ANSWER], used: usize, number: u64) -> usize {
+    let mut digits = [0u8; MAX_DIGITS];
     let count = io::decimal(number, &mut digits);
     put_text(out, used, &digits[..count])
 }
 
+// A space and the number.
 pub fn put_spaced(out: &mut [u8; MAX_ANSWER], used: usize, number: u64) -> usize {
     let end = put_byte(out, used, b' ');
-    put_number(out, end, number)
+    put_decimal(out, end, number)
 }
 
-fn put_double(out: &mut [u8; MAX_ANSWER], used: usize, x: f64) -> usize {
+fn put_bits(out: &mut [u8; MAX_ANSWER], used: usize, bits: u64) -> usize {
     let end = put_byte(out, used, b' ');
-    let mut digits = [0u8; 16];
-    let count = io::hex(pattern::bits_of(x), 16, &mut digits);
+    let mut digits = [0u8; BITS_DIGITS];
+    let count = io::hex(bits, BITS_DIGITS, &mut digits);
     put_text(out, end, &digits[..count])
+}
+
+fn put_number(out: &mut [u8; MAX_ANSWER], used: usize, number: u64, form: Form) -> usize {
+    match form {
+        Form::Decimal(_) => put_spaced(out, used, number),
+        Form::Bits => put_bits(out, used, number),
+    }
 }
 
 pub fn put_words(out: &mut [u8; MAX_ANSWER], used: usize, words: &[u16]) -> usize {
     let mut end = put_text(out, used, b" /");
     let mut at: usize = 0;
     while at < words.len() {
-        end = put_spaced(out, end, wide(words[at]));
+        end = put_spaced(out, end, widths::from_word(words[at]));
         at += 1;
     }
     end
 }
 
-pub fn put_residues(out: &mut [u8; MAX_ANSWER], used: usize, residues: &[u32]) -> usize {
+pub fn put_numbers(out: &mut [u8; MAX_ANSWER], used: usize, numbers: &[u64], form: Form) -> usize {
     let mut end = put_text(out, used, b" /");
     let mut at: usize = 0;
-    while at < residues.len() {
-        end = put_spaced(out, end, wide_residue(residues[at]));
-        at += 1;
-    }
-    end
-}
-
-pub fn put_doubles(out: &mut [u8; MAX_ANSWER], used: usize, doubles: &[f64]) -> usize {
-    let mut end = put_text(out, used, b" /");
-    let mut at: usize = 0;
-    while at < doubles.len() {
-        end = put_double(out, end, doubles[at]);
+    while at < numbers.len() {
+        end = put_number(out, end, numbers[at], form);
         at += 1;
     }
     end
@@ -82,7 +76,7 @@ pub fn put_doubles(out: &mut [u8; MAX_ANSWER], used: usize, doubles: &[f64]) -> 
 
 // Number and place, the start of every answer.
 pub fn put_answer(out: &mut [u8; MAX_ANSWER], number: u16, place: usize) -> usize {
-    let used = put_number(out, 0, number as u64);
+    let used = put_decimal(out, 0, number as u64);
     put_spaced(out, used, place as u64)
 }
 

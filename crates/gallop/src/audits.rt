@@ -1,177 +1,64 @@
-// The request `audit`: a run in residues. The request `double` is a module of the same shape, since Rattle has no generics.
-ghost use Rattle.gallop.specs.Lines.{Taken};
-use super::answers;
-use super::answers::MAX_ANSWER;
-use super::fields;
-use super::fields::Form;
-use super::fields::Group;
+// A run in residues, on numbers of 64 bits. `doubles` is a module of the same shape, since Rattle has no generics.
 use super::fields::MAX_FIELDS;
+use super::heads::Asked;
 use super::lend;
-use super::pattern;
-use super::requests;
-use super::requests::Asked;
-use super::requests::Head;
-use super::requests::PLACES;
-use super::requests::RUN_LENGTHS;
-use super::requests::SHEET_WORDS;
-use super::requests::TABLE_WORDS;
-use super::runs;
+use super::lend::PLACES;
+use super::widths;
 use table::Answer;
 
-const MAX_RESIDUE: u64 = 0xFFFF_FFFF;
-
-fn narrow(number: u64) -> u32 {
-    (number % (MAX_RESIDUE + 1)) as u32
-}
-
-fn take_residues(numbers: &[u64; MAX_FIELDS], residues: &mut [u32; MAX_FIELDS]) {
+// The residues of the numbers, as many as there are; the other places stay.
+fn take_residues(numbers: &[u64], residues: &mut [u32]) {
     let mut at: usize = 0;
-    while at < MAX_FIELDS {
-        residues[at] = narrow(numbers[at]);
+    while at < numbers.len() {
+        if residues.len() <= at {
+            return;
+        }
+        residues[at] = widths::to_residue(numbers[at]);
         at += 1;
     }
 }
 
-// A group of residues, start values or seeds.
-fn read_residues(
-    line: &[u8],
-    from: usize,
-    numbers: &mut [u64; MAX_FIELDS],
-    residues: &mut [u32; MAX_FIELDS],
-) -> Group
-    requires { ⌜ Taken (now line) ⌝ }
-{
-    let read = fields::next_group(line, from, Form::Decimal(MAX_RESIDUE), numbers);
-    take_residues(numbers, residues);
-    read
+fn give_residues(residues: &[u32; PLACES], numbers: &mut [u64; PLACES]) {
+    let mut at: usize = 0;
+    while at < PLACES {
+        numbers[at] = widths::from_residue(residues[at]);
+        at += 1;
+    }
 }
 
-// As many as the group has.
-fn given(residues: &[u32; MAX_FIELDS], count: usize) -> &[u32] {
-    lend::first_residues(residues, count)
-}
-
-// The run on as much of each buffer as was asked for.
-fn run_lent(
+// The value stack and the result are lent up to the lengths asked for.
+pub fn run_audit(
     words: &[u16],
     asked: Asked,
     table: &mut [u16],
-    values: &mut [u32],
+    values: &mut [u64; PLACES],
     turns: &mut [u16],
-    starts: &[u32],
-    seeds: &[u32],
-    result: &mut [u32],
+    starts: &[u64],
+    seeds: &[u64],
+    result: &mut [u64; PLACES],
 ) -> Answer {
-    let room = lend::lent(asked.room, table.len());
-    let for_values = lend::lent(asked.values, values.len());
-    let for_turns = lend::lent(asked.turns, turns.len());
-    let for_result = lend::lent(asked.result, result.len());
-    run::run_audit(
+    let mut value_cells = [0u32; PLACES];
+    let mut start_cells = [0u32; MAX_FIELDS];
+    let mut seed_cells = [0u32; MAX_FIELDS];
+    let mut result_cells = [0u32; PLACES];
+    take_residues(values, &mut value_cells);
+    take_residues(starts, &mut start_cells);
+    take_residues(seeds, &mut seed_cells);
+    take_residues(result, &mut result_cells);
+    let value_count = lend::lent(asked.values, PLACES);
+    let start_count = lend::lent(starts.len() as u64, MAX_FIELDS);
+    let seed_count = lend::lent(seeds.len() as u64, MAX_FIELDS);
+    let result_count = lend::lent(asked.result, PLACES);
+    let answer = run::run_audit(
         words,
-        &mut table[..room],
-        &mut values[..for_values],
-        &mut turns[..for_turns],
-        starts,
-        seeds,
-        &mut result[..for_result],
-    )
-}
-
-// Whether all that the answer does not print stands as it must, besides the table.
-fn stands(
-    number: u16,
-    asked: Asked,
-    values: &[u32; PLACES],
-    turns: &[u16; PLACES],
-    result: &[u32; PLACES],
-) -> bool {
-    let values_stand = pattern::residues_stand(values, 0, runs::cleared(number, asked.values));
-    let turns_stand = pattern::words_stand(turns, 0, runs::cleared(number, asked.turns));
-    let result_stands = pattern::residues_stand(result, runs::printed(number, asked.result), 0);
-    values_stand & turns_stand & result_stands
-}
-
-fn put_result(
-    out: &mut [u8; MAX_ANSWER],
-    number: u16,
-    place: usize,
-    asked: Asked,
-    result: &[u32; PLACES],
-) -> usize {
-    let used = answers::put_answer(out, number, place);
-    if number != table::DONE {
-        return used;
-    }
-    answers::put_residues(
-        out,
-        used,
-        lend::first_residues(result, lend::lent(asked.result, PLACES)),
-    )
-}
-
-fn audit_answer(
-    words: &[u16],
-    asked: Asked,
-    starts: &[u32],
-    seeds: &[u32],
-    out: &mut [u8; MAX_ANSWER],
-) -> usize {
-    let mut table = [0u16; TABLE_WORDS];
-    let mut values = [0u32; PLACES];
-    let mut turns = [0u16; PLACES];
-    let mut result = [0u32; PLACES];
-    pattern::fill_words(&mut table);
-    pattern::fill_residues(&mut values);
-    pattern::fill_words(&mut turns);
-    pattern::fill_residues(&mut result);
-    let answer = run_lent(
-        words,
-        asked,
-        &mut table,
-        &mut values,
-        &mut turns,
-        starts,
-        seeds,
-        &mut result,
+        table,
+        &mut value_cells[..value_count],
+        turns,
+        &start_cells[..start_count],
+        &seed_cells[..seed_count],
+        &mut result_cells[..result_count],
     );
-    let number = answer.number;
-    let used = put_result(out, number, answer.place, asked, &result);
-    let buffers_stand = stands(number, asked, &values, &turns, &result);
-    let table_stands = runs::table_stands(words, number, asked.room, &table);
-    answers::put_kept(out, used, buffers_stand & table_stands)
-}
-
-pub fn audit_line(
-    line: &[u8],
-    from: usize,
-    numbers: &mut [u64; MAX_FIELDS],
-    out: &mut [u8; MAX_ANSWER],
-) -> usize
-    requires { ⌜ Taken (now line) ⌝ }
-{
-    let mut words = [0u16; SHEET_WORDS];
-    let Head::More(asked, count, next) = requests::read_head(
-        line,
-        from,
-        RUN_LENGTHS,
-        numbers,
-        &mut words,
-    ) else {
-        return answers::put_bad_line(out);
-    };
-    let mut starts = [0u32; MAX_FIELDS];
-    let Group::Then(start_count, after) = read_residues(line, next, numbers, &mut starts) else {
-        return answers::put_bad_line(out);
-    };
-    let mut seeds = [0u32; MAX_FIELDS];
-    let Group::Last(seed_count) = read_residues(line, after, numbers, &mut seeds) else {
-        return answers::put_bad_line(out);
-    };
-    audit_answer(
-        requests::sheet_of(&words, count),
-        asked,
-        given(&starts, start_count),
-        given(&seeds, seed_count),
-        out,
-    )
+    give_residues(&value_cells, values);
+    give_residues(&result_cells, result);
+    answer
 }

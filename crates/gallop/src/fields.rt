@@ -2,13 +2,14 @@
 ghost use Prim.Native.Nat.{_<_, _≤_};
 ghost use lib.ListN.{length};
 ghost use Rattle.gallop.specs.Lines.{Taken};
+use super::lines::MAX_LINE;
 
 const SPACE: u8 = b' ';
 
 const SLASH: u8 = b'/';
 
-// No line has more fields.
-pub const MAX_FIELDS: usize = 32_768;
+// No line has more fields: each but the first takes a space besides its own bytes.
+pub const MAX_FIELDS: usize = (MAX_LINE + 1) / 2;
 
 // How a field is written: in decimal up to a largest number, or as the 16 digits of a double's bits.
 pub enum Form {
@@ -28,43 +29,47 @@ pub enum Group {
     Bad,
 }
 
-const BITS_DIGITS: usize = 16;
+// A double's bits in hexadecimal.
+pub const BITS_DIGITS: usize = 16;
 
-const NO_DIGIT: u8 = 16;
+const DECIMAL: u64 = 10;
 
-fn digit_of(byte: u8) -> u8 {
+const HEXADECIMAL: u64 = 16;
+
+// The base itself where the byte is no digit of it.
+fn digit_of(byte: u8) -> u64 {
     if byte < b'0' {
-        return NO_DIGIT;
+        return HEXADECIMAL;
     }
     if byte <= b'9' {
-        return byte - b'0';
+        return (byte - b'0') as u64;
     }
     if byte < b'a' {
-        return NO_DIGIT;
+        return HEXADECIMAL;
     }
     if byte <= b'f' {
-        return byte - b'a' + 10;
+        return DECIMAL + (byte - b'a') as u64;
     }
-    NO_DIGIT
+    HEXADECIMAL
 }
 
 // Below this one more digit of either base fits.
 const ROOMY: u64 = 0x1000_0000_0000_0000;
 
 // A number with one digit more, kept at the largest one once it is beyond it.
-fn appended(number: u64, base: u8, digit: u8) -> u64
+fn appended(number: u64, base: u64, digit: u64) -> u64
     requires { ⌜ digit < 16 ⌝ }
 {
     if ROOMY <= number {
         return u64::MAX;
     }
-    if base == 10 {
-        return number * 10 + digit as u64;
+    if base == DECIMAL {
+        return number * DECIMAL + digit;
     }
-    number * 16 + digit as u64
+    number * HEXADECIMAL + digit
 }
 
-fn number_in(base: u8, field: &[u8]) -> Field
+fn number_in(base: u64, field: &[u8]) -> Field
     requires { ⌜ base ≤ 16 ⌝ }
 {
     let mut number: u64 = 0;
@@ -84,7 +89,7 @@ fn decimal(field: &[u8], most: u64) -> Field {
     if field.len() == 0 {
         return Field::Bad;
     }
-    match number_in(10, field) {
+    match number_in(DECIMAL, field) {
         Field::Number(number) => {
             if most < number {
                 Field::Bad
@@ -101,7 +106,7 @@ fn read_field(field: &[u8], form: Form) -> Field {
         Form::Decimal(most) => decimal(field, most),
         Form::Bits => {
             if field.len() == BITS_DIGITS {
-                number_in(16, field)
+                number_in(HEXADECIMAL, field)
             } else {
                 Field::Bad
             }
@@ -182,6 +187,27 @@ fn after_empty(line: &[u8], from: usize) -> usize
     from
 }
 
+// A group that has no more numbers than `most`.
+pub fn at_most(most: usize, group: Group) -> Group {
+    match group {
+        Group::Then(count, next) => {
+            if count <= most {
+                Group::Then(count, next)
+            } else {
+                Group::Bad
+            }
+        }
+        Group::Last(count) => {
+            if count <= most {
+                Group::Last(count)
+            } else {
+                Group::Bad
+            }
+        }
+        Group::Bad => Group::Bad,
+    }
+}
+
 // A group that has no field is written as nothing, or as one empty field.
 pub fn next_group(line: &[u8], from: usize, form: Form, into: &mut [u64; MAX_FIELDS]) -> Group
     requires { ⌜ Taken (now line) ⌝ }
@@ -190,21 +216,5 @@ pub fn next_group(line: &[u8], from: usize, form: Form, into: &mut [u64; MAX_FIE
     if after == from {
         return numbers(line, from, form, into);
     }
-    match numbers(line, after, form, into) {
-        Group::Then(count, next) => {
-            if count == 0 {
-                Group::Then(count, next)
-            } else {
-                Group::Bad
-            }
-        }
-        Group::Last(count) => {
-            if count == 0 {
-                Group::Last(count)
-            } else {
-                Group::Bad
-            }
-        }
-        Group::Bad => Group::Bad,
-    }
+    at_most(0, numbers(line, after, form, into))
 }

@@ -1,8 +1,15 @@
-// The start of a buffer, as long as is asked for, or all of it where more is asked for.
+// The program's buffers: how long they are, and how much of one is lent.
 ghost use Prim.Native.Nat.{_≤_};
 ghost use lib.ListN.{length};
 
-// How much of a buffer is lent.
+pub const SHEET_WORDS: usize = 4_096;
+
+pub const TABLE_WORDS: usize = 32_768;
+
+// Places of each stack, and of a result.
+pub const PLACES: usize = 4_096;
+
+// As much as is asked for, or all that there is.
 pub fn lent(asked: u64, has: usize) -> usize
     ensures { λ r. ⌜ r ≤ has ⌝ }
 {
@@ -12,6 +19,7 @@ pub fn lent(asked: u64, has: usize) -> usize
     has
 }
 
+// The start of a buffer, `count` long, or all of it where it is shorter.
 pub fn first_bytes(buffer: &[u8], count: usize) -> &[u8]
     ensures { λ r. ⌜ length (now r) ≤ count ⌝ }
 {
@@ -28,14 +36,7 @@ pub fn first_words(buffer: &[u16], count: usize) -> &[u16] {
     buffer
 }
 
-pub fn first_residues(buffer: &[u32], count: usize) -> &[u32] {
-    if count <= buffer.len() {
-        return &buffer[..count];
-    }
-    buffer
-}
-
-pub fn first_doubles(buffer: &[f64], count: usize) -> &[f64] {
+pub fn first_numbers(buffer: &[u64], count: usize) -> &[u64] {
     if count <= buffer.len() {
         return &buffer[..count];
     }

@@ -3,11 +3,13 @@ mod answers;
 mod audits;
 mod doubles;
 mod fields;
+mod heads;
 mod lend;
 mod lines;
 mod pattern;
 mod requests;
 mod runs;
+mod widths;
 
 use lines::Line;
 use lines::Waiting;
@@ -16,7 +18,6 @@ use lines::Waiting;
 fn main() {
     let mut read = [0u8; lines::READ_AT_ONCE];
     let mut line = [0u8; lines::MAX_LINE];
-    let mut numbers = [0u64; fields::MAX_FIELDS];
     let mut out = [0u8; answers::MAX_ANSWER];
     let mut waiting = Waiting { at: 0, end: 0 };
     let mut left = u64::MAX;
@@ -24,7 +25,7 @@ fn main() {
         match lines::next_line(&mut read, &mut line, waiting) {
             Line::End => return,
             Line::Is(length, rest) => {
-                let used = requests::answer_line(&line, length, &mut numbers, &mut out);
+                let used = requests::answer_line(&line, length, &mut out);
                 if !answers::send(&out, used) {
                     return;
                 }

@@ -1,18 +1,51 @@
-// What both runs compare after a call: the buffers besides the result.
+// The requests `audit` and `double`. Values, results, start values and seeds are numbers of 64 bits here, so that all but the call itself stands once.
+ghost use Rattle.gallop.specs.Lines.{Taken};
+use super::answers;
+use super::answers::MAX_ANSWER;
+use super::audits;
+use super::doubles;
+use super::fields;
+use super::fields::Form;
+use super::fields::Group;
+use super::fields::MAX_FIELDS;
+use super::heads;
+use super::heads::Asked;
+use super::heads::Lengths;
 use super::lend;
+use super::lend::PLACES;
+use super::lend::SHEET_WORDS;
+use super::lend::TABLE_WORDS;
 use super::pattern;
-use super::requests::PLACES;
-use super::requests::TABLE_WORDS;
+use super::widths;
 use run::NOT_FINITE_RESULT;
 use table::Answer;
 
+pub enum Arithmetic {
+    Residues,
+    Doubles,
+}
+
+fn form_of(arithmetic: Arithmetic) -> Form {
+    match arithmetic {
+        Arithmetic::Residues => Form::Decimal(widths::MAX_RESIDUE),
+        Arithmetic::Doubles => Form::Bits,
+    }
+}
+
+fn pattern_of(arithmetic: Arithmetic) -> u64 {
+    match arithmetic {
+        Arithmetic::Residues => pattern::RESIDUES,
+        Arithmetic::Doubles => pattern::DOUBLES,
+    }
+}
+
 // On 0 and 12 the table was written and the stacks were cleared.
-pub fn has_run(number: u16) -> bool {
+fn has_run(number: u16) -> bool {
     (number == table::DONE) | (number == NOT_FINITE_RESULT)
 }
 
 // How many places of a stack hold zeros after the call.
-pub fn cleared(number: u16, asked: u64) -> usize {
+fn cleared(number: u16, asked: u64) -> usize {
     if has_run(number) {
         return lend::lent(asked, PLACES);
     }
@@ -20,7 +53,7 @@ pub fn cleared(number: u16, asked: u64) -> usize {
 }
 
 // How many places of the result the answer prints.
-pub fn printed(number: u16, asked: u64) -> usize {
+fn printed(number: u16, asked: u64) -> usize {
     if number == table::DONE {
         return lend::lent(asked, PLACES);
     }
@@ -45,11 +78,149 @@ fn same_words(left: &[u16; TABLE_WORDS], right: &[u16; TABLE_WORDS]) -> bool {
 }
 
 // Whether the table's buffer holds what `table::write` makes of one like it, or what it held before.
-pub fn table_stands(words: &[u16], number: u16, room: u64, table: &[u16; TABLE_WORDS]) -> bool {
+fn table_stands(words: &[u16], number: u16, room: u64, table: &[u16; TABLE_WORDS]) -> bool {
     let mut written = [0u16; TABLE_WORDS];
     pattern::fill_words(&mut written);
     if has_run(number) {
         write_lent(words, room, &mut written);
     }
     same_words(table, &written)
+}
+
+fn put_result(
+    out: &mut [u8; MAX_ANSWER],
+    answer: Answer,
+    form: Form,
+    result: &[u64; PLACES],
+    shown: usize,
+) -> usize {
+    let used = answers::put_answer(out, answer.number, answer.place);
+    if answer.number != table::DONE {
+        return used;
+    }
+    answers::put_numbers(out, used, lend::first_numbers(result, shown), form)
+}
+
+// The run on as much of each buffer as is asked for.
+fn run_lent(
+    words: &[u16],
+    asked: Asked,
+    arithmetic: Arithmetic,
+    table: &mut [u16],
+    values: &mut [u64; PLACES],
+    turns: &mut [u16],
+    starts: &[u64],
+    seeds: &[u64],
+    result: &mut [u64; PLACES],
+) -> Answer {
+    let room = lend::lent(asked.room, table.len());
+    let for_turns = lend::lent(asked.turns, turns.len());
+    let lent_table = &mut table[..room];
+    let lent_turns = &mut turns[..for_turns];
+    match arithmetic {
+        Arithmetic::Residues => audits::run_audit(
+            words,
+            asked,
+            lent_table,
+            values,
+            lent_turns,
+            starts,
+            seeds,
+            result,
+        ),
+        Arithmetic::Doubles => doubles::run_double(
+            words,
+            asked,
+            lent_table,
+            values,
+            lent_turns,
+            starts,
+            seeds,
+            result,
+        ),
+    }
+}
+
+fn run_answer(
+    words: &[u16],
+    asked: Asked,
+    arithmetic: Arithmetic,
+    starts: &[u64],
+    seeds: &[u64],
+    out: &mut [u8; MAX_ANSWER],
+) -> usize {
+    let base = pattern_of(arithmetic);
+    let mut table = [0u16; TABLE_WORDS];
+    let mut values = [0u64; PLACES];
+    let mut turns = [0u16; PLACES];
+    let mut result = [0u64; PLACES];
+    pattern::fill_words(&mut table);
+    pattern::fill_numbers(&mut values, base);
+    pattern::fill_words(&mut turns);
+    pattern::fill_numbers(&mut result, base);
+    let answer = run_lent(
+        words,
+        asked,
+        arithmetic,
+        &mut table,
+        &mut values,
+        &mut turns,
+        starts,
+        seeds,
+        &mut result,
+    );
+    let number = answer.number;
+    let shown = printed(number, asked.result);
+    let used = put_result(out, answer, form_of(arithmetic), &result, shown);
+    let table_kept = table_stands(words, number, asked.room, &table);
+    let values_kept = pattern::numbers_stand(&values, base, 0, cleared(number, asked.values));
+    let turns_kept = pattern::words_stand(&turns, 0, cleared(number, asked.turns));
+    let result_kept = pattern::numbers_stand(&result, base, shown, 0);
+    answers::put_kept(
+        out,
+        used,
+        table_kept & values_kept & turns_kept & result_kept,
+    )
+}
+
+// As many start values or seeds as the request has.
+fn given(numbers: &[u64; MAX_FIELDS], count: usize) -> &[u64] {
+    lend::first_numbers(numbers, count)
+}
+
+const RUN_LENGTHS: usize = 4;
+
+pub fn run_line(
+    line: &[u8],
+    from: usize,
+    arithmetic: Arithmetic,
+    out: &mut [u8; MAX_ANSWER],
+) -> usize
+    requires { ⌜ Taken (now line) ⌝ }
+{
+    let form = form_of(arithmetic);
+    let Lengths::Then(asked, at_words) = heads::read_lengths(line, from, RUN_LENGTHS) else {
+        return answers::put_bad_line(out);
+    };
+    let mut words = [0u16; SHEET_WORDS];
+    let Group::Then(count, at_starts) = heads::read_words(line, at_words, &mut words) else {
+        return answers::put_bad_line(out);
+    };
+    let mut starts = [0u64; MAX_FIELDS];
+    let Group::Then(start_count, at_seeds) = fields::next_group(line, at_starts, form, &mut starts)
+    else {
+        return answers::put_bad_line(out);
+    };
+    let mut seeds = [0u64; MAX_FIELDS];
+    let Group::Last(seed_count) = fields::next_group(line, at_seeds, form, &mut seeds) else {
+        return answers::put_bad_line(out);
+    };
+    run_answer(
+        heads::sheet_of(&words, count),
+        asked,
+        arithmetic,
+        given(&starts, start_count),
+        given(&seeds, seed_count),
+        out,
+    )
 }

@@ -12,8 +12,5 @@ slice-aggregate-result c = sym (length-take-le _ _ (omega arith))
 returns : tie.Need-returns
 returns c = omega (arith, length-take-le (c .before .before .args .count) (c .before .before .args .buffer .now) (omega arith))
 
-returns-2 : tie.Need-returns-2
-returns-2 c = search needs
-
 pub first-bytes-spec : {M : Type 1} → statement M
-first-bytes-spec = tie.close (tie.spec slice-aggregate-result returns returns-2)
+first-bytes-spec = tie.close (tie.spec slice-aggregate-result returns (λ c. search needs))

@@ -1,4 +1,4 @@
--- `gallop::pattern::bits_of` is safe: what equals itself is no NaN.
+-- `gallop::widths::from_double` is safe: what equals itself is no NaN.
 use Prim.Native.Nat.{ℕ}
 use mathlib.Core.Bool.{Bool, true, false, not}
 use mathlib.Core.Path.{_≡_}
@@ -6,8 +6,8 @@ use native.Mathlib.Omega.{arith}
 use lib.Dec.{T}
 use lib.Ieee.{Float, nan, inf, fin, eq, isNan}
 use borrow.Author.Needs.{needs}
-use Rattle.gallop.proofs.pattern.bits_of.Statement.{statement}
-use Rattle.gallop.proofs.pattern.bits_of.Tie as tie
+use Rattle.gallop.proofs.widths.from_double.Statement.{statement}
+use Rattle.gallop.proofs.widths.from_double.Tie as tie
 
 -- a NaN is the one double that does not equal itself
 equal-to-itself : (x : Float) → eq x x ≡ true → T (not (isNan x))
@@ -19,11 +19,5 @@ equal-to-itself (fin s m k) e = tt
 float-to-bits-result : tie.Need-float-to-bits-result
 float-to-bits-result c = equal-to-itself (c .before .args .x) (c .if1 .taken)
 
-returns : tie.Need-returns
-returns c = search needs
-
-returns-2 : tie.Need-returns-2
-returns-2 c = search needs
-
-pub bits-of-spec : {M : Type 1} → statement M
-bits-of-spec = tie.close (tie.spec float-to-bits-result returns returns-2)
+pub from-double-spec : {M : Type 1} → statement M
+from-double-spec = tie.close (tie.spec float-to-bits-result (λ c. search needs) (λ c. search needs))

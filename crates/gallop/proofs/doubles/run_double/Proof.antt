@@ -1,0 +1,50 @@
+-- `gallop::doubles::run_double` is safe: each buffer is lent up to a length that lies within it.
+use mathlib.Core.Path.{sym}
+use native.Mathlib.Omega.{arith}
+use lib.Seq.{length-take-le}
+use borrow.Author.Needs.{needs}
+use Rattle.gallop.proofs.doubles.run_double.Statement.{statement}
+use Rattle.gallop.proofs.doubles.run_double.Tie as tie
+
+slice-aggregate-run-double : tie.Need-slice-aggregate-run-double
+slice-aggregate-run-double c = sym (length-take-le _ _ (omega arith))
+
+slice-aggregate-run-double-2 : tie.Need-slice-aggregate-run-double-2
+slice-aggregate-run-double-2 c = sym (length-take-le _ _ (omega arith))
+
+slice-aggregate-run-double-3 : tie.Need-slice-aggregate-run-double-3
+slice-aggregate-run-double-3 c = sym (length-take-le _ _ (omega arith))
+
+slice-aggregate-run-double-4 : tie.Need-slice-aggregate-run-double-4
+slice-aggregate-run-double-4 c = sym (length-take-le _ _ (omega arith))
+
+pub run-double-spec : {M : Type 1} → statement M
+run-double-spec =
+    tie.close
+    (tie.spec
+    (λ c. search needs)
+    (λ c κs. search needs)
+    (λ c. search needs)
+    (λ c κs. search needs)
+    (λ c. search needs)
+    (λ c κs. search needs)
+    (λ c. search needs)
+    (λ c κs. search needs)
+    (λ c κs. search needs)
+    (λ c κs. search needs)
+    (λ c κs. search needs)
+    (λ c κs. search needs)
+    (λ c. search needs)
+    slice-aggregate-run-double
+    (λ c. search needs)
+    slice-aggregate-run-double-2
+    (λ c. search needs)
+    slice-aggregate-run-double-3
+    (λ c. search needs)
+    slice-aggregate-run-double-4
+    (λ c κs. search needs)
+    (λ c κs. search needs)
+    (λ c κs. search needs)
+    (λ c. search needs)
+    (λ c. search needs)
+    (λ c. search needs))

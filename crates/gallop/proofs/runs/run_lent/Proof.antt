@@ -1,0 +1,34 @@
+-- `gallop::runs::run_lent` is safe: each buffer is lent up to a length that lies within it.
+use mathlib.Core.Path.{sym}
+use native.Mathlib.Omega.{arith}
+use lib.Seq.{length-take-le}
+use borrow.Author.Needs.{needs}
+use Rattle.gallop.proofs.runs.run_lent.Statement.{statement}
+use Rattle.gallop.proofs.runs.run_lent.Tie as tie
+
+slice-aggregate-lent-table : tie.Need-slice-aggregate-lent-table
+slice-aggregate-lent-table c = sym (length-take-le _ _ (omega arith))
+
+slice-aggregate-lent-turns : tie.Need-slice-aggregate-lent-turns
+slice-aggregate-lent-turns c = sym (length-take-le _ _ (omega arith))
+
+pub run-lent-spec : {M : Type 1} → statement M
+run-lent-spec =
+    tie.close
+    (tie.spec
+    (λ c κs. search needs)
+    (λ c κs. search needs)
+    (λ c. search needs)
+    slice-aggregate-lent-table
+    (λ c. search needs)
+    slice-aggregate-lent-turns
+    (λ c. search needs)
+    (λ c κs. search needs)
+    (λ c. search needs)
+    (λ c κs. search needs)
+    (λ c. search needs)
+    (λ c. search needs)
+    (λ c. search needs)
+    (λ c. search needs)
+    (λ c. search needs)
+    (λ c. search needs))
