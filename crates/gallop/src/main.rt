@@ -4,6 +4,7 @@ mod audits;
 mod doubles;
 mod fields;
 mod heads;
+mod kept;
 mod lend;
 mod lines;
 mod pattern;

@@ -6,6 +6,7 @@ use super::fields;
 use super::fields::Group;
 use super::heads;
 use super::heads::Lengths;
+use super::kept;
 use super::lend;
 use super::lend::SHEET_WORDS;
 use super::lend::TABLE_WORDS;
@@ -38,7 +39,7 @@ fn table_words(table: &[u16; TABLE_WORDS]) -> usize {
 fn table_answer(words: &[u16], room: u64, out: &mut [u8; MAX_ANSWER]) -> usize {
     let mut table = [0u16; TABLE_WORDS];
     pattern::fill_words(&mut table);
-    let answer = runs::write_lent(words, room, &mut table);
+    let answer = kept::write_lent(words, room, &mut table);
     let used = answers::put_answer(out, answer.number, answer.place);
     if answer.number != table::DONE {
         let kept = pattern::words_stand(&table, 0, 0);

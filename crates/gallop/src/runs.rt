@@ -11,13 +11,13 @@ use super::fields::MAX_FIELDS;
 use super::heads;
 use super::heads::Asked;
 use super::heads::Lengths;
+use super::kept;
 use super::lend;
 use super::lend::PLACES;
 use super::lend::SHEET_WORDS;
 use super::lend::TABLE_WORDS;
 use super::pattern;
 use super::widths;
-use run::NOT_FINITE_RESULT;
 use table::Answer;
 
 pub enum Arithmetic {
@@ -37,54 +37,6 @@ fn pattern_of(arithmetic: Arithmetic) -> u64 {
         Arithmetic::Residues => pattern::RESIDUES,
         Arithmetic::Doubles => pattern::DOUBLES,
     }
-}
-
-// On 0 and 12 the table was written and the stacks were cleared.
-fn has_run(number: u16) -> bool {
-    (number == table::DONE) | (number == NOT_FINITE_RESULT)
-}
-
-// How many places of a stack hold zeros after the call.
-fn cleared(number: u16, asked: u64) -> usize {
-    if has_run(number) {
-        return lend::lent(asked, PLACES);
-    }
-    0
-}
-
-// How many places of the result the answer prints.
-fn printed(number: u16, asked: u64) -> usize {
-    if number == table::DONE {
-        return lend::lent(asked, PLACES);
-    }
-    0
-}
-
-// `table::write` into the start of a buffer.
-pub fn write_lent(words: &[u16], room: u64, table: &mut [u16]) -> Answer {
-    let count = lend::lent(room, table.len());
-    table::write(words, &mut table[..count])
-}
-
-fn same_words(left: &[u16; TABLE_WORDS], right: &[u16; TABLE_WORDS]) -> bool {
-    let mut at: usize = 0;
-    while at < TABLE_WORDS {
-        if left[at] != right[at] {
-            return false;
-        }
-        at += 1;
-    }
-    true
-}
-
-// Whether the table's buffer holds what `table::write` makes of one like it, or what it held before.
-fn table_stands(words: &[u16], number: u16, room: u64, table: &[u16; TABLE_WORDS]) -> bool {
-    let mut written = [0u16; TABLE_WORDS];
-    pattern::fill_words(&mut written);
-    if has_run(number) {
-        write_lent(words, room, &mut written);
-    }
-    same_words(table, &written)
 }
 
 fn put_result(
@@ -170,11 +122,11 @@ fn run_answer(
         &mut result,
     );
     let number = answer.number;
-    let shown = printed(number, asked.result);
+    let shown = kept::printed(number, asked.result);
     let used = put_result(out, answer, form_of(arithmetic), &result, shown);
-    let table_kept = table_stands(words, number, asked.room, &table);
-    let values_kept = pattern::numbers_stand(&values, base, 0, cleared(number, asked.values));
-    let turns_kept = pattern::words_stand(&turns, 0, cleared(number, asked.turns));
+    let table_kept = kept::table_stands(words, number, asked.room, &table);
+    let values_kept = pattern::numbers_stand(&values, base, 0, kept::cleared(number, asked.values));
+    let turns_kept = pattern::words_stand(&turns, 0, kept::cleared(number, asked.turns));
     let result_kept = pattern::numbers_stand(&result, base, shown, 0);
     answers::put_kept(
         out,

@@ -1,10 +1,10 @@
--- `gallop::runs::write_lent` is safe: the buffer is lent up to a length that lies within it.
+-- `gallop::kept::write_lent` is safe: the buffer is lent up to a length that lies within it.
 use mathlib.Core.Path.{sym}
 use native.Mathlib.Omega.{arith}
 use lib.Seq.{length-take-le}
 use borrow.Author.Needs.{needs}
-use Rattle.gallop.proofs.runs.write_lent.Statement.{statement}
-use Rattle.gallop.proofs.runs.write_lent.Tie as tie
+use Rattle.gallop.proofs.kept.write_lent.Statement.{statement}
+use Rattle.gallop.proofs.kept.write_lent.Tie as tie
 
 slice-aggregate-write : tie.Need-slice-aggregate-write
 slice-aggregate-write c = sym (length-take-le _ _ (omega arith))

@@ -1,8 +1,8 @@
--- `gallop::runs::same_words` is safe and ends. The measure is the places that are left.
+-- `gallop::kept::same_words` is safe and ends. The measure is the places that are left.
 use Prim.Native.Nat.{_-_}
 use borrow.Author.Needs.{needs}
-use Rattle.gallop.proofs.runs.same_words.Statement.{statement}
-use Rattle.gallop.proofs.runs.same_words.Tie as tie
+use Rattle.gallop.proofs.kept.same_words.Statement.{statement}
+use Rattle.gallop.proofs.kept.same_words.Tie as tie
 
 abbrev Inv-loop : tie.InvT-loop
 Inv-loop left right at₀ at = Unit {0}
