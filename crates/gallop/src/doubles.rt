@@ -27,7 +27,7 @@ fn give_doubles(doubles: &[f64; PLACES], numbers: &mut [u64; PLACES]) {
 }
 
 // The value stack and the result are lent up to the lengths asked for.
-pub fn run_double(
+pub fn run_doubles(
     words: &[u16],
     asked: Asked,
     table: &mut [u16],

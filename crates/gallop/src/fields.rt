@@ -8,7 +8,7 @@ const SPACE: u8 = b' ';
 
 const SLASH: u8 = b'/';
 
-// No line has more fields: each but the first takes a space besides its own bytes.
+// No line has more numbers: each takes a byte at least, and a space before it.
 pub const MAX_FIELDS: usize = (MAX_LINE + 1) / 2;
 
 // How a field is written: in decimal up to a largest number, or as the 16 digits of a double's bits.
@@ -36,7 +36,7 @@ const DECIMAL: u64 = 10;
 
 const HEXADECIMAL: u64 = 16;
 
-// The base itself where the byte is no digit of it.
+// What a hexadecimal digit counts, or the base where the byte is none.
 fn digit_of(byte: u8) -> u64 {
     if byte < b'0' {
         return HEXADECIMAL;

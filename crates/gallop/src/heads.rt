@@ -46,6 +46,7 @@ pub fn read_lengths(line: &[u8], from: usize, count: usize) -> Lengths
     Lengths::Bad
 }
 
+// As many as a sheet may have.
 fn take_words(numbers: &[u64; MAX_FIELDS], words: &mut [u16; SHEET_WORDS]) {
     let mut at: usize = 0;
     while at < SHEET_WORDS {
@@ -54,6 +55,7 @@ fn take_words(numbers: &[u64; MAX_FIELDS], words: &mut [u16; SHEET_WORDS]) {
     }
 }
 
+// The sheet's words, which must not be more than there is room for.
 pub fn read_words(line: &[u8], from: usize, words: &mut [u16; SHEET_WORDS]) -> Group
     requires { ⌜ Taken (now line) ⌝ }
 {

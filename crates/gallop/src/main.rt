@@ -1,6 +1,5 @@
 // The program: one request a line on standard input, one answer a line on standard output.
 mod answers;
-mod audits;
 mod doubles;
 mod fields;
 mod heads;
@@ -9,6 +8,7 @@ mod lend;
 mod lines;
 mod pattern;
 mod requests;
+mod residues;
 mod runs;
 mod widths;
 

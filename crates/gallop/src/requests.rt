@@ -27,7 +27,8 @@ fn check_answer(words: &[u16], out: &mut [u8; MAX_ANSWER]) -> usize {
     used = answers::put_spaced(out, used, checked.rows as u64);
     used = answers::put_spaced(out, used, checked.values as u64);
     used = answers::put_spaced(out, used, checked.turns as u64);
-    answers::put_kept(out, used, true)
+    let nothing_lent = true;
+    answers::put_kept(out, used, nothing_lent)
 }
 
 // How many words the table is that a buffer begins with.

@@ -2,7 +2,6 @@
 ghost use Rattle.gallop.specs.Lines.{Taken};
 use super::answers;
 use super::answers::MAX_ANSWER;
-use super::audits;
 use super::doubles;
 use super::fields;
 use super::fields::Form;
@@ -17,6 +16,7 @@ use super::lend::PLACES;
 use super::lend::SHEET_WORDS;
 use super::lend::TABLE_WORDS;
 use super::pattern;
+use super::residues;
 use super::widths;
 use table::Answer;
 
@@ -70,7 +70,7 @@ fn run_lent(
     let lent_table = &mut table[..room];
     let lent_turns = &mut turns[..for_turns];
     match arithmetic {
-        Arithmetic::Residues => audits::run_audit(
+        Arithmetic::Residues => residues::run_residues(
             words,
             asked,
             lent_table,
@@ -80,7 +80,7 @@ fn run_lent(
             seeds,
             result,
         ),
-        Arithmetic::Doubles => doubles::run_double(
+        Arithmetic::Doubles => doubles::run_doubles(
             words,
             asked,
             lent_table,

@@ -1,8 +1,8 @@
--- `gallop::audits::give_residues` is safe and ends. The measure is the places that are left.
+-- `gallop::residues::give_residues` is safe and ends. The measure is the places that are left.
 use Prim.Native.Nat.{_-_}
 use borrow.Author.Needs.{needs}
-use Rattle.gallop.proofs.audits.give_residues.Statement.{statement}
-use Rattle.gallop.proofs.audits.give_residues.Tie as tie
+use Rattle.gallop.proofs.residues.give_residues.Statement.{statement}
+use Rattle.gallop.proofs.residues.give_residues.Tie as tie
 
 abbrev Inv-loop : tie.InvT-loop
 Inv-loop residues numbers₀ at₀ numbers at = Unit {0}

@@ -1,10 +1,10 @@
--- `gallop::audits::run_audit` is safe: each buffer is lent up to a length that lies within it.
+-- `gallop::residues::run_residues` is safe: each buffer is lent up to a length that lies within it.
 use mathlib.Core.Path.{sym}
 use native.Mathlib.Omega.{arith}
 use lib.Seq.{length-take-le}
 use borrow.Author.Needs.{needs}
-use Rattle.gallop.proofs.audits.run_audit.Statement.{statement}
-use Rattle.gallop.proofs.audits.run_audit.Tie as tie
+use Rattle.gallop.proofs.residues.run_residues.Statement.{statement}
+use Rattle.gallop.proofs.residues.run_residues.Tie as tie
 
 slice-aggregate-run-audit : tie.Need-slice-aggregate-run-audit
 slice-aggregate-run-audit c = sym (length-take-le _ _ (omega arith))
@@ -18,8 +18,8 @@ slice-aggregate-run-audit-3 c = sym (length-take-le _ _ (omega arith))
 slice-aggregate-run-audit-4 : tie.Need-slice-aggregate-run-audit-4
 slice-aggregate-run-audit-4 c = sym (length-take-le _ _ (omega arith))
 
-pub run-audit-spec : {M : Type 1} → statement M
-run-audit-spec =
+pub run-residues-spec : {M : Type 1} → statement M
+run-residues-spec =
     tie.close
     (tie.spec
     (λ c. search needs)

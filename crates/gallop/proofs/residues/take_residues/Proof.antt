@@ -1,10 +1,10 @@
--- `gallop::audits::take_residues` is safe and ends. The invariant: a store keeps the length.
+-- `gallop::residues::take_residues` is safe and ends. The invariant: a store keeps the length.
 use Prim.Native.Nat.{_-_}
 use mathlib.Core.Path.{_≡_}
 use lib.ListN.{length}
 use borrow.Author.Needs.{needs}
-use Rattle.gallop.proofs.audits.take_residues.Statement.{statement}
-use Rattle.gallop.proofs.audits.take_residues.Tie as tie
+use Rattle.gallop.proofs.residues.take_residues.Statement.{statement}
+use Rattle.gallop.proofs.residues.take_residues.Tie as tie
 
 abbrev Inv-loop : tie.InvT-loop
 Inv-loop numbers residues₀ at₀ residues at = length residues ≡ length residues₀

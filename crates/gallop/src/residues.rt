@@ -27,7 +27,7 @@ fn give_residues(residues: &[u32; PLACES], numbers: &mut [u64; PLACES]) {
 }
 
 // The value stack and the result are lent up to the lengths asked for.
-pub fn run_audit(
+pub fn run_residues(
     words: &[u16],
     asked: Asked,
     table: &mut [u16],

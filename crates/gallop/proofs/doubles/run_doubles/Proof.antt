@@ -1,10 +1,10 @@
--- `gallop::doubles::run_double` is safe: each buffer is lent up to a length that lies within it.
+-- `gallop::doubles::run_doubles` is safe: each buffer is lent up to a length that lies within it.
 use mathlib.Core.Path.{sym}
 use native.Mathlib.Omega.{arith}
 use lib.Seq.{length-take-le}
 use borrow.Author.Needs.{needs}
-use Rattle.gallop.proofs.doubles.run_double.Statement.{statement}
-use Rattle.gallop.proofs.doubles.run_double.Tie as tie
+use Rattle.gallop.proofs.doubles.run_doubles.Statement.{statement}
+use Rattle.gallop.proofs.doubles.run_doubles.Tie as tie
 
 slice-aggregate-run-double : tie.Need-slice-aggregate-run-double
 slice-aggregate-run-double c = sym (length-take-le _ _ (omega arith))
@@ -18,8 +18,8 @@ slice-aggregate-run-double-3 c = sym (length-take-le _ _ (omega arith))
 slice-aggregate-run-double-4 : tie.Need-slice-aggregate-run-double-4
 slice-aggregate-run-double-4 c = sym (length-take-le _ _ (omega arith))
 
-pub run-double-spec : {M : Type 1} → statement M
-run-double-spec =
+pub run-doubles-spec : {M : Type 1} → statement M
+run-doubles-spec =
     tie.close
     (tie.spec
     (λ c. search needs)
