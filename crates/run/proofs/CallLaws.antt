@@ -80,7 +80,8 @@ module _ (A : Arithmetic) where
   finished-in-the-large (halted s) ending memory ends e = let stopped = ends .1 in cc
   finished-in-the-large stuck ending memory ends e = cc
 
-  start-length : (sheet : Sheet) (starts : List (A .Carrier)) → length (startOf A sheet starts .memory .store) ≡ length starts + (variablesOf sheet + 2)
+  start-length : (sheet : Sheet) (starts : List (A .Carrier))
+      → length (startOf A sheet starts .memory .store) ≡ length starts + (variablesOf sheet + 2)
   unfolding startOf
   start-length sheet starts =
       let zeros = replicate (variablesOf sheet + 2) (A .zero) in
@@ -162,7 +163,8 @@ module _ (A : Arithmetic) where
 
     -- what a call answers and leaves of the result at this end
     ends-as : (end : Ended) (after : Cells A) (buffer : List ℕ) → EndsLike A start after end ending
-        → ranOf A (answerAt end) (lentAfter A sheet (lentOf A buffer values turns result) (resultAt A end roles (after .copied) (after .store) result))
+        → ranOf A (answerAt end)
+        (lentAfter A sheet (lentOf A buffer values turns result) (resultAt A end roles (after .copied) (after .store) result))
         ≡ ranTo A sheet (lentOf A buffer values turns result) ending
     unfolding ranTo answerAt resultAt resultOf
     ends-as ended.Finished after buffer ends =

@@ -1,6 +1,6 @@
 -- Refusals 1 to 11 in a call's order, and the run behind them.
 use Prim.Native.Nat.{ℕ}
-use mathlib.Core.Path.{_≡_, refl, ap, _∙_}
+use mathlib.Core.Path.{_≡_, refl, sym, ap, _∙_}
 use mathlib.Core.List.{List, _++_}
 use lib.ListN.{length}
 use lib.Dec.{eqb}
@@ -19,8 +19,13 @@ use Rattle.table.specs.declared.Answer as answered
 use Rattle.table.specs.declared.Plan.{Plan}
 use Rattle.run.specs.Calls.{Lent, allAdmitted, readToRun, ranOn, run, lentOf, ranOf}
 use Rattle.run.specs.declared.Rooms.{Rooms}
-use Rattle.run.specs.inner.CallSteps.{tableFits, stacksFit, roomsFit, readWithRoom, Answers, NoRoom, HasRoom}
+use Rattle.run.specs.declared.Fit.{Fit}
+use Rattle.run.specs.inner.CallSteps.{tableFits, stacksFit, roomsFit, fitSaid, readWithRoom, Answers, NoRoom, HasRoom}
 use Rattle.run.specs.inner.CallAnswers.{sheetRun, Written, RanTo}
+
+-- what a judgement comes to, by the code's answer
+pub said : {judgement : Answer (Unit {0})} {fit answer : Fit} → fitSaid fit ≡ judgement → fit ≡ answer → judgement ≡ fitSaid answer
+said {judgement} {fit} {answer} is told = sym is ∙ ap fitSaid told
 
 -- judgements one after another, however they are put together
 then-then : {X Y Z : Type 0} (first : Answer X) (second : X → Answer Y) (third : Y → Answer Z)
@@ -102,5 +107,6 @@ module _ (A : Arithmetic) (words : List ℕ) (starts seeds : List (A .Carrier)) 
     accepted-run admitted writes runs =
         let made = room .made in
         let is = writes (made .sheet) (made .accepted) in
-        let written : Written words plan _ (made .sheet) (lent .table) = record { accepted = made .accepted; shape = made .planned .shape; rows = made .planned .rows; written = is } in
+        let written : Written words plan _ (made .sheet) (lent .table) =
+        record { accepted = made .accepted; shape = made .planned .shape; rows = made .planned .rows; written = is } in
         rw (is, numbers-last, room .is, admitted) (runs (made .sheet) (lent .table) written)

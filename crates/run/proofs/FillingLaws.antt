@@ -109,7 +109,8 @@ module _ (A : Arithmetic) where
         let adjoints = independentAdjoints A roles (drop v store) in
         let counted : length adjoints ≡ v = put-length roles (drop v store) store in
         let long : length result ≡ v + v = fits .resultFits ∙ omega arith in
-        let after : drop v first ≡ drop v result = ap (drop v) is ∙ drop-at copied (drop (length copied) result) v own ∙ ap (λ n. drop n result) own in
+        let after : drop v first ≡ drop v result =
+        ap (drop v) is ∙ drop-at copied (drop (length copied) result) v own ∙ ap (λ n. drop n result) own in
         let half : length (drop v result) ≤ v = omega (arith, length-drop v result) in
         let none : drop v (drop v result) ≡ [] = drop-of-length-le (drop v result) half in
         let whole : second ≡ adjoints =

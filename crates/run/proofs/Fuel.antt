@@ -1,7 +1,7 @@
 -- How many steps a run of a table takes at most, in terms of W, and that more of them change nothing.
 use Prim.Native.Nat.{ℕ, suc, _+_, _*_, _-_, _≤_}
 use mathlib.Core.Path.{_≡_, refl, ap, _∙_}
-use mathlib.Core.Bool.{true, false}
+use mathlib.Core.Bool.{Bool, true, false}
 use mathlib.Core.List.{List}
 use native.Mathlib.Nat.{mul-le-mul-left, mul-left-comm}
 use native.Mathlib.Omega.{arith}
@@ -34,7 +34,8 @@ backward-steps v (one m k) rest =
     let this = backwardOf v (m .assignment) (m .row) (m .known) (m .saved) rest in
     omega (arith, backward-steps v k this, backward-row 1 stepsOf row-stepped v (m .assignment) (m .row) (m .known) (m .saved) .few rest)
 backward-steps v (fork f a b k) rest =
-    omega (arith, backward-steps v k (fork onTurn (backwardPart v a done) (backwardPart v b done) rest), backward-steps v a done, backward-steps v b done)
+    let block : Table = fork onTurn (backwardPart v a done) (backwardPart v b done) rest in
+    omega (arith, backward-steps v k block, backward-steps v a done, backward-steps v b done)
 backward-steps v (again n a k) rest =
     let body : stepsOf (backwardPart v a done) + 1 ≤ 7 * (1 + longestRun a) = omega (arith, backward-steps v a done) in
     omega (arith, backward-steps v k (again n (backwardPart v a done) rest), mul-le-mul-left (suc n) body, mul-left-comm (suc n) 7 (1 + longestRun a))
@@ -44,20 +45,20 @@ unfolding forwardPart stepsOf longestRun
 forward-steps done rest = omega arith
 forward-steps (one m k) rest = omega (arith, forward-row 1 stepsOf row-stepped m .few (forwardPart k rest), forward-steps k rest)
 forward-steps (fork f a b k) rest =
-    omega
-    (arith, forward-steps k rest, forward-steps a (put (f .row) turning (saveTurn true) done), forward-steps b (put (f .row) turning (saveTurn false) done))
+    let saved : Bool → Table = λ first. put (f .row) turning (saveTurn first) done in
+    omega (arith, forward-steps k rest, forward-steps a (saved true), forward-steps b (saved false))
 forward-steps (again n a k) rest =
     let body : stepsOf (forwardPart a done) + 1 ≤ 3 * (1 + longestRun a) = omega (arith, forward-steps a done) in
     omega (arith, forward-steps k rest, mul-le-mul-left (suc n) body, mul-left-comm (suc n) 3 (1 + longestRun a))
 
 -- three for each that W counts forward, seven backward, and row 17
-pub steps-within-run : (v : ℕ) (t : Body) → stepsOf (adjointTable v t) ≤ 10 * longestRun t + 1
+steps-within-run : (v : ℕ) (t : Body) → stepsOf (adjointTable v t) ≤ 10 * longestRun t + 1
 unfolding adjointTable stepsOf
 steps-within-run v t =
     let turn : Table = one (record { origin = ofTurningRound; action = turnRound }) (backwardPart v t done) in
     omega (arith, forward-steps t turn, backward-steps v t done)
 
-pub sheet-steps-within : (words : List ℕ) (sheet : Sheet) → read words ≡ given sheet → stepsOf (tableOf sheet) ≤ 10 * limit .longestRun + 1
+sheet-steps-within : (words : List ℕ) (sheet : Sheet) → read words ≡ given sheet → stepsOf (tableOf sheet) ≤ 10 * limit .longestRun + 1
 unfolding tableOf marked
 sheet-steps-within words sheet e =
     omega (

@@ -10,7 +10,8 @@ use native.Mathlib.Omega.{arith}
 use Rattle.sheet.specs.Tree.{done, one, fork, again, rows, flat, basic, ifLine, elseLine, endIf, endRepeat}
 use Rattle.sheet.specs.Rows.{_≔_, copy, fixed, sum, difference, product, negation, less}
 use Rattle.sheet.proofs.RowsCounted.{flat-length, lines-counted}
-use Rattle.table.specs.TableRows.{Action, Origin, assign, save, takeBack, saveTurn, clear, turnRound, whether, onTurn, TableRow, TableTest, Table, TableLine, tableRowOf, linesOf}
+use Rattle.table.specs.TableRows.{Action, assign, save, takeBack, saveTurn, clear, turnRound, TableTest, whether, onTurn}
+use Rattle.table.specs.TableRows.{Origin, TableRow, Table, TableLine, tableRowOf, linesOf}
 use Rattle.run.specs.Machine.{itsElse, itsEnd, oneMore, seek}
 use Rattle.run.specs.inner.Runnable.{Reached, Jumps}
 use Rattle.run.specs.inner.JumpsFound.{Found, endsBranch, opensBranch, notedBefore, foundAt, foundOver}
@@ -84,7 +85,7 @@ module _ (start : Found) where
   abbrev from : List TableLine → ℕ → Found
   from lines p = foundOver lines p start
 
-  pub over-long : (lines : List TableLine) (p : ℕ) → length (foundOver lines p start .beyond) ≡ length (start .beyond)
+  over-long : (lines : List TableLine) (p : ℕ) → length (foundOver lines p start .beyond) ≡ length (start .beyond)
   unfolding foundOver
   over-long [] p = refl
   over-long (line ∷ lines) p = only-at (tableRowOf line .kind) p (from lines (suc p)) .long ∙ over-long lines (suc p)
@@ -118,7 +119,7 @@ module _ (start : Found) where
 
   -- ---- over a tree the branch at hand ends where it did
 
-  pub tree-ends : (t : Table) (rest : List TableLine) (p : ℕ) → p + rows t ≤ length (start .beyond)
+  tree-ends : (t : Table) (rest : List TableLine) (p : ℕ) → p + rows t ≤ length (start .beyond)
       → foundOver (flat t rest) p start .end ≡ foundOver rest (p + rows t) start .end
   unfolding foundOver flat rows foundAt
   tree-ends done rest p h = at-row rest (sym (add-zero p))

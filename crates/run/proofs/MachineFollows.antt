@@ -14,7 +14,9 @@ use Rattle.sheet.specs.Tree.{Tree, done, one, fork, again, Line, basic, ifLine,
 use Rattle.table.specs.TableRows.{Origin, TableRow, TableTest, TableLine, Table, linesOf}
 use Rattle.run.specs.Attempts.{Attempt, through, halted, stuck, _>>=_, present}
 use Rattle.run.specs.Actions.{Memory, Setting, Verdict, acted, tested}
-use Rattle.run.specs.Machine.{Mark, itsElse, itsEnd, oneMore, seek, Repeat, State, Step, goesOn, ended, stops, sticks, Ending, finished, stoppedAt, gotStuck, outOfFuel, jump, afterAction, branchTo, afterTest, stepAt, step, runFor, ifItGoesOn, stateAfter, stepsOf}
+use Rattle.run.specs.Machine.{Mark, itsElse, itsEnd, oneMore, seek, Repeat, State, Step, goesOn, ended, stops, sticks}
+use Rattle.run.specs.Machine.{jump, afterAction, branchTo, afterTest, stepAt, step, ifItGoesOn, stateAfter, stepsOf}
+use Rattle.run.specs.Machine.{Ending, finished, stoppedAt, gotStuck, outOfFuel, runFor}
 use Rattle.run.specs.Calls.{runOf}
 use Rattle.run.specs.InTheLarge.{Stop, from, chosen, tableRun}
 use Rattle.run.specs.RowReads.{Entry, noted, notedAt, onNext, machineLog, onThrough, chosenLog, tableLog}
@@ -129,7 +131,7 @@ module _ (A : Arithmetic) where
         (memory : Memory A)
         → Reaches (atRow p repeats memory) (stepsOf t) (p + rows t) repeats (tableRun A setting t memory) (tableLog A setting t memory)
 
-    pub steps-add : (n m : ℕ) (s : State A)
+    steps-add : (n m : ℕ) (s : State A)
         → stateAfter A (n + m) setting lines s ≡ ifItGoesOn A (stateAfter A n setting lines s) (λ next. stateAfter A m setting lines next)
     unfolding stateAfter
     steps-add zero m s = rw zero-add
@@ -285,13 +287,25 @@ module _ (A : Arithmetic) where
         (standing : drop p lines ≡ ifLine f ∷ flat a (elseLine ∷ flat b (endIf ∷ rest)))
         (first : Follows a (suc p) repeats) (second : Follows b (suc (suc p + rows a)) repeats)
         (after : Follows k (suc (suc (suc p + rows a) + rows b)) repeats) where
+      -- what stands behind the test
+      abbrev behind : List TableLine
+      behind = flat a (elseLine ∷ flat b (endIf ∷ rest))
+
+      abbrev picked : Bool → Memory A → Result
+      picked taken memory = chosen A taken (tableRun A setting a memory) (tableRun A setting b memory)
+
+      abbrev pickedLog : Bool → Memory A → List (Entry A)
+      pickedLog taken memory =
+          chosenLog A taken (tableLog A setting a memory) (tableLog A setting b memory) ++ onThrough A (picked taken memory) (tableLog A setting k)
+
+      abbrev ReachesEnd : Memory A → Result → List (Entry A) → Type 0
+      ReachesEnd before result log =
+          Reaches (atRow p repeats before) (2 + max (stepsOf a) (stepsOf b) + stepsOf k) (suc (suc (suc p + rows a) + rows b) + rows k) repeats
+          result log
+
       branch-follows : (before memory : Memory A) (taken : Bool)
-          → stepAt A setting (atRow p repeats before) (ifLine f ∷ flat a (elseLine ∷ flat b (endIf ∷ rest)))
-          ≡ branchTo A (atRow p repeats before) (flat a (elseLine ∷ flat b (endIf ∷ rest))) taken memory
-          → Reaches (atRow p repeats before) (2 + max (stepsOf a) (stepsOf b) + stepsOf k) (suc (suc (suc p + rows a) + rows b) + rows k) repeats
-          (chosen A taken (tableRun A setting a memory) (tableRun A setting b memory) >>= tableRun A setting k)
-          (chosenLog A taken (tableLog A setting a memory) (tableLog A setting b memory)
-          ++ onThrough A (chosen A taken (tableRun A setting a memory) (tableRun A setting b memory)) (tableLog A setting k))
+          → stepAt A setting (atRow p repeats before) (ifLine f ∷ behind) ≡ branchTo A (atRow p repeats before) behind taken memory
+          → ReachesEnd before (picked taken memory >>= tableRun A setting k) (pickedLog taken memory)
       unfolding stepAt
       branch-follows before memory true e =
           let atA = past-line lines p _ _ standing in
@@ -308,14 +322,9 @@ module _ (A : Arithmetic) where
           (λ next. after-step (past-tree lines (suc (suc p + rows a)) b _ atB) refl refl (after next)))
 
       test-follows : (memory : Memory A) (verdict : Option (Verdict A))
-          → stepAt A setting (atRow p repeats memory) (ifLine f ∷ flat a (elseLine ∷ flat b (endIf ∷ rest)))
-          ≡ afterTest A (atRow p repeats memory) (flat a (elseLine ∷ flat b (endIf ∷ rest))) verdict
-          → Reaches (atRow p repeats memory) (2 + max (stepsOf a) (stepsOf b) + stepsOf k) (suc (suc (suc p + rows a) + rows b) + rows k) repeats
-          (present verdict
-          >>= (λ v. chosen A (v .first) (tableRun A setting a (v .memory)) (tableRun A setting b (v .memory)) >>= tableRun A setting k))
-          (onThrough A {W = Stop A} (present verdict)
-          (λ v. chosenLog A (v .first) (tableLog A setting a (v .memory)) (tableLog A setting b (v .memory))
-          ++ onThrough A (chosen A (v .first) (tableRun A setting a (v .memory)) (tableRun A setting b (v .memory))) (tableLog A setting k)))
+          → stepAt A setting (atRow p repeats memory) (ifLine f ∷ behind) ≡ afterTest A (atRow p repeats memory) behind verdict
+          → ReachesEnd memory (present verdict >>= λ v. picked (v .first) (v .memory) >>= tableRun A setting k)
+          (onThrough A {W = Stop A} (present verdict) (λ v. pickedLog (v .first) (v .memory)))
       test-follows memory none e = within-more (omega arith) refl (one-step stuck standing e)
       test-follows memory (some v) e = branch-follows memory (v .memory) (v .first) e
 
@@ -356,7 +365,8 @@ module _ (A : Arithmetic) where
         → (n : ℕ) × (n ≤ stepsOf t) × (stateAfter A n setting lines (atRow p repeats memory) ≡ goesOn (atRow (p + rows t) repeats next))
     goes-through t p rest repeats memory next e went =
         let h = reaches t p rest repeats memory e in
-        (h .steps, h .few, subst (λ x. LandsAt (p + rows t) repeats x (stateAfter A (h .steps) setting lines (atRow p repeats memory))) went (h .lands))
+        let there = stateAfter A (h .steps) setting lines (atRow p repeats memory) in
+        (h .steps, h .few, subst (λ x. LandsAt (p + rows t) repeats x there) went (h .lands))
 
     -- ---- the same of a run with fuel
 
@@ -472,11 +482,3 @@ module _ (A : Arithmetic) where
             let z : _≡_ {A = ℕ} 0 1 = cc in
             absurd (omega arith)
         by-result stuck ending h e = let z : _≡_ {A = ℕ} 0 1 = cc in absurd (omega arith)
-
-    pub stuck-in-the-large : runOf A table setting (atRow 0 [] memory) ≡ gotStuck → tableRun A setting table memory ≡ stuck
-    stuck-in-the-large = by-result (tableRun A setting table memory) (runOf A table setting (atRow 0 [] memory)) run-follows
-      where
-        by-result : (x : Result) (ending : Ending A) → EndsAs x ending → ending ≡ gotStuck → x ≡ stuck
-        by-result (through next) ending h e = cc
-        by-result (halted s) ending h e = let stopped = h .1 in cc
-        by-result stuck ending h e = refl

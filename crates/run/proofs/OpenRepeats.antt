@@ -18,7 +18,8 @@ use Rattle.table.specs.Adjoint.{tableOf}
 use Rattle.table.proofs.TableBounds.{table-deep, marked-deep}
 use Rattle.run.specs.Attempts.{Attempt, through, halted, stuck}
 use Rattle.run.specs.Actions.{Memory, Setting, Verdict, acted, tested}
-use Rattle.run.specs.Machine.{itsElse, itsEnd, oneMore, seek, Repeat, State, Step, goesOn, ended, stops, sticks, jump, afterAction, branchTo, afterTest, afterTurn, stepAt, step, ifItGoesOn, stateAfter}
+use Rattle.run.specs.Machine.{itsElse, itsEnd, oneMore, seek, Repeat, State, Step, goesOn, ended, stops, sticks}
+use Rattle.run.specs.Machine.{jump, afterAction, branchTo, afterTest, afterTurn, stepAt, step, ifItGoesOn, stateAfter}
 use Rattle.run.specs.inner.Runnable.{Shallow}
 use Rattle.run.specs.Calls.{startOf}
 use Rattle.run.proofs.LinesStand.{Branch, Stands, stands-at, FromEach, from-each-next, from-each-end}
@@ -74,9 +75,10 @@ module _ (lines : List TableLine) where
   past-branch : (p : ℕ) (rest : List TableLine) (mark : TableLine) (branch : Branch mark rest) → drop (suc p) lines ≡ rest
       → drop (p + suc (rows (branch .tree) + 1)) lines ≡ branch .behind
   past-branch p rest mark branch e =
-      let far : p + suc (rows (branch .tree) + 1) ≡ suc (suc p + rows (branch .tree)) = omega arith in
-      ap (λ n. drop n lines) far
-      ∙ past-line lines (suc p + rows (branch .tree)) mark (branch .behind) (past-tree lines (suc p) (branch .tree) (mark ∷ branch .behind) (e ∙ branch .is))
+      let tree = branch .tree in
+      let far : p + suc (rows tree + 1) ≡ suc (suc p + rows tree) = omega arith in
+      let at-mark = past-tree lines (suc p) tree (mark ∷ branch .behind) (e ∙ branch .is) in
+      ap (λ n. drop n lines) far ∙ past-line lines (suc p + rows tree) mark (branch .behind) at-mark
 
   -- each open repeat has as many outside it as stand open at its row
   Starts : List Repeat → Type 0
@@ -110,7 +112,8 @@ module _ (lines : List TableLine) where
     -- past a branch that a search has found the end of
     jump-open : (s : State A) (memory : Memory A) (line : TableLine) (rest : List TableLine) → drop (s .at) lines ≡ line ∷ rest
         → openAt (line ∷ rest) ≡ openAt rest → (mark : TableLine) → ((behind : List TableLine) → openAt (mark ∷ behind) ≡ openAt behind)
-        → (branch : Branch mark rest) (found : Option ℕ) → found ≡ some (rows (branch .tree) + 1) → Open s → OpenAfter (jump A s memory (oneMore found))
+        → (branch : Branch mark rest) (found : Option ℕ) → found ≡ some (rows (branch .tree) + 1) → Open s
+        → OpenAfter (jump A s memory (oneMore found))
     unfolding OpenAfter
     jump-open s memory line rest e plain mark passes branch found is o =
         rw is
@@ -179,7 +182,7 @@ module _ (lines : List TableLine) where
 -- ---- a whole table
 
 module _ (A : Arithmetic) (setting : Setting A) where
-  pub table-shallow : (t : Table) (memory : Memory A) → deep t ≤ limit .depth
+  table-shallow : (t : Table) (memory : Memory A) → deep t ≤ limit .depth
       → Shallow A setting (linesOf t) (record { at = 0; repeats = []; memory = memory })
   unfolding OpenAfter openAt Starts linesOf
   table-shallow t memory h n state e =

@@ -11,20 +11,26 @@ use lib.Dec.{eqb}
 use Rattle.number.specs.Arithmetic.{Arithmetic}
 use Rattle.sheet.specs.Tree.{done, one, fork, again}
 use Rattle.sheet.specs.Rows.{_≔_}
-use Rattle.table.specs.TableRows.{Action, assign, save, takeBack, saveTurn, clear, turnRound, TableTest, whether, onTurn, Table, TableRow, saving, itself, ofTurningRound, turnWord}
+use Rattle.table.specs.TableRows.{Action, assign, save, takeBack, saveTurn, clear, turnRound, TableTest, whether, onTurn}
+use Rattle.table.specs.TableRows.{Table, TableRow, saving, itself, ofTurningRound, turnWord}
 use Rattle.sets.specs.Marks.{Marked}
 use Rattle.table.specs.Adjoint.{Body, put, putIf, targetOf, forwardRow, forwardPart, backwardPart, adjointTable}
-use Rattle.run.specs.Attempts.{through, present, replaced, pushed, look}
-use Rattle.run.specs.Actions.{Memory, Setting, Verdict, evaluated, stored, restored, acted, verdictOn, turnTaken, tested, compared, turnedRound, seeded}
+use Rattle.run.specs.Attempts.{through, _>>=_, present, replaced, pushed, look}
+use Rattle.run.specs.Actions.{Memory, Setting, evaluated, stored, restored, acted, turnedRound, seeded}
+use Rattle.run.specs.Actions.{Verdict, verdictOn, turnTaken, tested, compared}
 use Rattle.run.specs.InTheLarge.{from, chosen, tableRun}
 use Rattle.run.proofs.AttemptLaws.{went, same-through, is-present, was-replaced, came}
 use Rattle.run.proofs.RoundLaws.{seeded-length}
 
 module _ (A : Arithmetic) (setting : Setting A) (sections : setting .variables ≡ length (setting .roles)) where
+  -- room for the originals and their adjoints
+  abbrev Roomy : Memory A → Type 0
+  Roomy memory = 2 * setting .variables ≤ length (memory .store)
+
   -- The store keeps its size, and what is copied is as many values as there are variables, if it was before.
-  pub record Keeps (before after : Memory A) : Type 0 where
-    pub room : length (after .store) ≡ length (before .store)
-    pub copies : length (before .copied) ≡ setting .variables → length (after .copied) ≡ setting .variables
+  record Keeps (before after : Memory A) : Type 0 where
+    room : length (after .store) ≡ length (before .store)
+    copies : length (before .copied) ≡ setting .variables → length (after .copied) ≡ setting .variables
 
   keeps-same : {before after : Memory A} → before .store ≡ after .store → before .copied ≡ after .copied → Keeps before after
   keeps-same store copied = record { room = ap length (sym store); copies = λ h. ap length (sym copied) ∙ h }
@@ -45,7 +51,7 @@ module _ (A : Arithmetic) (setting : Setting A) (sections : setting .variables �
       }
 
   -- row 17
-  turned-room : (memory : Memory A) → 2 * setting .variables ≤ length (memory .store)
+  turned-room : (memory : Memory A) → Roomy memory
       → length (turnedRound A setting memory .store) ≡ length (memory .store)
   unfolding turnedRound
   turned-room memory enough =
@@ -62,13 +68,11 @@ module _ (A : Arithmetic) (setting : Setting A) (sections : setting .variables �
         length-drop (2 * v) (memory .store),
       )
 
-  turned-copies : (memory : Memory A) → 2 * setting .variables ≤ length (memory .store)
-      → length (turnedRound A setting memory .copied) ≡ setting .variables
+  turned-copies : (memory : Memory A) → Roomy memory → length (turnedRound A setting memory .copied) ≡ setting .variables
   unfolding turnedRound
   turned-copies memory enough = length-take-le (setting .variables) (memory .store) (omega arith)
 
-  keeps-acted : (action : Action) (memory after : Memory A) → 2 * setting .variables ≤ length (memory .store)
-      → acted A setting action memory ≡ through after → Keeps memory after
+  keeps-acted : (action : Action) (memory after : Memory A) → Roomy memory → acted A setting action memory ≡ through after → Keeps memory after
   unfolding acted
   keeps-acted (assign (d ≔ source)) memory after enough e =
       let c = went (evaluated A (setting .constants) source (memory .store)) _ after e in
@@ -118,108 +122,122 @@ module _ (A : Arithmetic) (setting : Setting A) (sections : setting .variables �
   -- ---- a table: what its first block leaves the rest with
 
   -- the rest of a run from here ends so
-  pub record Leaves (before : Memory A) (rest : Table) (after : Memory A) : Type 0 where
-    pub next : Memory A
-    pub kept : Keeps before next
-    pub runs : tableRun A setting rest next ≡ through after
+  record Leaves (before : Memory A) (rest : Table) (after : Memory A) : Type 0 where
+    next : Memory A
+    kept : Keeps before next
+    runs : tableRun A setting rest next ≡ through after
 
-  abbrev Kept : Table → Type 0
-  Kept t = (memory after : Memory A) → 2 * setting .variables ≤ length (memory .store) → tableRun A setting t memory ≡ through after → Keeps memory after
+  -- whenever this table runs through, it has come to the rest
+  record Leads (t rest : Table) : Type 0 where
+    to : (memory after : Memory A) → Roomy memory → tableRun A setting t memory ≡ through after → Leaves memory rest after
 
-  one-leaves : (row : TableRow) (k : Table) (memory after : Memory A) → 2 * setting .variables ≤ length (memory .store)
-      → tableRun A setting (one row k) memory ≡ through after → Leaves memory k after
-  unfolding tableRun
-  one-leaves row k memory after enough e =
-      let c = went (from A (row .origin) (acted A setting (row .action) memory)) _ after e in
+  record Kept (t : Table) : Type 0 where
+    keeps : (memory after : Memory A) → Roomy memory → tableRun A setting t memory ≡ through after → Keeps memory after
+
+  leads-then : {t between rest : Table} → Leads t between → Leads between rest → Leads t rest
+  leads-then first second =
       record {
-        next = c .0;
-        kept = keeps-acted (row .action) memory (c .0) enough (came A (row .origin) (acted A setting (row .action) memory) (c .0) (c .1));
-        runs = c .2;
+        to =
+            λ memory after enough e.
+            let l = first .to memory after enough e in
+            let more = second .to (l .next) after (rw (l .kept .room) enough) (l .runs) in
+            record { next = more .next; kept = keeps-then (l .kept) (more .kept); runs = more .runs };
       }
 
-  fork-leaves : (f : TableTest) (a b k : Table) → Kept a → Kept b → (memory after : Memory A) → 2 * setting .variables ≤ length (memory .store)
-      → tableRun A setting (fork f a b k) memory ≡ through after → Leaves memory k after
-  unfolding tableRun
-  fork-leaves f a b k first second memory after enough e =
-      let c = went (present (tested A f memory)) _ after e in
-      let verdict = c .0 in
-      let told = keeps-tested f memory verdict (is-present _ _ (c .1)) in
-      let d = went (chosen A (verdict .first) (tableRun A setting a (verdict .memory)) (tableRun A setting b (verdict .memory))) _ after (c .2) in
-      let enough-still : 2 * setting .variables ≤ length (verdict .memory .store) = rw (told .room) enough in
-      record { next = d .0; kept = keeps-then told (by-branch (verdict .memory) (d .0) enough-still (verdict .first) (d .1)); runs = d .2 }
-    where
-      by-branch : (memory next : Memory A) → 2 * setting .variables ≤ length (memory .store) → (taken : Bool)
-          → chosen A taken (tableRun A setting a memory) (tableRun A setting b memory) ≡ through next → Keeps memory next
-      by-branch memory next enough true e = first memory next enough e
-      by-branch memory next enough false e = second memory next enough e
+  leads-keeps : {t rest : Table} → Leads t rest → Kept rest → Kept t
+  leads-keeps leads rest =
+      record {
+        keeps =
+            λ memory after enough e.
+            let l = leads .to memory after enough e in
+            keeps-then (l .kept) (rest .keeps (l .next) after (rw (l .kept .room) enough) (l .runs));
+      }
 
-  again-leaves : (n : ℕ) (a k : Table) → Kept a → (memory after : Memory A) → 2 * setting .variables ≤ length (memory .store)
-      → tableRun A setting (again n a k) memory ≡ through after → Leaves memory k after
+  one-leads : (row : TableRow) (k : Table) → Leads (one row k) k
   unfolding tableRun
-  again-leaves zero a k body memory after enough e =
-      let c = went (tableRun A setting a memory) _ after e in
-      record { next = c .0; kept = body memory (c .0) enough (c .1); runs = c .2 }
-  again-leaves (suc n) a k body memory after enough e =
-      let c = went (tableRun A setting a memory) _ after e in
-      let once = body memory (c .0) enough (c .1) in
-      let more = again-leaves n a k body (c .0) after (rw (once .room) enough) (c .2) in
-      record { next = more .next; kept = keeps-then once (more .kept); runs = more .runs }
+  one-leads row k =
+      record {
+        to =
+            λ memory after enough e.
+            let x = acted A setting (row .action) memory in
+            let c = went (from A (row .origin) x) _ after e in
+            record { next = c .0; kept = keeps-acted (row .action) memory (c .0) enough (came A (row .origin) x (c .0) (c .1)); runs = c .2 };
+      }
 
-  pub table-keeps : (t : Table) → Kept t
-  table-keeps done memory after enough e =
-      unfold tableRun in
-      let same = same-through e in
-      keeps-same (ap (λ m. m .store) same) (ap (λ m. m .copied) same)
-  table-keeps (one row k) memory after enough e =
-      let l = one-leaves row k memory after enough e in
-      keeps-then (l .kept) (table-keeps k (l .next) after (rw (l .kept .room) enough) (l .runs))
-  table-keeps (fork f a b k) memory after enough e =
-      let l = fork-leaves f a b k (table-keeps a) (table-keeps b) memory after enough e in
-      keeps-then (l .kept) (table-keeps k (l .next) after (rw (l .kept .room) enough) (l .runs))
-  table-keeps (again n a k) memory after enough e =
-      let l = again-leaves n a k (table-keeps a) memory after enough e in
-      keeps-then (l .kept) (table-keeps k (l .next) after (rw (l .kept .room) enough) (l .runs))
+  branch-kept : (a b : Table) → Kept a → Kept b → (taken : Bool) (memory after : Memory A) → Roomy memory
+      → chosen A taken (tableRun A setting a memory) (tableRun A setting b memory) ≡ through after → Keeps memory after
+  branch-kept a b first second true memory after enough e = first .keeps memory after enough e
+  branch-kept a b first second false memory after enough e = second .keeps memory after enough e
+
+  fork-leads : (f : TableTest) (a b k : Table) → Kept a → Kept b → Leads (fork f a b k) k
+  unfolding tableRun
+  fork-leads f a b k first second =
+      record {
+        to =
+            λ memory after enough e.
+            let c = went (present (tested A f memory)) _ after e in
+            let verdict = c .0 in
+            let told = keeps-tested f memory verdict (is-present _ _ (c .1)) in
+            let next = verdict .memory in
+            let d = went (chosen A (verdict .first) (tableRun A setting a next) (tableRun A setting b next)) _ after (c .2) in
+            let branch = branch-kept a b first second (verdict .first) next (d .0) (rw (told .room) enough) (d .1) in
+            record { next = d .0; kept = keeps-then told branch; runs = d .2 };
+      }
+
+  -- a body once, and what comes after it
+  body-leads : {t a rest : Table} → Kept a
+      → ((memory : Memory A) → tableRun A setting t memory ≡ (tableRun A setting a memory >>= tableRun A setting rest)) → Leads t rest
+  body-leads body unrolled =
+      record {
+        to =
+            λ memory after enough e.
+            let c = went (tableRun A setting _ memory) _ after (sym (unrolled memory) ∙ e) in
+            record { next = c .0; kept = body .keeps memory (c .0) enough (c .1); runs = c .2 };
+      }
+
+  again-leads : (n : ℕ) (a k : Table) → Kept a → Leads (again n a k) k
+  unfolding tableRun
+  again-leads zero a k body = body-leads body (λ memory. refl)
+  again-leads (suc n) a k body = leads-then {between = again n a k} (body-leads body (λ memory. refl)) (again-leads n a k body)
+
+  table-keeps : (t : Table) → Kept t
+  table-keeps done =
+      record {
+        keeps =
+            λ memory after enough e.
+            unfold tableRun in
+            let same = same-through e in
+            keeps-same (ap (λ m. m .store) same) (ap (λ m. m .copied) same);
+      }
+  table-keeps (one row k) = leads-keeps (one-leads row k) (table-keeps k)
+  table-keeps (fork f a b k) = leads-keeps (fork-leads f a b k (table-keeps a) (table-keeps b)) (table-keeps k)
+  table-keeps (again n a k) = leads-keeps (again-leads n a k (table-keeps a)) (table-keeps k)
 
   -- ---- the forward part comes to an end, and row 17 is next
 
-  then-leaves : {memory after : Memory A} {k rest : Table} → (l : Leaves memory k after) → Leaves (l .next) rest after → Leaves memory rest after
-  then-leaves l more = record { next = more .next; kept = keeps-then (l .kept) (more .kept); runs = more .runs }
-
-  row-leaves : (m : Marked) (rest : Table) (memory after : Memory A) → 2 * setting .variables ≤ length (memory .store)
-      → tableRun A setting (forwardRow m rest) memory ≡ through after → Leaves memory rest after
+  row-leads : (m : Marked) (rest : Table) → Leads (forwardRow m rest) rest
   unfolding forwardRow
-  row-leaves m rest memory after enough e = by-saved (m .saved) e
+  row-leads m rest = by-saved (m .saved)
     where
-      assigned : Table
-      assigned = put (m .row) itself (assign (m .assignment)) rest
+      by-saved : (saved : Bool)
+          → Leads (putIf saved (m .row) saving (save (targetOf (m .assignment))) (put (m .row) itself (assign (m .assignment)) rest)) rest
+      by-saved true = leads-then (one-leads _ _) (one-leads _ rest)
+      by-saved false = one-leads _ rest
 
-      by-saved : (saved : Bool) → tableRun A setting (putIf saved (m .row) saving (save (targetOf (m .assignment))) assigned) memory ≡ through after
-          → Leaves memory rest after
-      by-saved true e =
-          let l = one-leaves _ assigned memory after enough e in
-          then-leaves l (one-leaves _ rest (l .next) after (rw (l .kept .room) enough) (l .runs))
-      by-saved false e = one-leaves _ rest memory after enough e
-
-  forward-leaves : (t : Body) (rest : Table) (memory after : Memory A) → 2 * setting .variables ≤ length (memory .store)
-      → tableRun A setting (forwardPart t rest) memory ≡ through after → Leaves memory rest after
+  forward-leads : (t : Body) (rest : Table) → Leads (forwardPart t rest) rest
   unfolding forwardPart
-  forward-leaves done rest memory after enough e = record { next = memory; kept = keeps-same refl refl; runs = e }
-  forward-leaves (one m k) rest memory after enough e =
-      let l = row-leaves m (forwardPart k rest) memory after enough e in
-      then-leaves l (forward-leaves k rest (l .next) after (rw (l .kept .room) enough) (l .runs))
-  forward-leaves (fork f a b k) rest memory after enough e =
-      let l = fork-leaves _ _ _ (forwardPart k rest) (table-keeps _) (table-keeps _) memory after enough e in
-      then-leaves l (forward-leaves k rest (l .next) after (rw (l .kept .room) enough) (l .runs))
-  forward-leaves (again n a k) rest memory after enough e =
-      let l = again-leaves n _ (forwardPart k rest) (table-keeps _) memory after enough e in
-      then-leaves l (forward-leaves k rest (l .next) after (rw (l .kept .room) enough) (l .runs))
+  forward-leads done rest = record { to = λ memory after enough e. record { next = memory; kept = keeps-same refl refl; runs = e } }
+  forward-leads (one m k) rest = leads-then (row-leads m (forwardPart k rest)) (forward-leads k rest)
+  forward-leads (fork f a b k) rest =
+      leads-then (fork-leads _ _ _ (forwardPart k rest) (table-keeps _) (table-keeps _)) (forward-leads k rest)
+  forward-leads (again n a k) rest = leads-then (again-leads n _ (forwardPart k rest) (table-keeps _)) (forward-leads k rest)
 
-  pub adjoint-copies : (body : Body) (memory after : Memory A) → 2 * setting .variables ≤ length (memory .store)
+  pub adjoint-copies : (body : Body) (memory after : Memory A) → Roomy memory
       → tableRun A setting (adjointTable (setting .variables) body) memory ≡ through after → length (after .copied) ≡ setting .variables
   unfolding adjointTable tableRun acted
   adjoint-copies body memory after enough e =
       let back = backwardPart (setting .variables) body done in
-      let l = forward-leaves body (one (record { origin = ofTurningRound; action = turnRound }) back) memory after enough e in
-      let still : 2 * setting .variables ≤ length (l .next .store) = rw (l .kept .room) enough in
+      let l = forward-leads body (one (record { origin = ofTurningRound; action = turnRound }) back) .to memory after enough e in
+      let still : Roomy (l .next) = rw (l .kept .room) enough in
       let turned = turnedRound A setting (l .next) in
-      table-keeps back turned after (rw (turned-room (l .next) still) still) (l .runs) .copies (turned-copies (l .next) still)
+      table-keeps back .keeps turned after (rw (turned-room (l .next) still) still) (l .runs) .copies (turned-copies (l .next) still)

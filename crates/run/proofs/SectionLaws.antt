@@ -17,7 +17,7 @@ use Rattle.sheet.proofs.ReadingParts.{accepted}
 use Rattle.sheet.proofs.NamesPresent.{counts, count-judged}
 use Rattle.table.specs.TableRows.{linesOf, tableVariables}
 use Rattle.table.specs.Adjoint.{tableOf}
-use Rattle.table.specs.Sizes.{tableRows, mostTableRows}
+use Rattle.table.specs.Sizes.{tableRows}
 use Rattle.table.specs.declared.Plan.{Plan}
 use Rattle.run.specs.inner.Runnable.{Holds}
 use Rattle.run.specs.inner.JumpsFound.{JumpsOf}
@@ -90,13 +90,15 @@ module _ (words : List ℕ) (plan : Plan) where
   -- the first places of an array of zeros, and of another array
   pub run-room : (A : Arithmetic) {starts seeds result : List (A .Carrier)} → SheetRoom words plan starts seeds result
       → (zeros : ℕ) → tableVariables (limit .variables) ≤ zeros → (copied : List (A .Carrier)) → limit .variables ≤ length copied
-      → RunRoom A rolesPart starts seeds (take (tableVariables (shape .variables)) (replicate zeros (A .zero))) (take (shape .variables) copied) result
+      → RunRoom A rolesPart starts seeds (take (tableVariables (shape .variables)) (replicate zeros (A .zero))) (take (shape .variables) copied)
+      result
   run-room A room zeros enough copied enoughToo =
       let v = shape .variables in
       let few = room .few in
       let within = room .within in
       let part : 1 + v - 1 ≡ v = omega arith in
-      let roles : length rolesPart ≡ v = ap (λ n. length (take n (drop 1 words))) part ∙ length-take-le v (drop 1 words) (omega (arith, length-drop 1 words)) in
+      let roles : length rolesPart ≡ v =
+      ap (λ n. length (take n (drop 1 words))) part ∙ length-take-le v (drop 1 words) (omega (arith, length-drop 1 words)) in
       let store = length-take-le (tableVariables v) (replicate zeros (A .zero)) (omega (arith, length-replicate zeros (A .zero))) in
       record {
         startsFit = room .startsFit ∙ sym roles;

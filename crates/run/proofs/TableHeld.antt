@@ -61,7 +61,7 @@ table-holds table before =
     let behind = drop (length (tableWords table)) before in
     record { within = omega (arith, table-words table, lines-counted table, length-append (tableWords table) behind); held = table-row table behind }
 
-pub sheet-rows-within : (words : List ℕ) (sheet : Sheet) → read words ≡ given sheet → rows (sheet .body) ≤ limit .rows
+sheet-rows-within : (words : List ℕ) (sheet : Sheet) → read words ≡ given sheet → rows (sheet .body) ≤ limit .rows
 sheet-rows-within words sheet e =
     let is = shaped words sheet e in
     subst (λ s. rows (s .body) ≤ limit .rows) (same-given (sym (is .is) ∙ e)) (omega (arith, is .rowsOfTree, is .rowsWithin))
@@ -69,4 +69,5 @@ sheet-rows-within words sheet e =
 pub table-rows-within : (words : List ℕ) (sheet : Sheet) → read words ≡ given sheet → tableRows (variablesOf sheet) (marked sheet) ≤ mostTableRows
 unfolding marked
 table-rows-within words sheet e =
-    omega (arith, table-rows-bound (variablesOf sheet) (marked sheet), marked-rows (markBy (varied sheet) (useful sheet) (required sheet)) (sheet .body) 0, sheet-rows-within words sheet e)
+    let body = marked-rows (markBy (varied sheet) (useful sheet) (required sheet)) (sheet .body) 0 in
+    omega (arith, table-rows-bound (variablesOf sheet) (marked sheet), body, sheet-rows-within words sheet e)

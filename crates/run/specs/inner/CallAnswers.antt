@@ -70,8 +70,9 @@ module _ (A : Arithmetic) where
       runOf A (tableOf sheet) (settingOf A sheet seeds valueRoom turnRoom) (startOf A sheet starts)
 
   -- what is answered and left is what the run of the sheet's table, written over a buffer, comes to
-  abbrev pub RanTo : Sheet → (buffer : List ℕ) → (starts seeds before : List (A .Carrier)) → (turnsBefore : List ℕ) → (resultBefore : List (A .Carrier))
-      → (answer : Answer) → (after : List (A .Carrier)) → (turnsAfter : List ℕ) → (resultAfter : List (A .Carrier)) → Type 0
+  abbrev pub RanTo : Sheet → (buffer : List ℕ) → (starts seeds before : List (A .Carrier)) → (turnsBefore : List ℕ)
+      → (resultBefore : List (A .Carrier)) → (answer : Answer)
+      → (after : List (A .Carrier)) → (turnsAfter : List ℕ) → (resultAfter : List (A .Carrier)) → Type 0
   RanTo sheet buffer starts seeds before turnsBefore resultBefore answer after turnsAfter resultAfter =
       ranOf A answer (lentOf A (overwritten (tableWords (tableOf sheet)) buffer) after turnsAfter resultAfter)
       ≡ ranTo A sheet (lentOf A buffer before turnsBefore resultBefore) (sheetRun sheet starts seeds (length before) (length turnsBefore))

@@ -6,7 +6,8 @@ use lib.ListN.{length, drop}
 use lib.Dec.{leb, eqb}
 use Rattle.number.specs.Arithmetic.{Arithmetic}
 use Rattle.number.specs.Doubles.{doubles}
-use Rattle.sheet.specs.Refusals.{Refusal, Answer, refused, given, _>>=_, numberOf, placeOf, smallTable, smallValueStack, smallTurnStack, wrongStarts, wrongSeeds, wrongResult, notFiniteGiven, notFiniteResult}
+use Rattle.sheet.specs.Refusals.{Refusal, Answer, refused, given, _>>=_, numberOf, placeOf}
+use Rattle.sheet.specs.Refusals.{smallTable, smallValueStack, smallTurnStack, wrongStarts, wrongSeeds, wrongResult, notFiniteGiven, notFiniteResult}
 use Rattle.sheet.specs.Reading.{Sheet, variablesOf, unless}
 use Rattle.sets.specs.Marks.{marked}
 use Rattle.table.specs.Sizes.{valuesNeeded, turnsNeeded}

@@ -46,7 +46,9 @@ loop-less : tie.Need-loop-less Inv-loop μ-loop
 loop-less c = omega arith
 
 loop-again : tie.Need-loop-again Inv-loop μ-loop
-loop-again c = putting-goes-on doubles _ _ _ _ _ _ nan (c .double-or-zero .ensures) (c .before .before .before .loop-test .taken) (omega arith) (c .before .before .before .before .loop .inv)
+loop-again c =
+    putting-goes-on doubles _ _ _ _ _ _ nan (c .double-or-zero .ensures) (c .before .before .before .loop-test .taken) (omega arith)
+    (c .before .before .before .before .loop .inv)
 
 same-length : tie.Need-same-length Inv-loop μ-loop
 same-length c = c .before .loop .inv .long

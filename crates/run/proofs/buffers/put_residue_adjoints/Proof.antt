@@ -45,7 +45,9 @@ loop-less : tie.Need-loop-less Inv-loop μ-loop
 loop-less c = omega arith
 
 loop-again : tie.Need-loop-again Inv-loop μ-loop
-loop-again c = putting-goes-on residues _ _ _ _ _ _ 0 (c .residue-or-zero .ensures) (c .before .before .before .loop-test .taken) (omega arith) (c .before .before .before .before .loop .inv)
+loop-again c =
+    putting-goes-on residues _ _ _ _ _ _ 0 (c .residue-or-zero .ensures) (c .before .before .before .loop-test .taken) (omega arith)
+    (c .before .before .before .before .loop .inv)
 
 same-length : tie.Need-same-length Inv-loop μ-loop
 same-length c = c .before .loop .inv .long

@@ -40,8 +40,9 @@ same-length c = search needs
 
 returns : tie.Need-returns
 returns c =
-    let start = c .before .before .before .before .before .before .before .before .before .before .before .before .before in
-    result-written doubles _ _ _ _ (start .pre) _ _ (c .before .before .before .before .before .before .before .copy-doubles .ensures) (c .before .before .put-double-adjoints .ensures)
+    let copied = c .before .before .before .before .before .before .before in
+    let start = copied .before .before .before .before .before .before in
+    result-written doubles _ _ _ _ (start .pre) _ _ (copied .copy-doubles .ensures) (c .before .before .put-double-adjoints .ensures)
 
 pub write-doubles-spec : {M : Type 1} → statement M
 write-doubles-spec =

@@ -40,8 +40,9 @@ same-length c = search needs
 
 returns : tie.Need-returns
 returns c =
-    let start = c .before .before .before .before .before .before .before .before .before .before .before .before .before in
-    result-written residues _ _ _ _ (start .pre) _ _ (c .before .before .before .before .before .before .before .copy-residues .ensures) (c .before .before .put-residue-adjoints .ensures)
+    let copied = c .before .before .before .before .before .before .before in
+    let start = copied .before .before .before .before .before .before in
+    result-written residues _ _ _ _ (start .pre) _ _ (copied .copy-residues .ensures) (c .before .before .put-residue-adjoints .ensures)
 
 pub write-residues-spec : {M : Type 1} → statement M
 write-residues-spec =

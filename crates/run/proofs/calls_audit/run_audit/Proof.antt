@@ -20,11 +20,15 @@ enum-known-plan c = search needs
 
 write-planned-requires : tie.Need-write-planned-requires
 write-planned-requires c κs =
-    let room = subst (JudgedAs _ _ _ _ _) (c .before .before .before .before .before .plan .given .1) (c .before .before .before .before .before .before .before .judge .ensures) in
+    let planned = c .before .before .before .before .before in
+    let room = subst (JudgedAs _ _ _ _ _) (planned .plan .given .1) (planned .before .before .judge .ensures) in
     (room .made, room .tableFits)
 
 run-written-requires : tie.Need-run-written-requires
-run-written-requires c κs = sheet-room _ _ _ (subst (JudgedAs _ _ _ _ _) (c .before .before .before .before .before .before .before .before .before .before .before .before .plan .given .1) (c .before .before .before .before .before .before .before .before .before .before .before .before .before .before .judge .ensures))
+run-written-requires c κs =
+    let wrote = c .before .before .before .before .before .before in
+    let planned = wrote .before .before .before .before .before .before in
+    sheet-room _ _ _ (subst (JudgedAs _ _ _ _ _) (planned .plan .given .1) (planned .before .before .judge .ensures))
 
 returns : tie.Need-returns
 returns c =
@@ -44,8 +48,11 @@ same-length-4 c = search needs
 
 returns-2 : tie.Need-returns-2
 returns-2 c =
-    accepted-run residues _ _ _ _ (subst (JudgedAs _ _ _ _ _) (c .before .before .before .before .before .before .before .before .before .before .before .before .before .before .before .before .before .before .before .plan .given .1) (c .before .before .before .before .before .before .before .before .before .before .before .before .before .before .before .before .before .before .before .before .before .judge .ensures)) (residues-admitted _ _)
-    (c .before .before .before .before .before .before .before .before .before .before .before .before .before .write-planned .ensures) (c .before .before .before .before .before .before .run-written .ensures)
+    let ran = c .before .before .before .before .before .before in
+    let wrote = ran .before .before .before .before .before .before .before in
+    let planned = wrote .before .before .before .before .before .before in
+    accepted-run residues _ _ _ _ (subst (JudgedAs _ _ _ _ _) (planned .plan .given .1) (planned .before .before .judge .ensures))
+    (residues-admitted _ _) (wrote .write-planned .ensures) (ran .run-written .ensures)
 
 pub run-audit-spec : {M : Type 1} → statement M
 run-audit-spec =

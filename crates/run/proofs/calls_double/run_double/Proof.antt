@@ -1,9 +1,9 @@
 -- `run::calls_double::run_double` meets its contract.
-use mathlib.Core.Path.{sym, ap, subst, _∙_}
+use mathlib.Core.Path.{subst}
 use Rattle.number.specs.Doubles.{doubles}
-use Rattle.run.specs.inner.CallSteps.{fitSaid, JudgedAs}
+use Rattle.run.specs.inner.CallSteps.{JudgedAs}
 use Rattle.run.proofs.SectionLaws.{sheet-room}
-use Rattle.run.proofs.CallsJudged.{refused-run, numbers-refuse, accepted-run}
+use Rattle.run.proofs.CallsJudged.{said, refused-run, numbers-refuse, accepted-run}
 use borrow.Author.Needs.{needs}
 use Rattle.run.proofs.calls_double.run_double.Statement.{statement}
 use Rattle.run.proofs.calls_double.run_double.Tie as tie
@@ -28,19 +28,25 @@ answer-no-requires c κs = search needs
 
 returns : tie.Need-returns
 returns c =
-    numbers-refuse doubles _ _ _ _ (subst (JudgedAs _ _ _ _ _) (c .before .before .before .before .before .before .plan .given .1) (c .before .before .before .before .before .before .before .before .judge .ensures))
-    (sym (c .before .before .before .before .all-finite .ensures) ∙ ap fitSaid (c .before .before .why .given .1)) (c .answer-no .ensures)
+    let judged = c .before .before .before .before in
+    let planned = judged .before .before in
+    numbers-refuse doubles _ _ _ _ (subst (JudgedAs _ _ _ _ _) (planned .plan .given .1) (planned .before .before .judge .ensures))
+    (said (judged .all-finite .ensures) (c .before .before .why .given .1)) (c .answer-no .ensures)
 
 enum-told : tie.Need-enum-told
 enum-told c = search needs
 
 write-planned-requires : tie.Need-write-planned-requires
 write-planned-requires c κs =
-    let room = subst (JudgedAs _ _ _ _ _) (c .before .before .before .before .before .before .before .before .plan .given .1) (c .before .before .before .before .before .before .before .before .before .before .judge .ensures) in
+    let planned = c .before .before .before .before .before .before .before .before in
+    let room = subst (JudgedAs _ _ _ _ _) (planned .plan .given .1) (planned .before .before .judge .ensures) in
     (room .made, room .tableFits)
 
 run-written-requires : tie.Need-run-written-requires
-run-written-requires c κs = sheet-room _ _ _ (subst (JudgedAs _ _ _ _ _) (c .before .before .before .before .before .before .before .before .before .before .before .before .before .before .before .plan .given .1) (c .before .before .before .before .before .before .before .before .before .before .before .before .before .before .before .before .before .judge .ensures))
+run-written-requires c κs =
+    let wrote = c .before .before .before .before .before .before in
+    let planned = wrote .before .before .before .before .before .before .before .before .before in
+    sheet-room _ _ _ (subst (JudgedAs _ _ _ _ _) (planned .plan .given .1) (planned .before .before .judge .ensures))
 
 returns-2 : tie.Need-returns-2
 returns-2 c =
@@ -60,8 +66,13 @@ same-length-4 c = search needs
 
 returns-3 : tie.Need-returns-3
 returns-3 c =
-    accepted-run doubles _ _ _ _ (subst (JudgedAs _ _ _ _ _) (c .before .before .before .before .before .before .before .before .before .before .before .before .before .before .before .before .before .before .before .before .before .before .plan .given .1) (c .before .before .before .before .before .before .before .before .before .before .before .before .before .before .before .before .before .before .before .before .before .before .before .before .judge .ensures)) (sym (c .before .before .before .before .before .before .before .before .before .before .before .before .before .before .before .before .before .before .before .before .all-finite .ensures) ∙ ap fitSaid (c .before .before .before .before .before .before .before .before .before .before .before .before .before .before .before .before .before .before .enum-told .given .1))
-    (c .before .before .before .before .before .before .before .before .before .before .before .before .before .write-planned .ensures) (c .before .before .before .before .before .before .run-written .ensures)
+    let ran = c .before .before .before .before .before .before in
+    let wrote = ran .before .before .before .before .before .before .before in
+    let told = wrote .before .before .before .before .before in
+    let judged = told .before .before in
+    let planned = judged .before .before in
+    accepted-run doubles _ _ _ _ (subst (JudgedAs _ _ _ _ _) (planned .plan .given .1) (planned .before .before .judge .ensures))
+    (said (judged .all-finite .ensures) (told .enum-told .given .1)) (wrote .write-planned .ensures) (ran .run-written .ensures)
 
 pub run-double-spec : {M : Type 1} → statement M
 run-double-spec =

@@ -20,10 +20,12 @@ clear-stacks-requires-2 c κs = search needs
 
 write-result-requires : tie.Need-write-result-requires
 write-result-requires c κs =
-    let ran = c .before .before .before .before .before .before .before .before .before .before .before .before .before .before .before .before .before .before in
+    let emptied-again = c .before .before .before .before .before .before .before in
+    let ran = emptied-again .before .before .before .before .before .before .before .before .before .before .before in
     let laid = ran .before .before .before .before .before .before .before .before .before .before .before .before .before .before .before in
+    let start = laid .before .before .before .before .before .before .before .before .before .before .before .before in
     let kept = ran .run-rows .kept .1 .1 .1 .1 .1 .1 in
-    result-fits doubles (laid .before .before .before .before .before .before .before .before .before .before .before .before .pre) (kept .0 ∙ laid .copy-doubles .kept .1 .0) (kept .1 .1 .1 .0)
+    result-fits doubles (start .pre) (kept .0 ∙ laid .copy-doubles .kept .1 .0) (kept .1 .1 .1 .0)
 
 answer-end-requires : tie.Need-answer-end-requires
 answer-end-requires c κs = search needs
@@ -36,8 +38,10 @@ same-length-2 c = search needs
 
 same-length-3 : tie.Need-same-length-3
 same-length-3 c =
-    let ran = c .before .before .before .before .before .before .before .before .before .before .before .before .before .before .before .before .before .before .before .before .before .before in
-    ran .run-rows .kept .1 .1 .1 .1 .1 .1 .0 ∙ ran .before .before .before .before .before .before .before .before .before .before .before .before .before .before .before .copy-doubles .kept .1 .0
+    let emptied-again = c .before .before .before .before .before .before .before .before .before .before .before in
+    let ran = emptied-again .before .before .before .before .before .before .before .before .before .before .before in
+    let laid = ran .before .before .before .before .before .before .before .before .before .before .before .before .before .before .before in
+    ran .run-rows .kept .1 .1 .1 .1 .1 .1 .0 ∙ laid .copy-doubles .kept .1 .0
 
 same-length-4 : tie.Need-same-length-4
 same-length-4 c = search needs
@@ -52,10 +56,11 @@ returns c =
     let ran = emptied-again .before .before .before .before .before .before .before .before .before .before .before in
     let emptied = ran .before .before .before .before .before .before .before .before .before .before in
     let laid = emptied .before .before .before .before .before in
+    let start = laid .before .before .before .before .before .before .before .before .before .before .before .before in
     let kept = ran .run-rows .kept .1 .1 .1 .1 .1 .1 .1 in
     λ sheet buffer ready.
-    comes-to doubles ready (laid .before .before .before .before .before .before .before .before .before .before .before .before .pre) _ _ buffer _ _ (laid .copy-doubles .ensures) (emptied .clear-stacks .ensures)
-    (ran .run-rows .ensures) (kept .0) (kept .1 .0) (emptied-again .clear-stacks2 .ensures) (written .write-result .ensures) (c .answer-end .ensures)
+    comes-to doubles ready (start .pre) _ _ buffer _ _ (laid .copy-doubles .ensures) (emptied .clear-stacks .ensures) (ran .run-rows .ensures)
+    (kept .0) (kept .1 .0) (emptied-again .clear-stacks2 .ensures) (written .write-result .ensures) (c .answer-end .ensures)
 
 pub run-in-spec : {M : Type 1} → statement M
 run-in-spec =

@@ -62,7 +62,9 @@ slice-aggregate-run-in-2 c = sym (length-take-le _ _ (omega arith))
 run-in-requires : tie.Need-run-in-requires
 unfolding ofBits
 run-in-requires c κs =
-    run-room _ _ doubles (c .before .before .before .before .before .before .before .before .before .before .before .before .before .before .before .before .before .before .before .pre) (tableVariables (limit .variables)) (omega arith) _ (omega arith)
+    let found = c .before .before .before .before .before .before .before .before in
+    let start = found .before .before .before .before .before .before .before .before .before .before .before in
+    run-room _ _ doubles (start .pre) (tableVariables (limit .variables)) (omega arith) _ (omega arith)
 
 same-length : tie.Need-same-length
 same-length c = search needs
@@ -74,7 +76,10 @@ same-length-3 : tie.Need-same-length-3
 same-length-3 c = search needs
 
 returns : tie.Need-returns
-returns c = λ sheet buffer written. c .before .before .before .before .before .before .before .before .run-in .ensures sheet buffer (ready-to-run _ _ written (c .before .before .before .before .before .before .before .before .before .before .before .before .before .before .before .before .before .find-jumps .ensures))
+returns c =
+    let ran = c .before .before .before .before .before .before .before .before in
+    let found = ran .before .before .before .before .before .before .before .before .before in
+    λ sheet buffer written. ran .run-in .ensures sheet buffer (ready-to-run _ _ written (found .find-jumps .ensures))
 
 pub run-written-spec : {M : Type 1} → statement M
 run-written-spec =

@@ -1,10 +1,9 @@
 -- `run::refusals::all_finite` meets its contract.
-use mathlib.Core.Path.{sym, ap, _∙_}
 use native.Mathlib.Nat.{zero-add}
 use lib.ListN.{length}
 use Rattle.number.specs.Doubles.{doubles}
-use Rattle.run.specs.inner.CallSteps.{fitSaid}
 use Rattle.run.proofs.AdmittedLaws.{admitted-append}
+use Rattle.run.proofs.CallsJudged.{said}
 use borrow.Author.Needs.{needs}
 use Rattle.run.proofs.refusals.all_finite.Statement.{statement}
 use Rattle.run.proofs.refusals.all_finite.Tie as tie
@@ -17,8 +16,9 @@ enum-known-why c = search needs
 
 returns : tie.Need-returns
 returns c =
-    let args = c .before .before .before .before .before .before .args in
-    rw (admitted-append doubles (args .starts .now) (args .seeds .now) 0, sym (c .before .before .before .finite-from .ensures) ∙ ap fitSaid (c .before .why .given .1))
+    let judged = c .before .before .before in
+    let args = judged .before .before .before .args in
+    rw (admitted-append doubles (args .starts .now) (args .seeds .now) 0, said (judged .finite-from .ensures) (c .before .why .given .1))
 
 enum-told : tie.Need-enum-told
 enum-told c = search needs
@@ -28,10 +28,11 @@ finite-from-requires-2 c κs = search needs
 
 returns-2 : tie.Need-returns-2
 returns-2 c =
-    let args = c .before .before .before .before .before .before .args in
+    let judged = c .before .before .before in
+    let args = judged .before .before .before .args in
     rw (
       admitted-append doubles (args .starts .now) (args .seeds .now) 0,
-      sym (c .before .before .before .finite-from .ensures) ∙ ap fitSaid (c .before .enum-told .given .1),
+      said (judged .finite-from .ensures) (c .before .enum-told .given .1),
       zero-add (length (args .starts .now)),
     )
     (c .finite-from2 .ensures)

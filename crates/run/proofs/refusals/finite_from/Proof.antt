@@ -33,7 +33,9 @@ add-t9 : tie.Need-add-t9 Inv-loop μ-loop
 add-t9 c = omega arith
 
 returns : tie.Need-returns Inv-loop μ-loop
-returns c = judging-refuses doubles _ _ _ nan (c .before .before .before .loop-test .taken) (sym (c .before .is-finite .ensures) ∙ not-true _ (c .if1 .taken)) (c .before .before .before .before .loop .inv)
+returns c =
+    judging-refuses doubles _ _ _ nan (c .before .before .before .loop-test .taken)
+    (sym (c .before .is-finite .ensures) ∙ not-true _ (c .if1 .taken)) (c .before .before .before .before .loop .inv)
 
 add-i : tie.Need-add-i Inv-loop μ-loop
 add-i c = omega arith
@@ -42,7 +44,9 @@ loop-less : tie.Need-loop-less Inv-loop μ-loop
 loop-less c = omega arith
 
 loop-again : tie.Need-loop-again Inv-loop μ-loop
-loop-again c = judging-goes-on doubles _ _ _ nan (c .before .before .before .loop-test .taken) (sym (c .before .is-finite .ensures) ∙ not-false _ (c .if1 .left)) (c .before .before .before .before .loop .inv)
+loop-again c =
+    judging-goes-on doubles _ _ _ nan (c .before .before .before .loop-test .taken)
+    (sym (c .before .is-finite .ensures) ∙ not-false _ (c .if1 .left)) (c .before .before .before .before .loop .inv)
 
 returns-2 : tie.Need-returns-2 Inv-loop μ-loop
 returns-2 c = judging-ends doubles _ _ _ (c .loop-test .left) (c .before .loop .inv)

@@ -1,8 +1,7 @@
 -- `run::refusals::judge` meets its contract.
-use mathlib.Core.Path.{sym, ap, subst, _∙_}
+use mathlib.Core.Path.{subst}
 use Rattle.table.specs.inner.Plans.{PlanSays}
-use Rattle.run.specs.inner.CallSteps.{fitSaid}
-use Rattle.run.proofs.CallsJudged.{unread, rooms-refuse, rooms-fit}
+use Rattle.run.proofs.CallsJudged.{said, unread, rooms-refuse, rooms-fit}
 use borrow.Author.Needs.{needs}
 use Rattle.run.proofs.refusals.judge.Statement.{statement}
 use Rattle.run.proofs.refusals.judge.Tie as tie
@@ -41,13 +40,17 @@ returns c =
 
 returns-2 : tie.Need-returns-2
 returns-2 c =
-    rooms-refuse _ (subst (PlanSays _ _ _ _) (c .before .before .before .before .before .before .plan .given .1) (c .before .before .before .before .before .before .before .before .plan-sheet .ensures))
-    (sym (c .before .before .before .before .rooms-fit .ensures) ∙ ap fitSaid (c .before .before .why2 .given .1)) (c .answer-no .ensures)
+    let judged = c .before .before .before .before in
+    let planned = judged .before .before in
+    rooms-refuse _ (subst (PlanSays _ _ _ _) (planned .plan .given .1) (planned .before .before .plan-sheet .ensures))
+    (said (judged .rooms-fit .ensures) (c .before .before .why2 .given .1)) (c .answer-no .ensures)
 
 returns-3 : tie.Need-returns-3
 returns-3 c =
-    rooms-fit _ (subst (PlanSays _ _ _ _) (c .before .before .before .before .plan .given .1) (c .before .before .before .before .before .before .plan-sheet .ensures))
-    (sym (c .before .before .rooms-fit .ensures) ∙ ap fitSaid (c .enum-told .given .1))
+    let judged = c .before .before in
+    let planned = judged .before .before in
+    rooms-fit _ (subst (PlanSays _ _ _ _) (planned .plan .given .1) (planned .before .before .plan-sheet .ensures))
+    (said (judged .rooms-fit .ensures) (c .enum-told .given .1))
 
 pub judge-spec : {M : Type 1} → statement M
 judge-spec =
