@@ -24,27 +24,25 @@ module _ (A : Arithmetic) where
         let here : place + 0 ≡ place = omega arith in
         record { within = omega arith; same = rw here }
 
-    pub judging-goes-on : (i : ℕ) (z : A .Carrier) → i < length numbers → A .admits (getD numbers i z) ≡ true → Judging i → Judging (i + 1)
+    -- the number at hand, by its test
+    judging-next : {i : ℕ} {admitted : Bool} (z : A .Carrier) → i < length numbers → A .admits (getD numbers i z) ≡ admitted → Judging i
+        → (unless admitted (notFiniteGiven (place + i)) >>= λ _. allAdmitted A (drop (suc i) numbers) (suc (place + i)))
+        ≡ allAdmitted A numbers place
     unfolding allAdmitted
-    judging-goes-on i z h is j =
-        let next : place + (i + 1) ≡ suc (place + i) = omega arith in
-        let after : i + 1 ≡ suc i = omega arith in
-        record {
-          within = omega arith;
-          same =
-              rw (next, after)
-              (sym (ap (λ l. allAdmitted A l (place + i)) (drop-cons numbers i z h)
-              ∙ ap (λ b. unless b (notFiniteGiven (place + i)) >>= λ _. allAdmitted A (drop (suc i) numbers) (suc (place + i))) is)
-              ∙ j .same);
-        }
-
-    pub judging-refuses : (i : ℕ) (z : A .Carrier) → i < length numbers → A .admits (getD numbers i z) ≡ false → Judging i
-        → refused (notFiniteGiven (place + i)) ≡ allAdmitted A numbers place
-    unfolding allAdmitted
-    judging-refuses i z h is j =
+    judging-next {i} z h is j =
         sym (ap (λ l. allAdmitted A l (place + i)) (drop-cons numbers i z h)
         ∙ ap (λ b. unless b (notFiniteGiven (place + i)) >>= λ _. allAdmitted A (drop (suc i) numbers) (suc (place + i))) is)
         ∙ j .same
+
+    pub judging-goes-on : (i : ℕ) (z : A .Carrier) → i < length numbers → A .admits (getD numbers i z) ≡ true → Judging i → Judging (i + 1)
+    judging-goes-on i z h is j =
+        let next : place + (i + 1) ≡ suc (place + i) = omega arith in
+        let after : i + 1 ≡ suc i = omega arith in
+        record { within = omega arith; same = rw (next, after) (judging-next z h is j) }
+
+    pub judging-refuses : (i : ℕ) (z : A .Carrier) → i < length numbers → A .admits (getD numbers i z) ≡ false → Judging i
+        → refused (notFiniteGiven (place + i)) ≡ allAdmitted A numbers place
+    judging-refuses i z h is j = judging-next z h is j
 
     pub judging-ends : (i : ℕ) → length numbers ≤ i → Judging i → given tt ≡ allAdmitted A numbers place
     unfolding allAdmitted

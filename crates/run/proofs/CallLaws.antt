@@ -7,7 +7,6 @@ use native.Mathlib.Omega.{arith}
 use lib.ListN.{length, drop, replicate, length-append, length-replicate, replicate-append-replicate}
 use lib.Seq.{drop-at}
 use Rattle.number.specs.Arithmetic.{Arithmetic}
-use Rattle.sheet.specs.Bounds.{limit}
 use Rattle.sheet.specs.Reading.{Sheet, variablesOf}
 use Rattle.sheet.proofs.ReadingParts.{accepted}
 use Rattle.sheet.proofs.NamesPresent.{counts}
@@ -28,7 +27,7 @@ use Rattle.run.specs.declared.Ended.{Ended}
 use Rattle.run.specs.declared.Ended.the-variants as ended
 use Rattle.run.proofs.MachineFollows.{Result, EndsAs, run-follows}
 use Rattle.run.proofs.RunsCopy.{adjoint-copies}
-use Rattle.run.proofs.Fuel.{accepted-fuel-same}
+use Rattle.run.proofs.Fuel.{enoughSteps, accepted-fuel-same}
 use Rattle.run.proofs.OpenRepeats.{sheet-shallow}
 
 -- ---- the start
@@ -45,13 +44,20 @@ empty-stack zero n =
     record { within = omega arith; above = ap (λ k. replicate k zero) (sym all) }
 
 module _ (A : Arithmetic) where
-  loaded-start : (sheet : Sheet) (starts : List (A .Carrier)) → length starts ≡ variablesOf sheet
+  starts-then-zeros : (sheet : Sheet) (starts : List (A .Carrier)) → length starts ≡ variablesOf sheet
       → filled starts (replicate (tableVariables (variablesOf sheet)) (A .zero)) ≡ startOf A sheet starts .memory .store
   unfolding startOf
-  loaded-start sheet starts n =
+  starts-then-zeros sheet starts n =
       let v = variablesOf sheet in
       let split : 2 * v + 2 ≡ v + (v + 2) = omega arith in
       rw (n, split) (ap (λ l. starts ++ l) (drop-zeros v (v + 2) (A .zero)))
+
+  start-length : (sheet : Sheet) (starts : List (A .Carrier))
+      → length (startOf A sheet starts .memory .store) ≡ length starts + (variablesOf sheet + 2)
+  unfolding startOf
+  start-length sheet starts =
+      let zeros = replicate (variablesOf sheet + 2) (A .zero) in
+      length-append starts zeros ∙ ap (λ n. length starts + n) (length-replicate (variablesOf sheet + 2) (A .zero))
 
   -- cleared stacks under the setting of a sheet's run
   both-empty : (sheet : Sheet) (seeds : List (A .Carrier)) (valueRoom turnRoom : ℕ) (store copied : List (A .Carrier))
@@ -80,27 +86,6 @@ module _ (A : Arithmetic) where
   finished-in-the-large (halted s) ending memory ends e = let stopped = ends .1 in cc
   finished-in-the-large stuck ending memory ends e = cc
 
-  start-length : (sheet : Sheet) (starts : List (A .Carrier))
-      → length (startOf A sheet starts .memory .store) ≡ length starts + (variablesOf sheet + 2)
-  unfolding startOf
-  start-length sheet starts =
-      let zeros = replicate (variablesOf sheet + 2) (A .zero) in
-      length-append starts zeros ∙ ap (λ n. length starts + n) (length-replicate (variablesOf sheet + 2) (A .zero))
-
-  module _ (sheet : Sheet) (starts seeds : List (A .Carrier)) (valueRoom turnRoom : ℕ) where
-    abbrev setting : Setting A
-    setting = settingOf A sheet seeds valueRoom turnRoom
-
-    -- a finished run has copied every original
-    finished-copies : length starts ≡ variablesOf sheet → (memory : Memory A) → sheetRun A sheet starts seeds valueRoom turnRoom ≡ finished memory
-        → length (memory .copied) ≡ variablesOf sheet
-    unfolding sheetRun startOf settingOf tableOf
-    finished-copies n memory e =
-        let start : Memory A = startOf A sheet starts .memory in
-        adjoint-copies A setting refl (marked sheet) start memory
-        (omega (arith, start-length sheet starts))
-        (finished-in-the-large (tableRun A setting (tableOf sheet) start) _ memory (run-follows A (tableOf sheet) setting start) e)
-
   -- whatever the run leaves in its store and of the copies, the result can be read off
   pub result-fits : {roles : List ℕ} {starts seeds before copied result : List (A .Carrier)} → RunRoom A roles starts seeds before copied result
       → {store copies : List (A .Carrier)} → length store ≡ length before → length copies ≡ length copied → ResultFits roles copies store result
@@ -119,7 +104,7 @@ module _ (A : Arithmetic) where
     ending = sheetRun A sheet starts seeds (length values) (length turns)
 
     abbrev itsSetting : Setting A
-    itsSetting = setting sheet starts seeds (length values) (length turns)
+    itsSetting = settingOf A sheet seeds (length values) (length turns)
 
     roles-counted : length roles ≡ variablesOf sheet
     roles-counted = ap length (ready .rolesAre)
@@ -128,7 +113,7 @@ module _ (A : Arithmetic) where
     starts-laid : {store : List (A .Carrier)} → store ≡ filled starts before → store ≡ start .store
     starts-laid is =
         let places : length before ≡ tableVariables (variablesOf sheet) = room .storeFits ∙ ap tableVariables roles-counted in
-        is ∙ ap (filled starts) (room .zeros ∙ ap (λ n. replicate n (A .zero)) places) ∙ loaded-start sheet starts (room .startsFit ∙ roles-counted)
+        is ∙ ap (filled starts) (room .zeros ∙ ap (λ n. replicate n (A .zero)) places) ∙ starts-then-zeros sheet starts (room .startsFit ∙ roles-counted)
 
     -- what the runner is handed
     handed : {store cleared : List (A .Carrier)} {clearedTurns : List ℕ} → store ≡ start .store → StacksCleared A values turns cleared clearedTurns
@@ -153,6 +138,13 @@ module _ (A : Arithmetic) where
           shallow = sheet-shallow A itsSetting (ready .words) sheet (ready .accepted) starts;
         }
 
+    -- a finished run has copied every original
+    finished-copies : (memory : Memory A) → ending ≡ finished memory → length (memory .copied) ≡ variablesOf sheet
+    unfolding sheetRun startOf settingOf tableOf
+    finished-copies memory e =
+        adjoint-copies A itsSetting refl (marked sheet) start memory (omega (arith, room .startsFit, roles-counted, start-length sheet starts))
+        (finished-in-the-large (tableRun A itsSetting (tableOf sheet) start) _ memory (run-follows A (tableOf sheet) itsSetting start) e)
+
     -- the copies that the machine holds are those in the buffer
     held-is : (held copies : List (A .Carrier)) → length held ≡ variablesOf sheet → (held ≡ start .copied) ⊎ (held ≡ copies) → held ≡ copies
     unfolding startOf
@@ -168,8 +160,7 @@ module _ (A : Arithmetic) where
         ≡ ranTo A sheet (lentOf A buffer values turns result) ending
     unfolding ranTo answerAt resultAt resultOf
     ends-as ended.Finished after buffer ends =
-        let whole = finished-copies sheet starts seeds (length values) (length turns) (room .startsFit ∙ roles-counted) _ (ends .is) in
-        rw (ends .is, held-is (ends .held) (after .copied) whole (ends .copies), ready .rolesAre)
+        rw (ends .is, held-is (ends .held) (after .copied) (finished-copies _ (ends .is)) (ends .copies), ready .rolesAre)
     ends-as (ended.Stopped row) after buffer ends = rw (ends .is)
     ends-as ended.Stuck after buffer (inl is) = rw is
     ends-as ended.Stuck after buffer (inr is) = rw is
@@ -179,7 +170,7 @@ module _ (A : Arithmetic) where
         {answer : Answer} {valuesAfter : List (A .Carrier)} {turnsAfter : List ℕ} {left : List (A .Carrier)}
         → store ≡ filled starts before
         → StacksCleared A values turns cleared clearedTurns
-        → RunsRows A table rows beyond roles constants seeds (10 * limit .longestRun + 2) (cellsOf A store cleared clearedTurns copied) after end
+        → RunsRows A table rows beyond roles constants seeds enoughSteps (cellsOf A store cleared clearedTurns copied) after end
         → length (after .values) ≡ length cleared
         → length (after .turns) ≡ length clearedTurns
         → StacksCleared A (after .values) (after .turns) valuesAfter turnsAfter
@@ -190,6 +181,6 @@ module _ (A : Arithmetic) where
     comes-to buffer after end laid empty runs kept keptTurns empty-again written answered =
         let many = kept ∙ ap length (empty .valuesAre) ∙ length-replicate (length values) (A .zero) in
         let manyTurns = keptTurns ∙ ap length (empty .turnsAre) ∙ length-replicate (length turns) 0 in
-        let fuelled = accepted-fuel-same A itsSetting (ready .words) sheet (ready .accepted) starts (10 * limit .longestRun + 2) (omega arith) in
+        let fuelled = accepted-fuel-same A itsSetting (ready .words) sheet (ready .accepted) starts enoughSteps (omega arith) in
         let ends = subst (EndsLike A start after end) fuelled (runs itsSetting (linesOf (tableOf sheet)) start (handed (starts-laid laid) empty)) in
         rw (empty-again .valuesAre, empty-again .turnsAre, many, manyTurns, written, answered) (ends-as end after buffer ends)

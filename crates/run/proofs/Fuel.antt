@@ -70,9 +70,12 @@ sheet-steps-within words sheet e =
 
 -- ---- fuel
 
--- a number of steps that suffices for every accepted sheet
+-- suffices for every accepted sheet: 10 for each that W counts, row 17, and the step that ends the run
+abbrev pub enoughSteps : ℕ
+enoughSteps = 10 * limit .longestRun + 2
+
 pub accepted-fuel-same : (A : Arithmetic) (setting : Setting A) (words : List ℕ) (sheet : Sheet) → read words ≡ given sheet
-    → (starts : List (A .Carrier)) (steps : ℕ) → 10 * limit .longestRun + 2 ≤ steps
+    → (starts : List (A .Carrier)) (steps : ℕ) → enoughSteps ≤ steps
     → runFor A steps setting (linesOf (tableOf sheet)) (startOf A sheet starts) ≡ runOf A (tableOf sheet) setting (startOf A sheet starts)
 unfolding runOf startOf
 accepted-fuel-same A setting words sheet e starts steps h =

@@ -32,8 +32,13 @@ module _ (A : Arithmetic) (setting : Setting A) (sections : setting .variables �
     room : length (after .store) ≡ length (before .store)
     copies : length (before .copied) ≡ setting .variables → length (after .copied) ≡ setting .variables
 
-  keeps-same : {before after : Memory A} → before .store ≡ after .store → before .copied ≡ after .copied → Keeps before after
-  keeps-same store copied = record { room = ap length (sym store); copies = λ h. ap length (sym copied) ∙ h }
+  -- a memory made with the same store and the same copies
+  keeps-same : {before made after : Memory A} → made ≡ after → made .store ≡ before .store → made .copied ≡ before .copied → Keeps before after
+  keeps-same is store copied =
+      record {
+        room = ap (λ m. length (m .store)) (sym is) ∙ ap length store;
+        copies = λ h. ap (λ m. length (m .copied)) (sym is) ∙ ap length copied ∙ h;
+      }
 
   keeps-then : {before between after : Memory A} → Keeps before between → Keeps between after → Keeps before after
   keeps-then first second = record { room = second .room ∙ first .room; copies = λ h. second .copies (first .copies h) }
@@ -79,9 +84,7 @@ module _ (A : Arithmetic) (setting : Setting A) (sections : setting .variables �
       keeps-stored memory after d (c .0) (c .2)
   keeps-acted (save d) memory after enough e =
       let c = went (look (memory .store) d) _ after e in
-      let k = went (pushed (setting .valueRoom) (c .0) (memory .values)) _ after (c .2) in
-      let same = same-through (k .2) in
-      keeps-same (ap (λ m. m .store) same) (ap (λ m. m .copied) same)
+      keeps-same (same-through (went (pushed (setting .valueRoom) (c .0) (memory .values)) _ after (c .2) .2)) refl refl
   keeps-acted (takeBack d) memory after enough e = by-stack (memory .values) e
     where
       by-stack : (values : List (A .Carrier)) → restored A memory d values ≡ through after → Keeps memory after
@@ -90,9 +93,7 @@ module _ (A : Arithmetic) (setting : Setting A) (sections : setting .variables �
           let kept = keeps-stored (record { store = memory .store; values = values; turns = memory .turns; copied = memory .copied }) after d x e in
           record { room = kept .room; copies = kept .copies }
   keeps-acted (saveTurn first) memory after enough e =
-      let c = went (pushed (setting .turnRoom) (turnWord first) (memory .turns)) _ after e in
-      let same = same-through (c .2) in
-      keeps-same (ap (λ m. m .store) same) (ap (λ m. m .copied) same)
+      keeps-same (same-through (went (pushed (setting .turnRoom) (turnWord first) (memory .turns)) _ after e .2)) refl refl
   keeps-acted (clear d) memory after enough e = keeps-stored memory after d (A .zero) e
   keeps-acted turnRound memory after enough e =
       let same = same-through e in
@@ -109,7 +110,7 @@ module _ (A : Arithmetic) (setting : Setting A) (sections : setting .variables �
       by-answer none e = let z : _≡_ {A = ℕ} 0 1 = cc in absurd (omega arith)
       by-answer (some first) e =
           let same : record { first = first; memory = memory } ≡ verdict = cc in
-          keeps-same (ap (λ v. v .memory .store) same) (ap (λ v. v .memory .copied) same)
+          keeps-same (ap (λ v. v .memory) same) refl refl
   keeps-tested onTurn memory verdict e = by-stack (memory .turns) e
     where
       by-stack : (turns : List ℕ) → turnTaken A memory turns ≡ some verdict → Keeps memory (verdict .memory)
@@ -117,7 +118,7 @@ module _ (A : Arithmetic) (setting : Setting A) (sections : setting .variables �
       by-stack (turn ∷ turns) e =
           let taken : Memory A = record { store = memory .store; values = memory .values; turns = turns; copied = memory .copied } in
           let same : record { first = eqb turn 1; memory = taken } ≡ verdict = cc in
-          keeps-same (ap (λ v. v .memory .store) same) (ap (λ v. v .memory .copied) same)
+          keeps-same (ap (λ v. v .memory) same) refl refl
 
   -- ---- a table: what its first block leaves the rest with
 
@@ -202,13 +203,7 @@ module _ (A : Arithmetic) (setting : Setting A) (sections : setting .variables �
 
   table-keeps : (t : Table) → Kept t
   table-keeps done =
-      record {
-        keeps =
-            λ memory after enough e.
-            unfold tableRun in
-            let same = same-through e in
-            keeps-same (ap (λ m. m .store) same) (ap (λ m. m .copied) same);
-      }
+      record { keeps = λ memory after enough e. unfold tableRun in keeps-same (same-through e) refl refl }
   table-keeps (one row k) = leads-keeps (one-leads row k) (table-keeps k)
   table-keeps (fork f a b k) = leads-keeps (fork-leads f a b k (table-keeps a) (table-keeps b)) (table-keeps k)
   table-keeps (again n a k) = leads-keeps (again-leads n a k (table-keeps a)) (table-keeps k)
@@ -226,7 +221,7 @@ module _ (A : Arithmetic) (setting : Setting A) (sections : setting .variables �
 
   forward-leads : (t : Body) (rest : Table) → Leads (forwardPart t rest) rest
   unfolding forwardPart
-  forward-leads done rest = record { to = λ memory after enough e. record { next = memory; kept = keeps-same refl refl; runs = e } }
+  forward-leads done rest = record { to = λ memory after enough e. record { next = memory; kept = keeps-same {made = memory} refl refl refl; runs = e } }
   forward-leads (one m k) rest = leads-then (row-leads m (forwardPart k rest)) (forward-leads k rest)
   forward-leads (fork f a b k) rest =
       leads-then (fork-leads _ _ _ (forwardPart k rest) (table-keeps _) (table-keeps _)) (forward-leads k rest)

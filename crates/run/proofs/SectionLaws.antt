@@ -32,15 +32,15 @@ take-zeros n m zero h =
     ap (λ k. take n (replicate k zero)) split ∙ ap (take n) (sym (replicate-append-replicate n (m - n) zero))
     ∙ take-at (replicate n zero) (replicate (m - n) zero) n (length-replicate n zero)
 
-pub record Sections (words : List ℕ) (shape : Shape) (sheet : Sheet) : Type 0 where
-  pub few : shape .variables ≤ limit .variables
-  pub fewConstants : shape .constants ≤ limit .constants
-  pub first : shape .«first_constant» ≡ 2 + shape .variables
-  pub constantsWithin : 2 + shape .variables + shape .constants ≤ length words
-  pub rolesAre : take (shape .variables) (drop 1 words) ≡ sheet .roles
-  pub constantsAre : take (shape .constants) (drop (2 + shape .variables) words) ≡ sheet .constants
+record Sections (words : List ℕ) (shape : Shape) (sheet : Sheet) : Type 0 where
+  few : shape .variables ≤ limit .variables
+  fewConstants : shape .constants ≤ limit .constants
+  first : shape .«first_constant» ≡ 2 + shape .variables
+  constantsWithin : 2 + shape .variables + shape .constants ≤ length words
+  rolesAre : take (shape .variables) (drop 1 words) ≡ sheet .roles
+  constantsAre : take (shape .constants) (drop (2 + shape .variables) words) ≡ sheet .constants
 
-pub sections : (words : List ℕ) (shape : Shape) (sheet : Sheet) → read words ≡ given sheet → shape ≡ shapeOf sheet → Sections words shape sheet
+sections : (words : List ℕ) (shape : Shape) (sheet : Sheet) → read words ≡ given sheet → shape ≡ shapeOf sheet → Sections words shape sheet
 unfolding shapeOf
 sections words shape sheet read is =
     let parts = accepted words sheet read in
@@ -78,34 +78,35 @@ sheet-room {words} {plan} starts seeds result room =
     }
 
 module _ (words : List ℕ) (plan : Plan) where
-  abbrev pub shape : Shape
+  abbrev shape : Shape
   shape = plan .shape
 
-  abbrev pub rolesPart : List ℕ
+  abbrev rolesPart : List ℕ
   rolesPart = take (1 + shape .variables - 1) (drop 1 words)
 
-  abbrev pub constantsPart : List ℕ
+  abbrev constantsPart : List ℕ
   constantsPart = take (shape .«first_constant» + shape .constants - shape .«first_constant») (drop (shape .«first_constant») words)
 
-  -- the first places of an array of zeros, and of another array
+  -- the first places of arrays of zeros that are large enough for any sheet
   pub run-room : (A : Arithmetic) {starts seeds result : List (A .Carrier)} → SheetRoom words plan starts seeds result
-      → (zeros : ℕ) → tableVariables (limit .variables) ≤ zeros → (copied : List (A .Carrier)) → limit .variables ≤ length copied
-      → RunRoom A rolesPart starts seeds (take (tableVariables (shape .variables)) (replicate zeros (A .zero))) (take (shape .variables) copied)
-      result
-  run-room A room zeros enough copied enoughToo =
+      → RunRoom A rolesPart starts seeds (take (tableVariables (shape .variables)) (replicate (tableVariables (limit .variables)) (A .zero)))
+      (take (shape .variables) (replicate (limit .variables) (A .zero))) result
+  run-room A room =
       let v = shape .variables in
       let few = room .few in
       let within = room .within in
       let part : 1 + v - 1 ≡ v = omega arith in
       let roles : length rolesPart ≡ v =
       ap (λ n. length (take n (drop 1 words))) part ∙ length-take-le v (drop 1 words) (omega (arith, length-drop 1 words)) in
-      let store = length-take-le (tableVariables v) (replicate zeros (A .zero)) (omega (arith, length-replicate zeros (A .zero))) in
+      let many = tableVariables (limit .variables) in
+      let store = length-take-le (tableVariables v) (replicate many (A .zero)) (omega (arith, length-replicate many (A .zero))) in
+      let copied = length-take-le v (replicate (limit .variables) (A .zero)) (omega (arith, length-replicate (limit .variables) (A .zero))) in
       record {
         startsFit = room .startsFit ∙ sym roles;
         seedsFit = room .seedsFit ∙ sym roles;
         storeFits = store ∙ ap tableVariables (sym roles);
-        zeros = rw store (take-zeros (tableVariables v) zeros (A .zero) (omega arith));
-        copiedFits = length-take-le v copied (omega arith) ∙ sym roles;
+        zeros = rw store (take-zeros (tableVariables v) many (A .zero) (omega arith));
+        copiedFits = copied ∙ sym roles;
         resultFits = room .resultFits ∙ ap (λ n. 2 * n) (sym roles);
       }
 

@@ -2,8 +2,6 @@
 use mathlib.Core.Path.{sym}
 use lib.Seq.{length-take-le}
 use Rattle.number.specs.Residues.{residues}
-use Rattle.sheet.specs.Bounds.{limit}
-use Rattle.table.specs.TableRows.{tableVariables}
 use Rattle.run.proofs.SectionLaws.{run-room, ready-to-run}
 use native.Mathlib.Omega.{arith}
 use borrow.Author.Needs.{needs}
@@ -62,7 +60,7 @@ run-in-requires : tie.Need-run-in-requires
 run-in-requires c κs =
     let found = c .before .before .before .before .before .before .before .before in
     let start = found .before .before .before .before .before .before .before .before .before .before .before in
-    run-room _ _ residues (start .pre) (tableVariables (limit .variables)) (omega arith) _ (omega arith)
+    run-room _ _ residues (start .pre)
 
 same-length : tie.Need-same-length
 same-length c = search needs

@@ -3,8 +3,6 @@ use mathlib.Core.Path.{sym}
 use lib.Seq.{length-take-le}
 use lib.Ieee.{ofBits}
 use Rattle.number.specs.Doubles.{doubles}
-use Rattle.sheet.specs.Bounds.{limit}
-use Rattle.table.specs.TableRows.{tableVariables}
 use Rattle.run.proofs.SectionLaws.{run-room, ready-to-run}
 use native.Mathlib.Omega.{arith}
 use borrow.Author.Needs.{needs}
@@ -64,7 +62,7 @@ unfolding ofBits
 run-in-requires c κs =
     let found = c .before .before .before .before .before .before .before .before in
     let start = found .before .before .before .before .before .before .before .before .before .before .before in
-    run-room _ _ doubles (start .pre) (tableVariables (limit .variables)) (omega arith) _ (omega arith)
+    run-room _ _ doubles (start .pre)
 
 same-length : tie.Need-same-length
 same-length c = search needs
