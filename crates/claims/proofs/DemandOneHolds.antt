@@ -4,11 +4,11 @@ use Prim.Native.Nat.{ℕ}
 use mathlib.Core.Path.{_≡_, sym, subst}
 use mathlib.Core.List.{List}
 use Rattle.number.specs.Arithmetic.{Arithmetic}
-use Rattle.table.specs.Calls.{checkedSaid, check, write}
+use Rattle.table.specs.Calls.{checkedSaid, check, writtenOf, write}
 use Rattle.table.specs.declared.Checked.{Checked}
 use Rattle.table.specs.declared.Answer.{Answer}
 use Rattle.run.specs.Calls.{Lent, run, ranOf}
-use Rattle.claims.specs.CallsExactly.{CheckExactly, WriteExactly, writtenOf, RunExactly}
+use Rattle.claims.specs.CallsExactly.{CheckExactly, WriteExactly, RunExactly}
 use Rattle.claims.specs.Demands.{DemandOne}
 use Rattle.claims.proofs.ExactlyWhenHolds.{check-exactly, write-exactly, run-exactly}
 

@@ -17,7 +17,6 @@ use Rattle.sheet.specs.declared.Reading.the-variants.{Accepted}
 use Rattle.table.specs.TableRows.{tableWords}
 use Rattle.table.specs.Adjoint.{tableOf}
 use Rattle.table.specs.Calls.{Sizes, Checked, Written}
-use Rattle.table.specs.declared.Answer as declared
 use Rattle.run.specs.Actions.{Memory}
 use Rattle.run.specs.Calls.{Lent, Ran, resultOf}
 use Rattle.claims.specs.ExactlyWhen.{ReadingRefuses, Read, rowsNeeded, valuesFor, turnsFor, WritingRefuses, Writable, RunRefuses, Stops, Finishes}
@@ -67,10 +66,6 @@ pub record StartsWith (table before after : List ℕ) : Type 0 where
   pub starts : take (length table) after ≡ table
   pub keeps : drop (length table) after ≡ drop (length table) before
   pub sameLength : length after ≡ length before
-
--- what the call's answer and the buffer that it leaves say
-abbrev pub writtenOf : declared.Answer → (table : List ℕ) → Written
-writtenOf answer table = record { number = answer .number; place = answer .place; table = table }
 
 pub record WriteExactly (words before : List ℕ) (answer : Written) : Type 0 where
   pub refuses : (r : Refusal) → Names (answer .number) (answer .place) r ↔ WritingRefuses words before r

@@ -15,7 +15,7 @@ use Rattle.sets.specs.Marks.{marked, varied, useful, required, variedEquations,
 use Rattle.table.specs.TableRows.{TableLine, TableRow, Origin, ofTurningRound, turnRound, turnWord, linesOf, tableWords}
 use Rattle.table.specs.Adjoint.{tableOf}
 use Rattle.table.specs.Sizes.{valuesNeeded, turnsNeeded}
-use Rattle.table.specs.Calls.{checkedSaid, check, write}
+use Rattle.table.specs.Calls.{checkedSaid, check, writtenOf, write}
 use Rattle.table.specs.declared.Checked as declared
 use Rattle.table.specs.declared.Answer.{Answer}
 use Rattle.run.specs.Attempts.{through, halted}
@@ -24,7 +24,7 @@ use Rattle.run.specs.Machine.{State, Step, goesOn, sticks, stateAfter, stepsOf,
 use Rattle.run.specs.Calls.{Lent, Ran, settingOf, startOf, runOf, resultOf, run, ranOf}
 use Rattle.run.specs.RowReads.{machineLog}
 use Rattle.claims.specs.ExactlyWhen.{Writable, Runnable}
-use Rattle.claims.specs.CallsExactly.{CheckExactly, StartsWith, writtenOf, WriteExactly, RunExactly}
+use Rattle.claims.specs.CallsExactly.{CheckExactly, StartsWith, WriteExactly, RunExactly}
 use Rattle.claims.specs.Execution.{Progress, execution}
 use Rattle.claims.specs.IdealSweep.{ideal}
 use Rattle.claims.specs.ReadLog.{sweptLog}

@@ -2,9 +2,9 @@
 // The statements are in specs/, the theorems in proofs/.
 ghost use Rattle.number.specs.Doubles.{doubles};
 ghost use Rattle.number.specs.Residues.{residues};
-ghost use Rattle.table.specs.Calls.{checkedSaid};
+ghost use Rattle.table.specs.Calls.{checkedSaid, writtenOf};
 ghost use Rattle.run.specs.Calls.{lentOf, ranOf};
-ghost use Rattle.claims.specs.CallsExactly.{CheckExactly, writtenOf, WriteExactly};
+ghost use Rattle.claims.specs.CallsExactly.{CheckExactly, WriteExactly};
 ghost use Rattle.claims.specs.Demands.{RunMeets, AuditMeets};
 
 fn check(words: &[u16]) -> table::Checked

@@ -4,7 +4,8 @@ use native.Mathlib.Omega.{arith}
 use mathlib.Core.Path.{_≡_, refl, sym, _∙_}
 use Rattle.sheet.specs.Tree.{basic, ifLine, elseLine, endIf, repeat, endRepeat}
 use Rattle.sheet.specs.Rows.{Assignment, _≔_, copy, fixed, sum, difference, product, negation, less, SheetLine}
-use Rattle.sheet.specs.Rows.{rowOfAssignment, sheetRowOf, lineOfRow}
+use Rattle.sheet.specs.Rows.{rowOfAssignment, sheetRowOf}
+use Rattle.sheet.specs.inner.RowLines.{lineOfRow}
 use Rattle.sheet.proofs.RowsBack.{line-back}
 
 pub assignment-kind : (b : Assignment) → rowOfAssignment b .kind < 7

@@ -9,7 +9,8 @@ use mathlib.Core.Logic.{_≢_}
 use lib.ListN.{getD}
 use lib.Bits.{or-comm}
 use Rattle.sheet.specs.Tree.{basic, ifLine, elseLine, endIf, repeat, endRepeat}
-use Rattle.sheet.specs.Rows.{Assignment, less, SheetLine, Row, sheetRowOf, lineOfRow}
+use Rattle.sheet.specs.Rows.{Assignment, less, SheetLine, Row, sheetRowOf}
+use Rattle.sheet.specs.inner.RowLines.{lineOfRow}
 use Rattle.sets.specs.declared.Which.{Which}
 use Rattle.sets.specs.declared.Which.the-variants.{Varied, Useful, Required}
 use Rattle.sets.specs.VariableSets.{VariableSet, _∪_}

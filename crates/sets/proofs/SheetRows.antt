@@ -7,7 +7,8 @@ use lib.ListN.{length}
 use Rattle.sheet.specs.Bounds.{limit}
 use Rattle.sheet.specs.Tree.{Tree, done, one, fork, again, rows, flat, elseLine, endIf, endRepeat}
 use Rattle.sheet.specs.Rows.{Assignment, _≔_, copy, fixed, sum, difference, product, negation, less, Test, SheetLine}
-use Rattle.sheet.specs.Rows.{rowOfAssignment, sheetRowOf, treeRows, lineOfRow}
+use Rattle.sheet.specs.Rows.{rowOfAssignment, sheetRowOf, treeRows}
+use Rattle.sheet.specs.inner.RowLines.{lineOfRow}
 use Rattle.sheet.specs.Names.{SourcePresent, AssignmentPresent, Present}
 use Rattle.sheet.specs.Reading.{rowAt, rowsAt}
 use Rattle.sheet.proofs.RowsBack.{line-back}

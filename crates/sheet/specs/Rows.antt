@@ -2,7 +2,7 @@
 use Prim.Native.Nat.{ℕ, zero, suc, pred}
 use mathlib.Core.Bool.{Bool, _&&_, _||_}
 use mathlib.Core.List.{List, [], _∷_, map}
-use mathlib.Core.Option.{Option, none, some}
+use mathlib.Core.Option.{Option, none}
 use lib.ListN.{getElem?}
 use lib.Dec.{leb, ltb, eqb}
 use Rattle.sheet.specs.Bounds.{limit}
@@ -115,12 +115,3 @@ sheetRowOf = rowOf rowOfAssignment rowOfTest
 unfoldable pub treeRows : Tree Assignment Test → List Row
 unfolding flat sheetRowOf
 treeRows tree = map sheetRowOf (flat tree [])
-
--- the line that a row's words say; a row of no kind says none, and isn't asked
-abbrev pub saidBy : Option Kind → Row → SheetLine
-saidBy none r = endRepeat
-saidBy (some kind) r = kind .means (r .d) (r .a) (r .b)
-
-unfoldable pub lineOfRow : Row → SheetLine
-unfolding kindOf
-lineOfRow r = saidBy (kindOf (r .kind)) r

@@ -6,10 +6,12 @@ use mathlib.Core.List.{List, [], _∷_, _++_, append-assoc}
 use native.Mathlib.Decide.{ℕ-discrete}
 use native.Mathlib.Omega.{arith}
 use Rattle.sheet.specs.Tree.{flat, done, RowNumber}
-use Rattle.sheet.specs.Rows.{Row, kindOf, rowOf, rowOfAssignment, lineOfRow}
+use Rattle.sheet.specs.Rows.{Row, kindOf, rowOf, rowOfAssignment}
+use Rattle.sheet.specs.inner.RowLines.{lineOfRow}
 use Rattle.table.specs.TableRows.{Table, Action, Operation, linesOf, tableRowOf, rowOfAction}
 use Rattle.table.specs.Adjoint.{put, putIf, partsOf, derivativeRows, backwardOf}
-use Rattle.table.specs.inner.MarkedRows.{row4, rowIf, rowsIn, anyRow, knownBy, sourceOf, scaledRows, partRows, derivativesOf, assignmentBack, bitOf}
+use Rattle.sets.specs.inner.MarkBytes.{bitOf}
+use Rattle.table.specs.inner.MarkedRows.{rowWith, rowIf, rowsIn, anyRow, knownBy, sourceOf, scaledRows, partRows, derivativesOf, assignmentBack}
 
 pub rows-of-put : (row : RowNumber) (operation : Operation) (action : Action) (rest : Table)
     → rowsIn (put row operation action rest) ≡ rowOfAction action ∷ rowsIn rest
@@ -34,8 +36,8 @@ pub last-if : (test : Bool) (row : RowNumber) (operation : Operation) (action : 
 last-if true row operation action = rows-of-put row operation action done ∙ ap (λ rs. rowOfAction action ∷ rs) rows-of-done
 last-if false row operation action = rows-of-done
 
-pub kind-is : (r : Row) (kind : ℕ) → r .kind ≡ kind → r ≡ row4 kind (r .d) (r .a) (r .b)
-kind-is r kind e = ap (λ k. row4 k (r .d) (r .a) (r .b)) e
+pub kind-is : (r : Row) (kind : ℕ) → r .kind ≡ kind → r ≡ rowWith kind (r .d) (r .a) (r .b)
+kind-is r kind e = ap (λ k. rowWith k (r .d) (r .a) (r .b)) e
 
 -- ---- the parts, where the code has found which operands are varied
 
@@ -45,23 +47,23 @@ module _ (v : ℕ) (r : Row) (mark : ℕ) where
   constant-rows e = rw (kind-is r 2 e) rows-of-done
 
   module _ {first : Bool} (varied-a : first ≡ bitOf mark 1) where
-    pub copy-rows : r .kind ≡ 1 → partRows v r mark ≡ rowIf first (row4 3 (v + r .a) (v + r .a) (2 * v))
+    pub copy-rows : r .kind ≡ 1 → partRows v r mark ≡ rowIf first (rowWith 3 (v + r .a) (v + r .a) (2 * v))
     unfolding partRows sourceOf lineOfRow kindOf partsOf rowOfAction rowOfAssignment
     copy-rows e = rw (varied-a, kind-is r 1 e) (last-if (bitOf mark 1) _ _ _)
 
-    pub negation-rows : r .kind ≡ 6 → partRows v r mark ≡ rowIf first (row4 4 (v + r .a) (v + r .a) (2 * v))
+    pub negation-rows : r .kind ≡ 6 → partRows v r mark ≡ rowIf first (rowWith 4 (v + r .a) (v + r .a) (2 * v))
     unfolding partRows sourceOf lineOfRow kindOf partsOf rowOfAction rowOfAssignment
     negation-rows e = rw (varied-a, kind-is r 6 e) (last-if (bitOf mark 1) _ _ _)
 
     module _ {second : Bool} (varied-b : second ≡ bitOf mark 2) where
       -- a sum and a difference add into ā, and into b̄ do as they do themselves
       pub two-rows : (3 ≤ r .kind) × (r .kind ≤ 4)
-          → partRows v r mark ≡ rowIf first (row4 3 (v + r .a) (v + r .a) (2 * v)) ++ rowIf second (row4 (r .kind) (v + r .b) (v + r .b) (2 * v))
+          → partRows v r mark ≡ rowIf first (rowWith 3 (v + r .a) (v + r .a) (2 * v)) ++ rowIf second (rowWith (r .kind) (v + r .b) (v + r .b) (2 * v))
       unfolding partRows sourceOf lineOfRow kindOf partsOf rowOfAction rowOfAssignment
       two-rows h = by (ℕ-discrete (r .kind) 3)
         where
           by : Dec (r .kind ≡ 3)
-              → partRows v r mark ≡ rowIf first (row4 3 (v + r .a) (v + r .a) (2 * v)) ++ rowIf second (row4 (r .kind) (v + r .b) (v + r .b) (2 * v))
+              → partRows v r mark ≡ rowIf first (rowWith 3 (v + r .a) (v + r .a) (2 * v)) ++ rowIf second (rowWith (r .kind) (v + r .b) (v + r .b) (2 * v))
           by (yes e) = rw (varied-a, varied-b, kind-is r 3 e, rows-of-put-if (bitOf mark 1), last-if (bitOf mark 2))
           by (no n) =
               let e : r .kind ≡ 4 = omega arith in
@@ -76,14 +78,14 @@ module _ (v : ℕ) (r : Row) (mark : ℕ) where
 -- ---- what stands around them
 
 module _ (v : ℕ) (r : Row) (mark : ℕ) where
-  pub active-rows : bitOf mark 4 ≡ true → derivativesOf v r mark ≡ row4 1 (2 * v) (v + r .d) 0 ∷ row4 16 (v + r .d) 0 0 ∷ partRows v r mark
+  pub active-rows : bitOf mark 4 ≡ true → derivativesOf v r mark ≡ rowWith 1 (2 * v) (v + r .d) 0 ∷ rowWith 16 (v + r .d) 0 0 ∷ partRows v r mark
   unfolding derivativesOf derivativeRows partRows rowsIn linesOf tableRowOf flat rowOf rowOfAction rowOfAssignment
   active-rows e = ap (λ active. rowsIn (derivativeRows v active (r .d) (sourceOf r) anyRow (knownBy mark) done)) e
 
-  pub inactive-rows : bitOf mark 4 ≡ false → derivativesOf v r mark ≡ row4 16 (v + r .d) 0 0 ∷ []
+  pub inactive-rows : bitOf mark 4 ≡ false → derivativesOf v r mark ≡ rowWith 16 (v + r .d) 0 0 ∷ []
   unfolding derivativesOf derivativeRows rowsIn linesOf tableRowOf flat rowOf rowOfAction
   inactive-rows e = ap (λ active. rowsIn (derivativeRows v active (r .d) (sourceOf r) anyRow (knownBy mark) done)) e
 
-  pub assignment-rows : {saved : Bool} → saved ≡ bitOf mark 8 → assignmentBack v r mark ≡ rowIf saved (row4 13 (r .d) 0 0) ++ derivativesOf v r mark
+  pub assignment-rows : {saved : Bool} → saved ≡ bitOf mark 8 → assignmentBack v r mark ≡ rowIf saved (rowWith 13 (r .d) 0 0) ++ derivativesOf v r mark
   unfolding assignmentBack backwardOf derivativesOf rowOfAction
   assignment-rows e = rw e (rows-of-put-if (bitOf mark 8) _ _ _ _)

@@ -4,7 +4,8 @@ use mathlib.Core.Path.{_≡_, refl}
 use mathlib.Core.List.{[], _++_}
 use lib.ListN.{getD}
 use native.Mathlib.Omega.{arith}
-use Rattle.sheet.specs.Rows.{Row, lineOfRow}
+use Rattle.sheet.specs.Rows.{Row}
+use Rattle.sheet.specs.inner.RowLines.{lineOfRow}
 use Rattle.table.specs.inner.MarkedRows.{Handed, rowOfNumber, backwardOfLine, stepBack, turnsBack, backwardAt, wayBack, backwardRows, Visited, Walks}
 
 pub backward-turn : (given : Handed) (n end : ℕ)

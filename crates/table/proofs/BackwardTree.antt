@@ -6,13 +6,14 @@ use mathlib.Core.List.{List, [], _∷_, _++_, append-assoc, append-nil}
 use lib.ListN.{getD}
 use native.Mathlib.Omega.{arith}
 use Rattle.sheet.specs.Tree.{Tree, done, one, fork, again, basic, ifLine, elseLine, endIf, repeat, endRepeat, flat, rows, RowNumber}
-use Rattle.sheet.specs.Rows.{Assignment, Test, less, SheetLine, Row, sheetRowOf, rowOf, rowOfAssignment, rowOfTest, treeRows, _≔_, Source, copy, fixed, sum, difference, product, negation, lineOfRow}
+use Rattle.sheet.specs.Rows.{Assignment, Test, less, SheetLine, Row, sheetRowOf, rowOf, rowOfAssignment, rowOfTest, treeRows, _≔_, Source, copy, fixed, sum, difference, product, negation}
+use Rattle.sheet.specs.inner.RowLines.{lineOfRow}
 use Rattle.sheet.specs.Reading.{rowsAt}
 use Rattle.sets.specs.Transfers.{Activity}
 use Rattle.sets.specs.Marks.{Marked, numbered}
 use Rattle.table.specs.TableRows.{Table, tableRowOf, rowOfAction, rowOfTableTest, onTurn, assign, clear, takeBack, t, u, adjointOf}
 use Rattle.table.specs.Adjoint.{addInto, subtractFrom, scaled, partsOf, derivativeRows, backwardOf, backwardPart}
-use Rattle.table.specs.inner.MarkedRows.{row4, rowIf, rowsIn, backwardOfLine, stepBack, turnsBack, Handed, rowOfNumber, backwardAt, wayBack, backwardRows, MarkSays, Noted, anyRow, knownBy, savedBy}
+use Rattle.table.specs.inner.MarkedRows.{rowWith, rowIf, rowsIn, backwardOfLine, stepBack, turnsBack, Handed, rowOfNumber, backwardAt, wayBack, backwardRows, MarkSays, Noted, anyRow, knownBy, savedBy}
 use Rattle.table.proofs.AssignmentRows.{rows-of-put, rows-of-put-if, rows-of-done, none-before}
 use Rattle.table.proofs.BackwardOver.{backward-turn}
 use Rattle.sheet.proofs.RowsBack.{line-back}
@@ -111,9 +112,9 @@ module _ (given : Handed) (mark : ℕ → Assignment → Marked) where
 
   -- an "end repeat" at row q whose "repeat" is at row p becomes that "repeat"
   repeat-back : (m p q : ℕ) → getD (given .goes) q 0 ≡ p → rowOfNumber given p ≡ sheetRowOf (repeat m)
-      → rowsAtRow q 11 endRepeat ≡ row4 10 0 (suc m) 0 ∷ []
+      → rowsAtRow q 11 endRepeat ≡ rowWith 10 0 (suc m) 0 ∷ []
   unfolding backwardOfLine turnsBack sheetRowOf rowOf
-  repeat-back m p q opens stands = ap (λ n. row4 10 0 n 0 ∷ []) (ap (λ x. rowOfNumber given x .a) opens ∙ ap (λ r. r .a) stands)
+  repeat-back m p q opens stands = ap (λ n. rowWith 10 0 n 0 ∷ []) (ap (λ x. rowOfNumber given x .a) opens ∙ ap (λ r. r .a) stands)
 
   -- a tree's rows, walked from its end, then those of `rest` and `after`
   backward-tree : (t : Tree Assignment Test) (ls : List SheetLine) (rest : Table) (after : List Row) (p n c e : ℕ)
@@ -145,20 +146,20 @@ module _ (given : Handed) (mark : ℕ → Assignment → Marked) where
       let partners = w .0 in
       let atSplit = stands-after (given .words) (given .first) a (elseLine ∷ flat b (endIf ∷ flat k ls)) (suc p) refl (s .1) in
       let atEnd = stands-after (given .words) (given .first) b (endIf ∷ flat k ls) (suc split) refl (atSplit .1) in
-      let last = row4 9 0 0 0 ∷ (rowsIn rest ++ after) in
-      let middle = row4 8 0 0 0 ∷ (rowsIn B ++ last) in
-      let elseRow = backward-step elseLine split p n (atSplit .0) (partners .elseCame) ∙ ap (λ l. row4 9 0 0 0 ∷ l) h ∙ sym (none-before last) in
+      let last = rowWith 9 0 0 0 ∷ (rowsIn rest ++ after) in
+      let middle = rowWith 8 0 0 0 ∷ (rowsIn B ++ last) in
+      let elseRow = backward-step elseLine split p n (atSplit .0) (partners .elseCame) ∙ ap (λ l. rowWith 9 0 0 0 ∷ l) h ∙ sym (none-before last) in
       let secondBranch =
       backward-tree b (endIf ∷ flat k ls) done last (suc split) (suc n) (rows b + suc n) end refl refl (atSplit .1) (w .1 .1 .0) elseRow in
       let ifRow =
       backward-step (ifLine f) p end (rows b + suc n) (s .0)
       (step-if (given .came) (given .goes) p f ∙ ap (λ x. getD (given .goes) x 0) (partners .ifGoes) ∙ partners .elseGoes)
-      ∙ ap (λ l. row4 8 0 0 0 ∷ l) secondBranch ∙ sym (none-before middle) in
+      ∙ ap (λ l. rowWith 8 0 0 0 ∷ l) secondBranch ∙ sym (none-before middle) in
       let firstBranch =
       backward-tree a (elseLine ∷ flat b (endIf ∷ flat k ls)) done middle (suc p) (suc (rows b + suc n)) (rows a + suc (rows b + suc n)) split
       refl refl (s .1) (w .1 .0) ifRow in
       let endRow =
-      backward-step endIf end split (rows a + suc (rows b + suc n)) (atEnd .0) (partners .endCame) ∙ ap (λ l. row4 15 0 0 0 ∷ l) firstBranch
+      backward-step endIf end split (rows a + suc (rows b + suc n)) (atEnd .0) (partners .endCame) ∙ ap (λ l. rowWith 15 0 0 0 ∷ l) firstBranch
       ∙ sym (fork-before onTurn A B rest after) in
       backward-tree k ls (fork onTurn A B rest) after (suc end) (suc (rows a + suc (rows b + suc n))) c e (omega arith) (omega arith) (atEnd .1)
       (w .1 .1 .1) endRow
@@ -167,13 +168,13 @@ module _ (given : Handed) (mark : ℕ → Assignment → Marked) where
       let end = suc p + rows a in
       let A = backwardPart v (numbered mark a (suc p)) done in
       let atEnd = stands-after (given .words) (given .first) a (endRepeat ∷ flat k ls) (suc p) refl (s .1) in
-      let last = row4 11 0 0 0 ∷ (rowsIn rest ++ after) in
-      let repeatRow = backward-step (repeat m) p p n (s .0) refl ∙ ap (λ l. row4 11 0 0 0 ∷ l) h ∙ sym (none-before last) in
+      let last = rowWith 11 0 0 0 ∷ (rowsIn rest ++ after) in
+      let repeatRow = backward-step (repeat m) p p n (s .0) refl ∙ ap (λ l. rowWith 11 0 0 0 ∷ l) h ∙ sym (none-before last) in
       let body = backward-tree a (endRepeat ∷ flat k ls) done last (suc p) (suc n) (rows a + suc n) end refl refl (s .1) (w .1 .0) repeatRow in
       let endRow =
       backward-step endRepeat end end (rows a + suc n) (atEnd .0) refl
       ∙ ap (λ l. l ++ backwardRows given (rows a + suc n) end) (repeat-back m p end (w .0 .endGoes) (s .0))
-      ∙ ap (λ l. row4 10 0 (suc m) 0 ∷ l) body ∙ sym (again-before m A rest after) in
+      ∙ ap (λ l. rowWith 10 0 (suc m) 0 ∷ l) body ∙ sym (again-before m A rest after) in
       backward-tree k ls (again m A rest) after (suc end) (suc (rows a + suc n)) c e (omega arith) (omega arith) (atEnd .1) (w .1 .1) endRow
 
   backward-end : (e : ℕ) → backwardRows given 0 e ≡ rowsIn done ++ []

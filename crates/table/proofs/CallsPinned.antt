@@ -4,7 +4,7 @@ use mathlib.Core.Path.{_≡_, sym, ap, _∙_}
 use mathlib.Core.List.{List}
 use Rattle.table.specs.declared.Checked as declared
 use Rattle.table.specs.declared.Answer.{Answer}
-use Rattle.table.specs.Calls.{Checked, checkedSaid, check, Written, write}
+use Rattle.table.specs.Calls.{Checked, checkedSaid, check, Written, writtenOf, write}
 
 -- the answer that says these sizes
 checkedBy : Checked → declared.Checked
@@ -27,13 +27,10 @@ pub record Left : Type 0 where
   pub answer : Answer
   pub table : List ℕ
 
-abbrev writtenSaid : Left → Written
-writtenSaid left = record { number = left .answer .number; place = left .answer .place; table = left .table }
-
 leftBy : Written → Left
 leftBy w = record { answer = record { number = w .number; place = w .place }; table = w .table }
 
-pub one-write : (words buffer : List ℕ) (left left′ : Left) → writtenSaid left ≡ write words buffer → writtenSaid left′ ≡ write words buffer
-    → left ≡ left′
+pub one-write : (words buffer : List ℕ) (left left′ : Left) → writtenOf (left .answer) (left .table) ≡ write words buffer
+    → writtenOf (left′ .answer) (left′ .table) ≡ write words buffer → left ≡ left′
 unfolding leftBy
 one-write words buffer left left′ e e′ = ap leftBy (e ∙ sym e′)

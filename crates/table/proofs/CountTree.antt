@@ -6,7 +6,8 @@ use mathlib.Core.List.{List, [], _∷_}
 use lib.ListN.{length, length-append, getD}
 use native.Mathlib.Omega.{arith}
 use Rattle.sheet.specs.Tree.{Tree, done, one, fork, again, basic, ifLine, elseLine, endIf, repeat, endRepeat, flat, rows}
-use Rattle.sheet.specs.Rows.{Assignment, Test, SheetLine, sheetRowOf, treeRows, lineOfRow}
+use Rattle.sheet.specs.Rows.{Assignment, Test, SheetLine, sheetRowOf, treeRows}
+use Rattle.sheet.specs.inner.RowLines.{lineOfRow}
 use Rattle.sheet.specs.Reading.{rowsAt}
 use Rattle.sets.specs.Marks.{Marked, numbered}
 use Rattle.table.specs.TableRows.{Table, saveTurn, turning, onTurn, turnRound, ofTurningRound}

@@ -4,7 +4,8 @@ use mathlib.Core.Path.{_≡_}
 use mathlib.Core.List.{List, [], _++_}
 use lib.ListN.{getD}
 use native.Mathlib.Omega.{arith}
-use Rattle.sheet.specs.Rows.{Row, lineOfRow}
+use Rattle.sheet.specs.Rows.{Row}
+use Rattle.sheet.specs.inner.RowLines.{lineOfRow}
 use Rattle.table.specs.inner.MarkedRows.{rowNumbered, forwardOfLine, forwardRows}
 
 module _ (words : List ℕ) (first : ℕ) (marks : List ℕ) (p rows : ℕ) where

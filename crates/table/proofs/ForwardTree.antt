@@ -6,19 +6,20 @@ use mathlib.Core.List.{List, [], _∷_, _++_, append-assoc, append-nil}
 use lib.ListN.{getD}
 use native.Mathlib.Omega.{arith}
 use Rattle.sheet.specs.Tree.{Tree, done, one, fork, again, basic, ifLine, elseLine, endIf, repeat, endRepeat, flat, rows, RowNumber}
-use Rattle.sheet.specs.Rows.{Assignment, Test, SheetLine, Row, sheetRowOf, rowOf, rowOfAssignment, rowOfTest, treeRows, lineOfRow}
+use Rattle.sheet.specs.Rows.{Assignment, Test, SheetLine, Row, sheetRowOf, rowOf, rowOfAssignment, rowOfTest, treeRows}
+use Rattle.sheet.specs.inner.RowLines.{lineOfRow}
 use Rattle.sheet.specs.Reading.{rowsAt}
 use Rattle.sets.specs.Marks.{Marked, numbered}
 use Rattle.table.specs.TableRows.{Table, tableRowOf, rowOfAction, rowOfTableTest, whether, saveTurn, turning}
 use Rattle.table.specs.Adjoint.{put, targetOf, forwardRow, forwardPart}
-use Rattle.table.specs.inner.MarkedRows.{row4, rowIf, rowsIn, rowNumbered, forwardOfLine, forwardRows, MarkSays, Noted}
+use Rattle.table.specs.inner.MarkedRows.{rowWith, rowIf, rowsIn, rowNumbered, forwardOfLine, forwardRows, MarkSays, Noted}
 use Rattle.table.proofs.AssignmentRows.{rows-of-put, rows-of-put-if, rows-of-done, none-before}
 use Rattle.sheet.proofs.RowsBack.{line-back}
 use Rattle.table.proofs.TreeRows.{StandsAt, tree-stands, stands-after, fork-before, again-before}
 
 -- the rows of an assignment, before the rest
 pub forward-row : (m : Marked) (rest : Table)
-    → rowsIn (forwardRow m rest) ≡ rowIf (m .saved) (row4 12 (targetOf (m .assignment)) 0 0) ++ (rowOfAssignment (m .assignment) ∷ rowsIn rest)
+    → rowsIn (forwardRow m rest) ≡ rowIf (m .saved) (rowWith 12 (targetOf (m .assignment)) 0 0) ++ (rowOfAssignment (m .assignment) ∷ rowsIn rest)
 unfolding forwardRow rowOfAction
 forward-row m rest = rw (rows-of-put-if (m .saved), rows-of-put)
 
@@ -71,18 +72,18 @@ module _ (words : List ℕ) (first : ℕ) (marks came goes : List ℕ) (mark : �
       let whatFollows = forward-tree k ls rest after (suc end) n (rows k + n) e refl (omega arith) (atEnd .1) (w .1 .1 .1) h in
       let ended =
       forward-step endIf end (rows k + n) (suc (rows k + n)) refl (atEnd .0)
-      ∙ ap (λ rs. row4 14 0 0 0 ∷ row4 9 0 0 0 ∷ rs) whatFollows
-      ∙ sym (turn-before (record { index = p }) false (row4 9 0 0 0 ∷ (rowsIn K ++ after))) in
+      ∙ ap (λ rs. rowWith 14 0 0 0 ∷ rowWith 9 0 0 0 ∷ rs) whatFollows
+      ∙ sym (turn-before (record { index = p }) false (rowWith 9 0 0 0 ∷ (rowsIn K ++ after))) in
       let secondBranch =
-      forward-tree b (endIf ∷ flat k ls) (put (record { index = p }) turning (saveTurn false) done) (row4 9 0 0 0 ∷ (rowsIn K ++ after))
+      forward-tree b (endIf ∷ flat k ls) (put (record { index = p }) turning (saveTurn false) done) (rowWith 9 0 0 0 ∷ (rowsIn K ++ after))
       (suc split) (suc (rows k + n)) second end refl refl (atSplit .1) (w .1 .1 .0) ended in
       let splitted =
       forward-step elseLine split second (suc second) refl (atSplit .0)
-      ∙ ap (λ rs. row4 14 0 1 0 ∷ row4 8 0 0 0 ∷ rs) secondBranch
-      ∙ sym (turn-before (record { index = p }) true (row4 8 0 0 0 ∷ (rowsIn B ++ (row4 9 0 0 0 ∷ (rowsIn K ++ after))))) in
+      ∙ ap (λ rs. rowWith 14 0 1 0 ∷ rowWith 8 0 0 0 ∷ rs) secondBranch
+      ∙ sym (turn-before (record { index = p }) true (rowWith 8 0 0 0 ∷ (rowsIn B ++ (rowWith 9 0 0 0 ∷ (rowsIn K ++ after))))) in
       let firstBranch =
       forward-tree a (elseLine ∷ flat b (endIf ∷ flat k ls)) (put (record { index = p }) turning (saveTurn true) done)
-      (row4 8 0 0 0 ∷ (rowsIn B ++ (row4 9 0 0 0 ∷ (rowsIn K ++ after))))
+      (rowWith 8 0 0 0 ∷ (rowsIn B ++ (rowWith 9 0 0 0 ∷ (rowsIn K ++ after))))
       (suc p) (suc second) (rows a + suc second) split refl refl (s .1) (w .1 .0) splitted in
       forward-step (ifLine f) p (rows a + suc second) c (omega arith) (s .0) ∙ ap (λ rs. rowOfTest f ∷ rs) firstBranch
       ∙ sym (fork-before (whether f) A B K after)
@@ -92,12 +93,12 @@ module _ (words : List ℕ) (first : ℕ) (marks came goes : List ℕ) (mark : �
       let atEnd = stands-after words first a (endRepeat ∷ flat k ls) (suc p) refl (s .1) in
       let whatFollows = forward-tree k ls rest after (suc end) n (rows k + n) e refl (omega arith) (atEnd .1) (w .1 .1) h in
       let ended =
-      forward-step endRepeat end (rows k + n) (suc (rows k + n)) refl (atEnd .0) ∙ ap (λ rs. row4 11 0 0 0 ∷ rs) whatFollows
-      ∙ sym (none-before (row4 11 0 0 0 ∷ (rowsIn K ++ after))) in
+      forward-step endRepeat end (rows k + n) (suc (rows k + n)) refl (atEnd .0) ∙ ap (λ rs. rowWith 11 0 0 0 ∷ rs) whatFollows
+      ∙ sym (none-before (rowWith 11 0 0 0 ∷ (rowsIn K ++ after))) in
       let body =
-      forward-tree a (endRepeat ∷ flat k ls) done (row4 11 0 0 0 ∷ (rowsIn K ++ after))
+      forward-tree a (endRepeat ∷ flat k ls) done (rowWith 11 0 0 0 ∷ (rowsIn K ++ after))
       (suc p) (suc (rows k + n)) (rows a + suc (rows k + n)) end refl refl (s .1) (w .1 .0) ended in
-      forward-step (repeat m) p (rows a + suc (rows k + n)) c (omega arith) (s .0) ∙ ap (λ rs. row4 10 0 (suc m) 0 ∷ rs) body
+      forward-step (repeat m) p (rows a + suc (rows k + n)) c (omega arith) (s .0) ∙ ap (λ rs. rowWith 10 0 (suc m) 0 ∷ rs) body
       ∙ sym (again-before m (forwardPart (numbered mark a (suc p)) done) K after)
 
   forward-end : (e : ℕ) → forwardRows words first marks e 0 ≡ rowsIn done ++ []

@@ -6,15 +6,17 @@ use mathlib.Core.List.{List, [], _∷_, _++_}
 use native.Mathlib.Decide.{ℕ-discrete}
 use native.Mathlib.Omega.{arith}
 use Rattle.sheet.specs.Tree.{basic, ifLine, elseLine, endIf, repeat, endRepeat}
-use Rattle.sheet.specs.Rows.{Row, SheetLine, less, kindOf, rowOf, sheetRowOf, _≔_, lineOfRow}
+use Rattle.sheet.specs.Rows.{Row, SheetLine, less, kindOf, rowOf, sheetRowOf, _≔_}
+use Rattle.sheet.specs.inner.RowLines.{lineOfRow}
 use Rattle.table.specs.TableRows.{tableRowOf, rowOfAction, rowOfTableTest}
 use Rattle.table.specs.Adjoint.{forwardRow}
-use Rattle.table.specs.inner.MarkedRows.{row4, rowIf, Assigns, Says, sourceOf, assignmentBack, bitOf, forwardOfLine, backwardOfLine}
+use Rattle.sets.specs.inner.MarkBytes.{bitOf}
+use Rattle.table.specs.inner.MarkedRows.{rowWith, rowIf, Assigns, Says, sourceOf, assignmentBack, forwardOfLine, backwardOfLine}
 use Rattle.table.proofs.AssignmentRows.{kind-is, rows-of-put, rows-of-put-if, rows-of-done}
 
 -- ---- the line that a row says
 
-assigned : (kind d a b : ℕ) → 1 ≤ kind → kind ≤ 6 → lineOfRow (row4 kind d a b) ≡ basic (d ≔ sourceOf (row4 kind d a b))
+assigned : (kind d a b : ℕ) → 1 ≤ kind → kind ≤ 6 → lineOfRow (rowWith kind d a b) ≡ basic (d ≔ sourceOf (rowWith kind d a b))
 unfolding lineOfRow kindOf sourceOf
 assigned zero d a b h g = absurd (omega arith)
 assigned (suc zero) d a b h g = refl
@@ -26,7 +28,7 @@ assigned (suc (suc (suc (suc (suc (suc zero)))))) d a b h g = refl
 assigned (suc (suc (suc (suc (suc (suc (suc n))))))) d a b h g = absurd (omega arith)
 
 -- a kind above the last says what the last does
-last-kind : (n d a b : ℕ) → lineOfRow (row4 (suc (suc (suc (suc (suc (suc (suc (suc (suc (suc (suc n))))))))))) d a b) ≡ endRepeat
+last-kind : (n d a b : ℕ) → lineOfRow (rowWith (suc (suc (suc (suc (suc (suc (suc (suc (suc (suc (suc n))))))))))) d a b) ≡ endRepeat
 unfolding lineOfRow kindOf
 last-kind zero d a b = refl
 last-kind (suc n) d a b = refl
@@ -71,7 +73,7 @@ module _ (r : Row) where
       by (no _) (no _) (no _) (yes e) = subst P (sym (repeat-line e)) (again e)
       by (no not-if) (no not-else) (no not-end) (no not-repeat) = subst P (sym (end-repeat-line (omega arith))) end-repeat
 
-some-kind : (kind d a b : ℕ) → Says (row4 kind d a b) → 1 ≤ kind
+some-kind : (kind d a b : ℕ) → Says (rowWith kind d a b) → 1 ≤ kind
 unfolding lineOfRow kindOf sheetRowOf rowOf
 some-kind zero d a b says = let z : _≡_ {A = ℕ} 11 0 = ap (λ r. r .kind) (says .back) in absurd (omega arith)
 some-kind (suc n) d a b says = omega arith
@@ -83,10 +85,10 @@ says-assigns {r} says h = record { some = some-kind (r .kind) (r .d) (r .a) (r .
 
 -- what is saved before a row: d, or the turn at a branch's end
 abbrev savedFirst : Bool → SheetLine → List Row
-savedFirst saved (basic (d ≔ source)) = rowIf saved (row4 12 d 0 0)
+savedFirst saved (basic (d ≔ source)) = rowIf saved (rowWith 12 d 0 0)
 savedFirst saved (ifLine f) = []
-savedFirst saved elseLine = row4 14 0 1 0 ∷ []
-savedFirst saved endIf = row4 14 0 0 0 ∷ []
+savedFirst saved elseLine = rowWith 14 0 1 0 ∷ []
+savedFirst saved endIf = rowWith 14 0 0 0 ∷ []
 savedFirst saved (repeat m) = []
 savedFirst saved endRepeat = []
 
@@ -110,13 +112,13 @@ module _ (mark : ℕ) {r : Row} (says : Says r) where
       ∙ ap (λ l. savedFirst (bitOf mark 8) l ++ (r ∷ [])) e
 
   pub assignment-forward : {saved : Bool} → saved ≡ bitOf mark 8 → r .kind < 7
-      → forwardOfLine mark (lineOfRow r) ≡ rowIf saved (row4 12 (r .d) 0 0) ++ (r ∷ [])
+      → forwardOfLine mark (lineOfRow r) ≡ rowIf saved (rowWith 12 (r .d) 0 0) ++ (r ∷ [])
   assignment-forward e h = rw e (forward-said (assignment-line r (says-assigns says h)))
 
-  pub else-forward : r .kind ≡ 8 → forwardOfLine mark (lineOfRow r) ≡ row4 14 0 1 0 ∷ r ∷ []
+  pub else-forward : r .kind ≡ 8 → forwardOfLine mark (lineOfRow r) ≡ rowWith 14 0 1 0 ∷ r ∷ []
   else-forward e = forward-said (else-line r e)
 
-  pub end-if-forward : r .kind ≡ 9 → forwardOfLine mark (lineOfRow r) ≡ row4 14 0 0 0 ∷ r ∷ []
+  pub end-if-forward : r .kind ≡ 9 → forwardOfLine mark (lineOfRow r) ≡ rowWith 14 0 0 0 ∷ r ∷ []
   end-if-forward e = forward-said (end-if-line r e)
 
   pub plain-forward : 7 ≤ r .kind → (r .kind ≡ 8 → ⊥) → (r .kind ≡ 9 → ⊥) → forwardOfLine mark (lineOfRow r) ≡ r ∷ []
@@ -129,22 +131,22 @@ module _ (v mark turns : ℕ) (r : Row) where
   unfolding backwardOfLine assignmentBack
   assignment-backward assigns = ap (backwardOfLine v mark turns) (assignment-line r assigns)
 
-  pub if-backward : r .kind ≡ 7 → backwardOfLine v mark turns (lineOfRow r) ≡ row4 8 0 0 0 ∷ []
+  pub if-backward : r .kind ≡ 7 → backwardOfLine v mark turns (lineOfRow r) ≡ rowWith 8 0 0 0 ∷ []
   unfolding backwardOfLine tableRowOf rowOf
   if-backward e = ap (backwardOfLine v mark turns) (if-line r e)
 
-  pub else-backward : r .kind ≡ 8 → backwardOfLine v mark turns (lineOfRow r) ≡ row4 9 0 0 0 ∷ []
+  pub else-backward : r .kind ≡ 8 → backwardOfLine v mark turns (lineOfRow r) ≡ rowWith 9 0 0 0 ∷ []
   unfolding backwardOfLine tableRowOf rowOf
   else-backward e = ap (backwardOfLine v mark turns) (else-line r e)
 
-  pub end-if-backward : r .kind ≡ 9 → backwardOfLine v mark turns (lineOfRow r) ≡ row4 15 0 0 0 ∷ []
+  pub end-if-backward : r .kind ≡ 9 → backwardOfLine v mark turns (lineOfRow r) ≡ rowWith 15 0 0 0 ∷ []
   unfolding backwardOfLine tableRowOf rowOf rowOfTableTest
   end-if-backward e = ap (backwardOfLine v mark turns) (end-if-line r e)
 
-  pub repeat-backward : r .kind ≡ 10 → backwardOfLine v mark turns (lineOfRow r) ≡ row4 11 0 0 0 ∷ []
+  pub repeat-backward : r .kind ≡ 10 → backwardOfLine v mark turns (lineOfRow r) ≡ rowWith 11 0 0 0 ∷ []
   unfolding backwardOfLine tableRowOf rowOf
   repeat-backward e = ap (backwardOfLine v mark turns) (repeat-line r e)
 
-  pub end-repeat-backward : 11 ≤ r .kind → backwardOfLine v mark turns (lineOfRow r) ≡ row4 10 0 turns 0 ∷ []
+  pub end-repeat-backward : 11 ≤ r .kind → backwardOfLine v mark turns (lineOfRow r) ≡ rowWith 10 0 turns 0 ∷ []
   unfolding backwardOfLine
   end-repeat-backward h = ap (backwardOfLine v mark turns) (end-repeat-line r h)

@@ -7,7 +7,8 @@ use native.Mathlib.Nat.{suc-mul}
 use native.Mathlib.Omega.{arith}
 use borrow.Author.Tests.{le-ltb}
 use Rattle.sheet.specs.Tree.{Tree, done, one, fork, again, basic, ifLine, elseLine, endIf, repeat, endRepeat, flat, rows}
-use Rattle.sheet.specs.Rows.{Assignment, Test, less, SheetLine, rowOf, rowOfTest, sheetRowOf, treeRows, lineOfRow}
+use Rattle.sheet.specs.Rows.{Assignment, Test, less, SheetLine, rowOf, rowOfTest, sheetRowOf, treeRows}
+use Rattle.sheet.specs.inner.RowLines.{lineOfRow}
 use Rattle.sheet.specs.Reading.{rowsAt}
 use Rattle.sheet.specs.LongestRun.{longestRun}
 use Rattle.sets.specs.Marks.{Marked, MarkedTest, numbered}

@@ -8,7 +8,7 @@ use Rattle.sheet.specs.Tree.{Tree, done, one, fork, again, Line, elseLine, endI
 use Rattle.sheet.specs.Rows.{Assignment, Test, SheetLine, Row, rowOf, sheetRowOf, treeRows}
 use Rattle.sheet.specs.Reading.{rowAt, rowsAt}
 use Rattle.table.specs.TableRows.{Table, TableRow, TableLine, TableTest, linesOf, tableRowOf, rowOfAction, rowOfTableTest}
-use Rattle.table.specs.inner.MarkedRows.{row4, rowsIn, rowNumbered}
+use Rattle.table.specs.inner.MarkedRows.{rowWith, rowsIn, rowNumbered}
 
 -- ---- the sheet's rows
 
@@ -69,21 +69,21 @@ unfolding rowsIn linesOf tableRowOf flat rowOf
 rows-of-one r k = refl
 
 pub rows-of-fork : (f : TableTest) (a b k : Table)
-    → rowsIn (fork f a b k) ≡ rowOfTableTest f ∷ (rowsIn a ++ (row4 8 0 0 0 ∷ (rowsIn b ++ (row4 9 0 0 0 ∷ rowsIn k))))
+    → rowsIn (fork f a b k) ≡ rowOfTableTest f ∷ (rowsIn a ++ (rowWith 8 0 0 0 ∷ (rowsIn b ++ (rowWith 9 0 0 0 ∷ rowsIn k))))
 unfolding rowsIn linesOf tableRowOf flat rowOf
 rows-of-fork f a b k =
     ap (λ rs. rowOfTableTest f ∷ rs)
-    (rows-before a (elseLine ∷ flat b (endIf ∷ flat k [])) ∙ ap (λ rs. rowsIn a ++ (row4 8 0 0 0 ∷ rs)) (rows-before b (endIf ∷ flat k [])))
+    (rows-before a (elseLine ∷ flat b (endIf ∷ flat k [])) ∙ ap (λ rs. rowsIn a ++ (rowWith 8 0 0 0 ∷ rs)) (rows-before b (endIf ∷ flat k [])))
 
-pub rows-of-again : (m : ℕ) (a k : Table) → rowsIn (again m a k) ≡ row4 10 0 (suc m) 0 ∷ (rowsIn a ++ (row4 11 0 0 0 ∷ rowsIn k))
+pub rows-of-again : (m : ℕ) (a k : Table) → rowsIn (again m a k) ≡ rowWith 10 0 (suc m) 0 ∷ (rowsIn a ++ (rowWith 11 0 0 0 ∷ rowsIn k))
 unfolding rowsIn linesOf tableRowOf flat rowOf
-rows-of-again m a k = ap (λ rs. row4 10 0 (suc m) 0 ∷ rs) (rows-before a (endRepeat ∷ flat k []))
+rows-of-again m a k = ap (λ rs. rowWith 10 0 (suc m) 0 ∷ rs) (rows-before a (endRepeat ∷ flat k []))
 
 -- the same before other rows
 pub fork-before : (f : TableTest) (a b k : Table) (after : List Row)
-    → rowsIn (fork f a b k) ++ after ≡ rowOfTableTest f ∷ (rowsIn a ++ (row4 8 0 0 0 ∷ (rowsIn b ++ (row4 9 0 0 0 ∷ (rowsIn k ++ after)))))
+    → rowsIn (fork f a b k) ++ after ≡ rowOfTableTest f ∷ (rowsIn a ++ (rowWith 8 0 0 0 ∷ (rowsIn b ++ (rowWith 9 0 0 0 ∷ (rowsIn k ++ after)))))
 fork-before f a b k after = rw (rows-of-fork f a b k) (simp append-assoc)
 
 pub again-before : (m : ℕ) (a k : Table) (after : List Row)
-    → rowsIn (again m a k) ++ after ≡ row4 10 0 (suc m) 0 ∷ (rowsIn a ++ (row4 11 0 0 0 ∷ (rowsIn k ++ after)))
+    → rowsIn (again m a k) ++ after ≡ rowWith 10 0 (suc m) 0 ∷ (rowsIn a ++ (rowWith 11 0 0 0 ∷ (rowsIn k ++ after)))
 again-before m a k after = rw (rows-of-again m a k) (simp append-assoc)

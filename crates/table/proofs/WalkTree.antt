@@ -6,7 +6,8 @@ use lib.ListN.{length, length-map, getD}
 use native.Mathlib.Omega.{arith}
 use Rattle.sheet.specs.Bounds.{limit}
 use Rattle.sheet.specs.Tree.{Tree, done, one, fork, again, basic, ifLine, elseLine, endIf, repeat, endRepeat, flat, rows}
-use Rattle.sheet.specs.Rows.{Assignment, Test, SheetLine, Row, sheetRowOf, rowOf, treeRows, lineOfRow}
+use Rattle.sheet.specs.Rows.{Assignment, Test, SheetLine, Row, sheetRowOf, rowOf, treeRows}
+use Rattle.sheet.specs.inner.RowLines.{lineOfRow}
 use Rattle.sheet.specs.Reading.{rowsAt}
 use Rattle.sheet.proofs.RowsCounted.{lines-counted}
 use Rattle.sets.specs.Marks.{Marked}

@@ -14,7 +14,7 @@ use Rattle.sets.specs.Marks.{Marked, numbered}
 use Rattle.table.specs.TableRows.{Table, TableRow, tableRowOf, linesOf, wordsOf, tableWords, rowOfAction, whether, turnRound, ofTurningRound, saveTurn, turning}
 use Rattle.table.specs.Adjoint.{Body, put, forwardPart, backwardPart, adjointTable}
 use Rattle.table.specs.Calls.{overwritten}
-use Rattle.table.specs.inner.MarkedRows.{row4, Room, Wrote, rowsIn, Handed, wholeRows, Noted}
+use Rattle.table.specs.inner.MarkedRows.{rowWith, Room, Wrote, rowsIn, Handed, wholeRows, Noted}
 use Rattle.table.proofs.AssignmentRows.{rows-of-done}
 use Rattle.table.proofs.TableLength.{words-counted}
 use Rattle.table.proofs.TreeRows.{rows-of-one, rows-of-fork, rows-of-again}
@@ -38,7 +38,7 @@ forward-before (again n a k) rest =
     (simp append-assoc)
 
 pub adjoint-rows : (v : ℕ) (t : Body)
-    → rowsIn (adjointTable v t) ≡ rowsIn (forwardPart t done) ++ (row4 17 0 0 0 ∷ rowsIn (backwardPart v t done))
+    → rowsIn (adjointTable v t) ≡ rowsIn (forwardPart t done) ++ (rowWith 17 0 0 0 ∷ rowsIn (backwardPart v t done))
 unfolding adjointTable rowOfAction
 adjoint-rows v t =
     let turning-row : TableRow = record { origin = ofTurningRound; action = turnRound } in

@@ -2,7 +2,7 @@
 ghost use mathlib.Core.Path.{_≡_};
 ghost use mathlib.Core.Bool.{cond};
 ghost use Prim.Native.Nat.{ℕ, _+_, _≤_};
-ghost use Rattle.sheet.specs.Rows.{lineOfRow};
+ghost use Rattle.sheet.specs.inner.RowLines.{lineOfRow};
 ghost use Rattle.sheet.specs.Answers.{rowSaid};
 ghost use Rattle.table.specs.Sizes.{mostRowsEach};
 ghost use Rattle.table.specs.inner.MarkedRows.{Assigns, Says, Readable, partRows, assignmentBack, bothParts, Counted, countAll};

@@ -8,7 +8,7 @@ ghost use Rattle.sheet.specs.Answers.{shapeRead};
 ghost use Rattle.sets.specs.inner.Laid.{Laid};
 ghost use Rattle.table.specs.TableRows.{tableWords};
 ghost use Rattle.table.specs.Adjoint.{tableOf};
-ghost use Rattle.table.specs.Calls.{tableRoom, overwritten, checkedSaid, check, Written, write};
+ghost use Rattle.table.specs.Calls.{tableRoom, overwritten, checkedSaid, check, writtenOf, write};
 ghost use Rattle.table.specs.inner.Plans.{SheetNoted, PlanMade, PlanSays};
 
 mod count;
@@ -173,8 +173,7 @@ pub fn check(words: &[u16]) -> Checked
 
 // Any words and a buffer: the first refusal of 1 to 8, or the table of the sheet that they are, at the buffer's start.
 pub fn write(words: &[u16], table: &mut [u16]) -> Answer
-    ensures { λ r. ⌜ _≡_ {A = Written} (record { number = r .number; place = r .place; table = now (table .exit) })
-        (write (now (words .entry)) (now (table .entry))) ⌝ }
+    ensures { λ r. ⌜ writtenOf r (now (table .exit)) ≡ write (now (words .entry)) (now (table .entry)) ⌝ }
 {
     let mut marks = [0u8; sheet::MAX_ROWS];
     let mut came = [0u16; sheet::MAX_ROWS];

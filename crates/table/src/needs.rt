@@ -2,7 +2,7 @@
 ghost use mathlib.Core.Path.{_≡_};
 ghost use Prim.Native.Nat.{_≤_, _<_, max};
 ghost use lib.ListN.{length};
-ghost use Rattle.sheet.specs.Rows.{lineOfRow};
+ghost use Rattle.sheet.specs.inner.RowLines.{lineOfRow};
 ghost use Rattle.sheet.specs.Answers.{rowSaid};
 ghost use Rattle.table.specs.inner.MarkedRows.{Says, Readable, savedBy};
 ghost use Rattle.table.specs.inner.Needs.{capped, ofSaved, ofBranch, needOfLine, blockEnd, LooksUp, needOver};

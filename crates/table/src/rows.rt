@@ -1,18 +1,19 @@
 // One sheet row's rows in the table.
 ghost use mathlib.Core.Path.{_≡_};
-ghost use Rattle.sheet.specs.Rows.{lineOfRow};
+ghost use Rattle.sheet.specs.inner.RowLines.{lineOfRow};
 ghost use Rattle.sheet.specs.Answers.{rowSaid};
 ghost use Rattle.sheet.specs.Bounds.{limit};
 ghost use Prim.Native.Nat.{_≤_};
 ghost use mathlib.Core.List.{[], _∷_};
-ghost use Rattle.table.specs.inner.MarkedRows.{row4, Room, Wrote, rowIf, Small, bitOf, scaledRows, partRows, derivativesOf, assignmentBack, Assigns, Says, forwardOfLine, backwardOfLine};
+ghost use Rattle.sets.specs.inner.MarkBytes.{bitOf};
+ghost use Rattle.table.specs.inner.MarkedRows.{rowWith, Room, Wrote, rowIf, Small, scaledRows, partRows, derivativesOf, assignmentBack, Assigns, Says, forwardOfLine, backwardOfLine};
 use super::kinds;
 use sheet::RowWords;
 
 // One row of the table, its words from place on. Answers the place after it.
 pub fn put(table: &mut [u16], place: usize, kind: u16, d: u16, a: u16, b: u16) -> usize
-    requires { ⌜ Room (now table) place (row4 kind d a b ∷ []) ⌝ }
-    ensures { λ r. ⌜ Wrote (now (table .entry)) place (row4 kind d a b ∷ []) (now (table .exit)) r ⌝ }
+    requires { ⌜ Room (now table) place (rowWith kind d a b ∷ []) ⌝ }
+    ensures { λ r. ⌜ Wrote (now (table .entry)) place (rowWith kind d a b ∷ []) (now (table .exit)) r ⌝ }
 {
     table[place] = kind;
     table[place + 1] = d;
@@ -31,8 +32,8 @@ pub fn put_if(
     a: u16,
     b: u16,
 ) -> usize
-    requires { ⌜ Room (now table) place (rowIf given (row4 kind d a b)) ⌝ }
-    ensures { λ r. ⌜ Wrote (now (table .entry)) place (rowIf given (row4 kind d a b)) (now (table .exit)) r ⌝ }
+    requires { ⌜ Room (now table) place (rowIf given (rowWith kind d a b)) ⌝ }
+    ensures { λ r. ⌜ Wrote (now (table .entry)) place (rowIf given (rowWith kind d a b)) (now (table .exit)) r ⌝ }
 {
     if given {
         return put(table, place, kind, d, a, b);

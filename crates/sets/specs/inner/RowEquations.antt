@@ -8,7 +8,8 @@ use lib.ListN.{getD, take, drop, length as List·length}
 use lib.Dec.{eqb}
 use Rattle.sheet.specs.Bounds.{limit}
 use Rattle.sheet.specs.Tree.{basic, ifLine, elseLine, endIf, repeat, endRepeat}
-use Rattle.sheet.specs.Rows.{Assignment, SheetLine, Row, sheetRowOf, isIndependent, isDependent, lineOfRow}
+use Rattle.sheet.specs.Rows.{Assignment, SheetLine, Row, sheetRowOf, isIndependent, isDependent}
+use Rattle.sheet.specs.inner.RowLines.{lineOfRow}
 use Rattle.sheet.specs.Reading.{rowAt}
 use Rattle.sets.specs.declared.Which.{Which}
 use Rattle.sets.specs.declared.Which.the-variants.{Varied, Useful, Required}

@@ -11,17 +11,19 @@ use lib.Dec.{eqb}
 use Rattle.sheet.specs.Reading.{rowAt}
 use Rattle.sheet.specs.Bounds.{limit}
 use Rattle.sheet.specs.Tree.{Tree, done, one, fork, again, rows, RowNumber, basic, ifLine, elseLine, endIf, repeat, endRepeat}
-use Rattle.sheet.specs.Rows.{Assignment, Test, _≔_, Source, fixed, SheetLine, Row, rowOfTest, sheetRowOf, lineOfRow}
+use Rattle.sheet.specs.Rows.{Assignment, Test, _≔_, Source, fixed, SheetLine, Row, rowOfTest, sheetRowOf}
+use Rattle.sheet.specs.inner.RowLines.{lineOfRow}
 use Rattle.sheet.specs.declared.Shape.{Shape}
 use Rattle.sets.specs.Transfers.{Activity}
 use Rattle.sets.specs.Marks.{Marked}
+use Rattle.sets.specs.inner.MarkBytes.{weight, bitOf}
 use Rattle.table.specs.TableRows.{adjointOf, t, u, Table, linesOf, tableRowOf, wordsOf, rowOfAction, saveTurn, onTurn}
 use Rattle.table.specs.Adjoint.{forwardRow, partsOf, derivativeRows, backwardOf}
 
 -- ---- rows in a buffer
 
-abbrev pub row4 : (kind d a b : ℕ) → Row
-row4 kind d a b = record { kind = kind; d = d; a = a; b = b }
+abbrev pub rowWith : (kind d a b : ℕ) → Row
+rowWith kind d a b = record { kind = kind; d = d; a = a; b = b }
 
 -- a buffer has room for rows from a place on
 pub record Room (buffer : List ℕ) (place : ℕ) (rs : List Row) : Type 0 where
@@ -44,17 +46,12 @@ rowsIn table = map tableRowOf (linesOf table)
 
 -- ---- the marks
 
--- one bit of a mark
-abbrev pub bitOf : (mark weight : ℕ) → Bool
-bitOf mark weight = eqb (mark / weight % 2) 1
-
--- "1 where a is varied before it, 2 where b is, 4 where the row is active"
 abbrev pub knownBy : ℕ → Activity
-knownBy mark = record { variedA = bitOf mark 1; variedB = bitOf mark 2; active = bitOf mark 4 }
+knownBy mark =
+    record { variedA = bitOf mark (weight .variedA); variedB = bitOf mark (weight .variedB); active = bitOf mark (weight .active) }
 
--- "8 where it is saved"
 abbrev pub savedBy : ℕ → Bool
-savedBy mark = bitOf mark 8
+savedBy mark = bitOf mark (weight .saved)
 
 -- ---- one sheet row
 
@@ -102,7 +99,7 @@ partRows v r mark = rowsIn (partsOf v (sourceOf r) anyRow (knownBy mark) done)
 -- of these, those of a product for one operand: u := operand × t, and u into the adjoint of the other
 abbrev pub scaledRows : (variables : ℕ) → Bool → (operand other : ℕ) → List Row
 scaledRows v test operand other =
-    rowIf test (row4 5 (u v) operand (t v)) ++ rowIf test (row4 3 (adjointOf v other) (adjointOf v other) (u v))
+    rowIf test (rowWith 5 (u v) operand (t v)) ++ rowIf test (rowWith 3 (adjointOf v other) (adjointOf v other) (u v))
 
 unfoldable pub derivativesOf : (variables : ℕ) → Row → (mark : ℕ) → List Row
 unfolding sourceOf derivativeRows rowsIn
@@ -130,7 +127,7 @@ backwardOfLine v mark turns (ifLine f) = tableRowOf elseLine ∷ []
 backwardOfLine v mark turns elseLine = tableRowOf endIf ∷ []
 backwardOfLine v mark turns endIf = tableRowOf (ifLine onTurn) ∷ []
 backwardOfLine v mark turns (repeat m) = tableRowOf endRepeat ∷ []
-backwardOfLine v mark turns endRepeat = row4 10 0 turns 0 ∷ []
+backwardOfLine v mark turns endRepeat = rowWith 10 0 turns 0 ∷ []
 
 -- in both parts; how many they are doesn't hang on the turns
 abbrev pub bothParts : (variables mark : ℕ) → SheetLine → List Row
@@ -240,7 +237,7 @@ module _ (given : Handed) where
 unfoldable pub wholeRows : Handed → List Row
 unfolding forwardRows backwardRows
 wholeRows given =
-    forwardRows (given .words) (given .first) (given .marks) 0 (given .rows) ++ (row4 17 0 0 0 ∷ backwardAll given)
+    forwardRows (given .words) (given .first) (given .marks) 0 (given .rows) ++ (rowWith 17 0 0 0 ∷ backwardAll given)
 
 -- how many rows so many rows from row p on give in both parts
 unfoldable pub countRows : (variables : ℕ) (words : List ℕ) (first : ℕ) (marks : List ℕ) (p count : ℕ) → ℕ

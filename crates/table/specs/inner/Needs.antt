@@ -6,7 +6,8 @@ use mathlib.Core.List.{List, [], _∷_}
 use lib.ListN.{length, getD}
 use lib.Dec.{eqb, ltb}
 use Rattle.sheet.specs.Tree.{basic, ifLine, elseLine, endIf, repeat, endRepeat}
-use Rattle.sheet.specs.Rows.{SheetLine, lineOfRow}
+use Rattle.sheet.specs.Rows.{SheetLine}
+use Rattle.sheet.specs.inner.RowLines.{lineOfRow}
 use Rattle.sheet.specs.Reading.{rowAt}
 use Rattle.sheet.specs.declared.Shape.{Shape}
 use Rattle.table.specs.inner.MarkedRows.{savedBy, rowNumbered, ifEnd}
