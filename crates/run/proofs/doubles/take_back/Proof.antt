@@ -1,5 +1,4 @@
 -- `run::doubles::take_back` meets its contract: the top is one below the height.
-use mathlib.Core.Path.{refl}
 use native.Mathlib.Omega.{arith}
 use borrow.Author.Needs.{needs}
 use Rattle.run.proofs.RowLaws.{take-back-goes, take-back-nowhere, take-back-empty, take-back-above}
