@@ -19,7 +19,7 @@ module _ (A : Arithmetic) where
   pub seeded-length : (roles : List ℕ) (seeds : List (A .Carrier)) → length (seeded A roles seeds) ≡ length roles
   seeded-length roles seeds = ap length (seeded-counting A roles seeds) ∙ counting-length A isDependent roles seeds
 
-  pub seeded-at : (roles : List ℕ) (seeds : List (A .Carrier)) (i : ℕ) (z : A .Carrier) → i < length roles → i < length seeds
+  seeded-at : (roles : List ℕ) (seeds : List (A .Carrier)) (i : ℕ) (z : A .Carrier) → i < length roles → i < length seeds
       → getD (seeded A roles seeds) i z ≡ cond (isDependent (getD roles i 0)) (getD seeds i z) (A .zero)
   seeded-at roles seeds i z h there =
       ap (λ l. getD l i z) (seeded-counting A roles seeds) ∙ counting-at A isDependent roles seeds i z h there
@@ -30,18 +30,18 @@ module _ (A : Arithmetic) where
       pub storeIs : storeNow ≡ paste store (length roles) (seeded A roles seeds) i
       pub copiedIs : copiedNow ≡ paste copied 0 store i
 
-    pub copying-starts : Copying 0 store copied
+    copying-starts : Copying 0 store copied
     copying-starts =
         record { storeIs = paste-zero store (length roles) (seeded A roles seeds); copiedIs = paste-zero copied 0 store }
 
     module _ (sizes : RoundSizes A roles seeds store copied) where
-      pub copying-store-length : {i : ℕ} {s c : List (A .Carrier)} → i ≤ length roles → Copying i s c → length s ≡ length store
+      copying-store-length : {i : ℕ} {s c : List (A .Carrier)} → i ≤ length roles → Copying i s c → length s ≡ length store
       copying-store-length {i} h now =
           let enough = sizes .storeFits in
           ap length (now .storeIs)
           ∙ length-paste store (length roles) (seeded A roles seeds) i (omega arith) (rw (seeded-length roles seeds) h)
 
-      pub copying-copied-length : {i : ℕ} {s c : List (A .Carrier)} → i ≤ length roles → Copying i s c → length c ≡ length copied
+      copying-copied-length : {i : ℕ} {s c : List (A .Carrier)} → i ≤ length roles → Copying i s c → length c ≡ length copied
       copying-copied-length {i} h now =
           let enough = sizes .storeFits in
           let room = sizes .copiedFits in
@@ -60,7 +60,7 @@ module _ (A : Arithmetic) where
           ∙ List·getD-append (take v store) adjoints z j (omega arith)
           ∙ getD-take v store j z h
 
-      pub copying-goes-on : (i : ℕ) (s c : List (A .Carrier)) (z : A .Carrier) → i < length roles → Copying i s c
+      copying-goes-on : (i : ℕ) (s c : List (A .Carrier)) (z : A .Carrier) → i < length roles → Copying i s c
           → Copying (i + 1) (set s (length roles + i) (cond (isDependent (getD roles i 0)) (getD seeds i z) (A .zero))) (set c i (getD s i z))
       copying-goes-on i s c z h now =
           let v = length roles in
@@ -93,7 +93,7 @@ module _ (A : Arithmetic) where
           let none-left : drop (0 + v) copied ≡ [] = drop-of-length-le copied {i = 0 + v} (omega arith) in
           now .copiedIs ∙ rw none-left (append-nil (take v store))
 
-      pub round-done : (s c : List (A .Carrier)) → Copying (length roles) s c → TurnsRound A roles seeds store copied s c went.On
+      round-done : (s c : List (A .Carrier)) → Copying (length roles) s c → TurnsRound A roles seeds store copied s c went.On
       unfolding acted turnedRound
       round-done s c now =
           record {
@@ -106,10 +106,6 @@ module _ (A : Arithmetic) where
             refused = λ not. absurd (not sizes);
           }
 
-    -- no turn at all
-    pub round-refused : (RoundSizes A roles seeds store copied → ⊥) → TurnsRound A roles seeds store copied store copied went.Stuck
-    round-refused not = record { round = λ sizes. absurd (not sizes); refused = λ _. (refl, refl, refl) }
-
     -- the loop's invariant: i turns are done
     pub record Turning (i : ℕ) (storeNow copiedNow : List (A .Carrier)) : Type 0 where
       pub within : i ≤ length roles
@@ -118,27 +114,34 @@ module _ (A : Arithmetic) where
       pub copiedLength : length copiedNow ≡ length copied
       pub copying : Copying i storeNow copiedNow
 
-    pub turning-starts : RoundSizes A roles seeds store copied → Turning 0 store copied
-    turning-starts sizes = record { within = omega arith; sizes = sizes; storeLength = refl; copiedLength = refl; copying = copying-starts }
+-- ---- the code's loop
 
-    pub turning-goes-on : (i : ℕ) (s c : List (A .Carrier)) (z x : A .Carrier) → i < length roles
-        → x ≡ cond (isDependent (getD roles i 0)) (getD seeds i z) (A .zero)
-        → Turning i s c
-        → Turning (i + 1) (set s (length roles + i) x) (set c i (getD s i z))
-    turning-goes-on i s c z x h is now =
+module _ {A : Arithmetic} {roles : List ℕ} {seeds store copied : List (A .Carrier)} where
+  -- no turn at all
+  pub round-refused : (RoundSizes A roles seeds store copied → ⊥) → TurnsRound A roles seeds store copied store copied went.Stuck
+  round-refused not = record { round = λ sizes. absurd (not sizes); refused = λ _. (refl, refl, refl) }
+
+  pub turning-starts : RoundSizes A roles seeds store copied → Turning A roles seeds store copied 0 store copied
+  turning-starts sizes =
+      record { within = omega arith; sizes = sizes; storeLength = refl; copiedLength = refl; copying = copying-starts A roles seeds store copied }
+
+  module _ {i : ℕ} {s c : List (A .Carrier)} (now : Turning A roles seeds store copied i s c) where
+    pub turning-goes-on : {x : A .Carrier} (z : A .Carrier) → i < length roles → x ≡ cond (isDependent (getD roles i 0)) (getD seeds i z) (A .zero)
+        → Turning A roles seeds store copied (i + 1) (set s (length roles + i) x) (set c i (getD s i z))
+    turning-goes-on z h is =
         let next : i + 1 ≤ length roles = omega arith in
         let sizes = now .sizes in
-        let copying = rw (sym is) at (copying-goes-on sizes i s c z h (now .copying)) in
+        let copying = rw (sym is) at (copying-goes-on A roles seeds store copied sizes i s c z h (now .copying)) in
         record {
           within = next;
           sizes = sizes;
-          storeLength = copying-store-length sizes next copying;
-          copiedLength = copying-copied-length sizes next copying;
+          storeLength = copying-store-length A roles seeds store copied sizes next copying;
+          copiedLength = copying-copied-length A roles seeds store copied sizes next copying;
           copying = copying;
         }
 
-    pub turning-ends : (i : ℕ) (s c : List (A .Carrier)) → length roles ≤ i → Turning i s c
-        → TurnsRound A roles seeds store copied s c went.On
-    turning-ends i s c h now =
+    pub turning-ends : length roles ≤ i → TurnsRound A roles seeds store copied s c went.On
+    turning-ends h =
+        let within = now .within in
         let all : i ≡ length roles = omega arith in
-        round-done (now .sizes) s c (rw all at (now .copying))
+        round-done A roles seeds store copied (now .sizes) s c (rw all at (now .copying))

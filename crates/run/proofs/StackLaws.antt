@@ -69,9 +69,3 @@ module _ {X : Type 0} where
               ∙ ap (λ l. zero′ ∷ l) (drop-set-lt (suc height) cells height zero′ (omega arith) ∙ stack .above ∙ ap (λ n. replicate n zero′) less)
               ∙ zeros-cons (length cells - height) (omega arith));
         }
-
-    -- what a run leaves: an empty stack's cells are zeros over their whole length
-    pub empty-is-zeros : (cells : List X) → Stack zero′ 0 cells → cells ≡ replicate (length cells) zero′
-    empty-is-zeros cells stack =
-        let all : length cells - 0 ≡ length cells = omega arith in
-        stack .above ∙ ap (λ n. replicate n zero′) all

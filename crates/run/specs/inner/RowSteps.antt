@@ -40,7 +40,6 @@ use Rattle.run.specs.declared.Acted.{Acted}
 use Rattle.run.specs.declared.Acted.the-variants as acted
 use Rattle.run.specs.declared.Crossed.{Crossed}
 use Rattle.run.specs.declared.Crossed.the-variants as crossed
-use Rattle.run.specs.declared.Ended.{Ended}
 use Rattle.run.specs.declared.Ended.the-variants as ended-as
 use Rattle.run.specs.inner.RunsRows.{Cells, cellsOf, Suits}
 

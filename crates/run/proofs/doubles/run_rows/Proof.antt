@@ -93,13 +93,16 @@ run-less : tie.Need-run-less Inv-loop μ-loop Inv-run μ-run
 run-less c =
     let a : Answered = search in
     block-fewer _ (a .before .before .before .before .before .loop .inv) (a .straight-row .ensures)
-    (a .before .before .before .before .before .before .run .inv) (c .before .before .before .before .before .block-row .ensures) (c .before .next2 .given .1)
+    (a .before .before .before .before .before .before .run .inv) (c .before .before .before .before .before .block-row .ensures)
+    (c .before .next2 .given .1)
 
 run-again : tie.Need-run-again Inv-loop μ-loop Inv-run μ-run
 run-again c =
     let a : Answered = search in
     block-goes _ (a .before .before .before .before .before .loop .inv) (a .straight-row .ensures)
-    (a .before .before .before .before .before .before .run .inv) (c .before .before .before .before .before .block-row .ensures) (c .before .before .before .before .before .before .before .before .before .before .enum-told .given .1) (c .before .next2 .given .1) (search needs)
+    (a .before .before .before .before .before .before .run .inv) (c .before .before .before .before .before .block-row .ensures)
+    (c .before .before .before .before .before .before .before .before .before .before .enum-told .given .1) (c .before .next2 .given .1)
+    (search needs)
 
 enum-known-ended : tie.Need-enum-known-ended Inv-loop μ-loop Inv-run μ-run
 enum-known-ended c = search needs
@@ -156,7 +159,8 @@ returns-3 : tie.Need-returns-3 Inv-loop μ-loop Inv-run μ-run
 returns-3 c =
     let a : Answered = search in
     block-ends _ (a .before .before .before .before .before .loop .inv) (a .straight-row .ensures)
-    (a .before .before .before .before .before .before .run .inv) (c .before .before .before .before .before .block-row .ensures) (c .before .before .before .before .before .before .before .before .before .before .enum-told .given .1) (c .before .ended .given .1)
+    (a .before .before .before .before .before .before .run .inv) (c .before .before .before .before .before .block-row .ensures)
+    (c .before .before .before .before .before .before .before .before .before .before .enum-told .given .1) (c .before .ended .given .1)
 
 pub run-rows-spec : {M : Type 1} → statement M
 run-rows-spec =

@@ -3,7 +3,6 @@ use borrow.Author.Needs.{needs}
 use Prim.Native.Nat.{_-_}
 use native.Mathlib.Omega.{arith}
 use lib.ListN.{length}
-use lib.Ieee.{nan}
 use Rattle.number.specs.Doubles.{doubles}
 use Rattle.run.proofs.RoundLaws.{Turning, turning-starts, turning-goes-on, turning-ends, round-refused}
 use Rattle.run.proofs.doubles.turn_round.Statement.{statement}
@@ -16,28 +15,19 @@ abbrev μ-loop : tie.MeasureT-loop
 μ-loop roles seeds vals₀ copied₀ variables i₀ vals copied i = length roles - i
 
 returns : tie.Need-returns Inv-loop μ-loop
-returns c =
-    let args = c .before .before .before .before .before .args in
-    round-refused doubles (args .roles .now) (args .seeds .now) (args .vals .now) (args .copied .now) (λ sizes. omega (arith, sizes .seedsFit))
+returns c = round-refused (λ sizes. omega (arith, sizes .seedsFit))
 
 returns-2 : tie.Need-returns-2 Inv-loop μ-loop
-returns-2 c =
-    let args = c .before .before .before .before .before .before .args in
-    round-refused doubles (args .roles .now) (args .seeds .now) (args .vals .now) (args .copied .now) (λ sizes. omega (arith, sizes .copiedFits))
+returns-2 c = round-refused (λ sizes. omega (arith, sizes .copiedFits))
 
 add-if3 : tie.Need-add-if3 Inv-loop μ-loop
 add-if3 c = omega arith
 
 returns-3 : tie.Need-returns-3 Inv-loop μ-loop
-returns-3 c =
-    let args = c .before .before .before .before .before .before .before .args in
-    round-refused doubles (args .roles .now) (args .seeds .now) (args .vals .now) (args .copied .now) (λ sizes. omega (arith, sizes .storeFits))
+returns-3 c = round-refused (λ sizes. omega (arith, sizes .storeFits))
 
 loop-holds : tie.Need-loop-holds Inv-loop μ-loop
-loop-holds c =
-    let args = c .before .before .before .before .before .before .before .args in
-    turning-starts doubles (args .roles .now) (args .seeds .now) (args .vals .now) (args .copied .now)
-    (record { seedsFit = omega arith; storeFits = omega arith; copiedFits = omega arith })
+loop-holds c = turning-starts (record { seedsFit = omega arith; storeFits = omega arith; copiedFits = omega arith })
 
 mul-copied : tie.Need-mul-copied Inv-loop μ-loop
 mul-copied c = omega arith
@@ -82,13 +72,7 @@ loop-less : tie.Need-loop-less Inv-loop μ-loop
 loop-less c = omega arith
 
 loop-again : tie.Need-loop-again Inv-loop μ-loop
-loop-again c =
-    let args = c .before .before .before .before .before .before .before .before .before .before .before .before .before .args in
-    let loop = c .before .before .before .before .before .loop in
-    turning-goes-on doubles (args .roles .now) (args .seeds .now) (args .vals .now) (args .copied .now) (loop .i) (loop .vals) (loop .copied) nan (c .seed-or-zero .result)
-    (c .before .before .before .before .loop-test .taken)
-    (c .seed-or-zero .ensures)
-    (loop .inv)
+loop-again c = turning-goes-on (c .before .before .before .before .before .loop .inv) _ (omega arith) (c .seed-or-zero .ensures)
 
 same-length : tie.Need-same-length Inv-loop μ-loop
 same-length c = omega arith
@@ -97,10 +81,7 @@ same-length-2 : tie.Need-same-length-2 Inv-loop μ-loop
 same-length-2 c = omega arith
 
 returns-4 : tie.Need-returns-4 Inv-loop μ-loop
-returns-4 c =
-    let args = c .before .before .before .before .before .before .before .before .before .args in
-    let loop = c .before .loop in
-    turning-ends doubles (args .roles .now) (args .seeds .now) (args .vals .now) (args .copied .now) (loop .i) (loop .vals) (loop .copied) (c .loop-test .left) (loop .inv)
+returns-4 c = turning-ends (c .before .loop .inv) (c .loop-test .left)
 
 pub turn-round-spec : {M : Type 1} → statement M
 turn-round-spec =

@@ -69,7 +69,9 @@ same-length-2 : tie.Need-same-length-2
 same-length-2 c = search needs
 
 returns : tie.Need-returns
-returns c = saved (c .before .before .before .before .before .before .before .what .given .1) (c .values-to .ensures) (c .before .before .before .save .ensures)
+returns c =
+    saved (c .before .before .before .before .before .before .before .what .given .1) (c .values-to .ensures)
+    (c .before .before .before .save .ensures)
 
 same-length-3 : tie.Need-same-length-3
 same-length-3 c = search needs
@@ -87,13 +89,16 @@ same-length-5 c = search needs
 
 returns-3 : tie.Need-returns-3
 returns-3 c =
-    turn-saved (c .before .before .before .before .before .before .what3 .given .1) (c .turns-to .ensures) (c .before .before .before .save-turn .ensures .residues)
+    turn-saved (c .before .before .before .before .before .before .what3 .given .1) (c .turns-to .ensures)
+    (c .before .before .before .save-turn .ensures .residues)
 
 same-length-6 : tie.Need-same-length-6
 same-length-6 c = search needs
 
 returns-4 : tie.Need-returns-4
-returns-4 c = cleared (c .before .before .before .before .before .before .what4 .given .1) (c .went-to .ensures) (c .before .before .before .clear .ensures)
+returns-4 c =
+    cleared (c .before .before .before .before .before .before .what4 .given .1) (c .went-to .ensures)
+    (c .before .before .before .clear .ensures)
 
 same-length-7 : tie.Need-same-length-7
 same-length-7 c = search needs
@@ -112,7 +117,8 @@ same-length-9 c = search needs
 returns-6 : tie.Need-returns-6
 returns-6 c =
     let done = c .before .before .before in
-    assigned-residue (done .assign .result) (done .before .before .before .before .before .what5 .given .1) (c .went-to3 .ensures) (done .before .evaluate .ensures)
+    assigned-residue (done .assign .result) (done .before .before .before .before .before .what5 .given .1)
+    (c .went-to3 .ensures) (done .before .evaluate .ensures)
     (done .assign .ensures)
 
 pub act-spec : {M : Type 1} → statement M

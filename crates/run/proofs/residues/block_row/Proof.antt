@@ -31,14 +31,17 @@ returns c = block-leaves (c .before .before .before .block-at .ensures) (c .befo
 
 returns-2 : tie.Need-returns-2
 returns-2 c =
-    block-compares (c .before .before .before .before .before .block-at .ensures) (c .before .before .before .a .given .1) (c .before .test .ensures) (c .branch-to .ensures)
+    block-compares (c .before .before .before .before .before .block-at .ensures)
+    (c .before .before .before .a .given .1)
+    (c .before .test .ensures) (c .branch-to .ensures)
 
 same-length : tie.Need-same-length
 same-length c = search needs
 
 returns-3 : tie.Need-returns-3
 returns-3 c =
-    block-crosses (c .before .before .before .before .before .before .before .before .before .block-at .ensures) (c .before .before .before .before .before .before .before .row .given .1)
+    block-crosses (c .before .before .before .before .before .before .before .before .before .block-at .ensures)
+    (c .before .before .before .before .before .before .before .row .given .1)
     (c .before .before .cross .ensures .residues)
 
 pub block-row-spec : {M : Type 1} → statement M

@@ -33,7 +33,9 @@ cast-b c = search needs
 
 returns-3 : tie.Need-returns-3
 returns-3 c =
-    meets-compare (c .before .before .before .before .before .row-words .ensures) (omega arith) (omega arith) (c .before .before .before .before .following .ensures) (c .before .before .if3 .taken)
+    meets-compare (c .before .before .before .before .before .row-words .ensures) (omega arith) (omega arith)
+    (c .before .before .before .before .following .ensures)
+    (c .before .before .if3 .taken)
 
 returns-4 : tie.Need-returns-4
 returns-4 c = (meets-row (c .before .before .before .row-words .ensures) (omega arith) (omega arith) (c .before .before .following .ensures), c .if3 .left)

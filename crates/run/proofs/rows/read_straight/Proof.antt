@@ -41,7 +41,13 @@ right-side-requires c κs = search needs
 returns-6 : tie.Need-returns-6
 unfolding actionOf
 returns-6 c =
-    rw (ne-eqb _ _ (c .before .before .before .before .before .if1 .left), ne-eqb _ _ (c .before .before .before .before .if2 .left), ne-eqb _ _ (c .before .before .before .if3 .left), ne-eqb _ _ (c .before .before .if4 .left), ne-eqb _ _ (c .before .if5 .left))
+    rw (
+      ne-eqb _ _ (c .before .before .before .before .before .if1 .left),
+      ne-eqb _ _ (c .before .before .before .before .if2 .left),
+      ne-eqb _ _ (c .before .before .before .if3 .left),
+      ne-eqb _ _ (c .before .before .if4 .left),
+      ne-eqb _ _ (c .before .if5 .left),
+    )
     (ap (assignmentOf _) (c .right-side .ensures))
 
 pub read-straight-spec : {M : Type 1} → statement M

@@ -37,7 +37,8 @@ following-requires c κs = search needs
 returns-4 : tie.Need-returns-4
 returns-4 c =
     finds-row (c .before .before .before .before .before .row-words .ensures)
-    (sym (c .before .before .before .before .is-of-block .ensures) ∙ c .before .before .before .if2 .left) (omega arith) (omega arith) (c .before .read-straight .ensures)
+    (sym (c .before .before .before .before .is-of-block .ensures) ∙ c .before .before .before .if2 .left) (omega arith) (omega arith)
+    (c .before .read-straight .ensures)
     (c .following .ensures)
 
 pub straight-at-spec : {M : Type 1} → statement M
