@@ -1,4 +1,5 @@
--- What inner functions are handed and answer. No public contract and no claim cites it, so nothing rests on its being right.
+-- What inner functions and the calls between the layers are handed and answer. No contract of a call that is made from outside, and no claim,
+-- cites it, so nothing rests on its being right.
 pub mod CallSteps
 pub mod RowAnswers
 pub mod Buffers

@@ -1,3 +1,4 @@
--- What the inner functions answer. No promise of the crate rests on its being right: a public contract cites none of it.
+-- What inner functions and the calls between the layers are handed and answer. No contract of a call that is made from outside, and no claim,
+-- cites it, so nothing rests on its being right.
 pub mod Steps
 pub mod RowLines

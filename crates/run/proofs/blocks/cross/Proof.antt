@@ -2,7 +2,6 @@
 use borrow.Author.Needs.{needs}
 use Rattle.run.proofs.RowLaws.{in-both, in-both-by}
 use Rattle.run.proofs.CrossLaws.{else-crosses, end-if-crosses, repeat-crosses, end-repeat-crosses, on-turn-crosses, never-crosses}
-use borrow.Author.Needs.{needs}
 use Rattle.run.proofs.blocks.cross.Statement.{statement}
 use Rattle.run.proofs.blocks.cross.Tie as tie
 

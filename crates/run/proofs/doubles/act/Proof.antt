@@ -1,7 +1,6 @@
 -- `run::doubles::act` meets its contract: one law for each kind of row.
 use borrow.Author.Needs.{needs}
 use Rattle.run.proofs.StraightLaws.{saved, taken-back, turn-saved, cleared, turned-round, assigned-double}
-use borrow.Author.Needs.{needs}
 use Rattle.run.proofs.doubles.act.Statement.{statement}
 use Rattle.run.proofs.doubles.act.Tie as tie
 

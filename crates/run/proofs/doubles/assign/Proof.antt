@@ -1,7 +1,6 @@
 -- `run::doubles::assign` meets its contract.
 use borrow.Author.Needs.{needs}
 use Rattle.run.proofs.RowLaws.{assign-goes, assign-stops, assign-sticks, assign-nowhere}
-use borrow.Author.Needs.{needs}
 use Rattle.run.proofs.doubles.assign.Statement.{statement}
 use Rattle.run.proofs.doubles.assign.Tie as tie
 

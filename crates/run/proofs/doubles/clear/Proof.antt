@@ -1,7 +1,6 @@
 -- `run::doubles::clear` meets its contract.
 use borrow.Author.Needs.{needs}
 use Rattle.run.proofs.RowLaws.{clear-goes, clear-nowhere}
-use borrow.Author.Needs.{needs}
 use Rattle.run.proofs.doubles.clear.Statement.{statement}
 use Rattle.run.proofs.doubles.clear.Tie as tie
 

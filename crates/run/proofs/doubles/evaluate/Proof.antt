@@ -1,6 +1,5 @@
 -- `run::doubles::evaluate` meets its contract: a right side for each kind.
 use borrow.Author.Needs.{needs}
-use borrow.Author.Needs.{needs}
 use Rattle.run.proofs.doubles.evaluate.Statement.{statement}
 use Rattle.run.proofs.doubles.evaluate.Tie as tie
 

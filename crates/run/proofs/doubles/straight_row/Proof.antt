@@ -1,7 +1,6 @@
 -- `run::doubles::straight_row` meets its contract.
 use borrow.Author.Needs.{needs}
 use Rattle.run.proofs.StraightLaws.{straight-acts, straight-none, straight-spent}
-use borrow.Author.Needs.{needs}
 use Rattle.run.proofs.doubles.straight_row.Statement.{statement}
 use Rattle.run.proofs.doubles.straight_row.Tie as tie
 

@@ -2,7 +2,6 @@
 use native.Mathlib.Omega.{arith}
 use borrow.Author.Needs.{needs}
 use Rattle.run.proofs.RowLaws.{take-back-goes, take-back-nowhere, take-back-empty, take-back-above}
-use borrow.Author.Needs.{needs}
 use Rattle.run.proofs.doubles.take_back.Statement.{statement}
 use Rattle.run.proofs.doubles.take_back.Tie as tie
 

@@ -1,7 +1,6 @@
 -- `run::residues::act` meets its contract: one law for each kind of row.
 use borrow.Author.Needs.{needs}
 use Rattle.run.proofs.StraightLaws.{saved, taken-back, turn-saved, cleared, turned-round, assigned-residue}
-use borrow.Author.Needs.{needs}
 use Rattle.run.proofs.residues.act.Statement.{statement}
 use Rattle.run.proofs.residues.act.Tie as tie
 

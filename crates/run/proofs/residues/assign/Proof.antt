@@ -1,7 +1,6 @@
 -- `run::residues::assign` meets its contract.
 use borrow.Author.Needs.{needs}
 use Rattle.run.proofs.RowLaws.{assign-goes, assign-sticks, assign-nowhere}
-use borrow.Author.Needs.{needs}
 use Rattle.run.proofs.residues.assign.Statement.{statement}
 use Rattle.run.proofs.residues.assign.Tie as tie
 

@@ -1,7 +1,6 @@
 -- `run::residues::block_row` meets its contract.
 use borrow.Author.Needs.{needs}
 use Rattle.run.proofs.CrossLaws.{block-leaves, block-compares, block-crosses}
-use borrow.Author.Needs.{needs}
 use Rattle.run.proofs.residues.block_row.Statement.{statement}
 use Rattle.run.proofs.residues.block_row.Tie as tie
 

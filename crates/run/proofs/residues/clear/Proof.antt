@@ -2,7 +2,6 @@
 use mathlib.Core.Path.{refl}
 use borrow.Author.Needs.{needs}
 use Rattle.run.proofs.RowLaws.{clear-goes, clear-nowhere}
-use borrow.Author.Needs.{needs}
 use Rattle.run.proofs.residues.clear.Statement.{statement}
 use Rattle.run.proofs.residues.clear.Tie as tie
 

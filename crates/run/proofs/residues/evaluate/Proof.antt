@@ -1,6 +1,5 @@
 -- `run::residues::evaluate` meets its contract: a right side for each kind.
 use borrow.Author.Needs.{needs}
-use borrow.Author.Needs.{needs}
 use Rattle.run.proofs.residues.evaluate.Statement.{statement}
 use Rattle.run.proofs.residues.evaluate.Tie as tie
 

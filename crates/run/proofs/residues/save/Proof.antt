@@ -1,7 +1,6 @@
 -- `run::residues::save` meets its contract.
 use borrow.Author.Needs.{needs}
 use Rattle.run.proofs.RowLaws.{save-goes, save-nowhere, save-full}
-use borrow.Author.Needs.{needs}
 use Rattle.run.proofs.residues.save.Statement.{statement}
 use Rattle.run.proofs.residues.save.Tie as tie
 

@@ -1,7 +1,6 @@
 -- `run::residues::straight_row` meets its contract.
 use borrow.Author.Needs.{needs}
 use Rattle.run.proofs.StraightLaws.{straight-acts, straight-none, straight-spent}
-use borrow.Author.Needs.{needs}
 use Rattle.run.proofs.residues.straight_row.Statement.{statement}
 use Rattle.run.proofs.residues.straight_row.Tie as tie
 

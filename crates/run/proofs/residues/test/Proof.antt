@@ -2,7 +2,6 @@
 use mathlib.Core.Path.{sym, _∙_}
 use borrow.Author.Needs.{needs}
 use Rattle.run.proofs.RowLaws.{compare-first, compare-second, compare-first-missing, compare-second-missing}
-use borrow.Author.Needs.{needs}
 use Rattle.run.proofs.residues.test.Statement.{statement}
 use Rattle.run.proofs.residues.test.Tie as tie
 

@@ -2,8 +2,6 @@
 use native.Mathlib.Omega.{arith}
 use borrow.Author.Needs.{needs}
 use Rattle.run.proofs.CrossLaws.{meets-row, meets-compare}
-use borrow.Author.Needs.{needs}
-use Rattle.run.proofs.CrossLaws.{meets-row, meets-compare}
 use Rattle.run.proofs.rows.block_at.Statement.{statement}
 use Rattle.run.proofs.rows.block_at.Tie as tie
 

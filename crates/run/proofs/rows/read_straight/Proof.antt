@@ -5,7 +5,6 @@ use borrow.Author.Tests.{ne-eqb}
 use borrow.Author.Needs.{needs}
 use Rattle.table.specs.TableRows.{saveTurn}
 use Rattle.run.specs.inner.RowWords.{assignmentOf, actionOf}
-use borrow.Author.Needs.{needs}
 use Rattle.run.proofs.rows.read_straight.Statement.{statement}
 use Rattle.run.proofs.rows.read_straight.Tie as tie
 

@@ -2,7 +2,6 @@
 use borrow.Author.Tests.{ne-eqb}
 use borrow.Author.Needs.{needs}
 use Rattle.run.specs.inner.RowWords.{sourceOf}
-use borrow.Author.Needs.{needs}
 use Rattle.run.proofs.rows.right_side.Statement.{statement}
 use Rattle.run.proofs.rows.right_side.Tie as tie
 

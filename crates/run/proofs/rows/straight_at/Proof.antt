@@ -3,7 +3,6 @@ use mathlib.Core.Path.{sym, _∙_}
 use native.Mathlib.Omega.{arith}
 use borrow.Author.Needs.{needs}
 use Rattle.run.proofs.StraightLaws.{finds-over, finds-block, finds-row}
-use borrow.Author.Needs.{needs}
 use Rattle.run.proofs.rows.straight_at.Statement.{statement}
 use Rattle.run.proofs.rows.straight_at.Tie as tie
 

@@ -1,7 +1,6 @@
 -- `run::turns::save_turn` meets its contract, in either arithmetic.
 use borrow.Author.Needs.{needs}
 use Rattle.run.proofs.RowLaws.{in-both, save-turn-goes, save-turn-full}
-use borrow.Author.Needs.{needs}
 use Rattle.run.proofs.turns.save_turn.Statement.{statement}
 use Rattle.run.proofs.turns.save_turn.Tie as tie
 

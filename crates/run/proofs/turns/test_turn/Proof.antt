@@ -3,7 +3,6 @@ use mathlib.Core.Path.{sym, _∙_}
 use native.Mathlib.Omega.{arith}
 use borrow.Author.Needs.{needs}
 use Rattle.run.proofs.RowLaws.{in-both, take-turn-first, take-turn-second, take-turn-above, take-turn-empty}
-use borrow.Author.Needs.{needs}
 use Rattle.run.proofs.turns.test_turn.Statement.{statement}
 use Rattle.run.proofs.turns.test_turn.Tie as tie
 
