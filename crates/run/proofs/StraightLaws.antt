@@ -16,6 +16,8 @@ use Rattle.sheet.specs.Bounds.{limit}
 use Rattle.sheet.specs.Tree.{basic}
 use Rattle.sheet.specs.Rows.{Source, _≔_, Row, rowOf}
 use Rattle.sheet.specs.Reading.{rowAt}
+use Rattle.sheet.specs.Answers.{rowSaid}
+use Rattle.sheet.specs.declared.RowWords.{RowWords}
 use Rattle.sheet.specs.declared.Variable.{Variable}
 use Rattle.table.specs.TableRows.{Action, assign, save, takeBack, saveTurn, clear, turnRound, TableLine, TableRow, rowOfAction, tableRowOf}
 use Rattle.run.specs.Attempts.{Attempt, through, halted, stuck}
@@ -88,12 +90,11 @@ module _ {table : List ℕ} {rows : ℕ} {place : Place} where
               true-apart (sym block ∙ ap (λ (r : Row). isOfBlock (r .kind)) (sym words) ∙ straight-kind (line .action));
         }
 
-    pub finds-row : {what : Straight} {next : Place} {left : ℕ} → isOfBlock (row .kind) ≡ false → place .at < rows → place .left ≡ suc left
-        → actionSaid what ≡ actionOf row
+    pub finds-row : {next : Place} {left : ℕ} → isOfBlock (row .kind) ≡ false → place .at < rows → place .left ≡ suc left
         → next ≡ following place (place .at + 1) left
-        → FindsRow table rows place what next
+        → FindsRow table rows place row next
     unfolding tableRowOf rowOf
-    finds-row {left = left} straight within spends reads follows =
+    finds-row {left = left} straight within spends follows =
         record {
           follows = record { left = left; is = follows; spends = spends };
           stands = λ lines holds count.
@@ -105,7 +106,7 @@ module _ {table : List ℕ} {rows : ℕ} {place : Place} where
                 row = is-basic .0;
                 rest = there .rest;
                 is = there .is ∙ ap (λ (l : TableLine). l ∷ there .rest) (is-basic .1);
-                said = reads ∙ ap actionOf (sym same) ∙ action-said (is-basic .0 .action);
+                said = ap actionOf (sym same) ∙ action-said (is-basic .0 .action);
               };
         }
 
@@ -308,10 +309,13 @@ module _ {A : Arithmetic} where
               record { held = former; says = inl none-left; copies = inl (refl, refl) };
         }
 
-    pub straight-acts : {before after : Cells A} {answer : Acted} {what : Straight} {to : Place} → Finds table rows place found → found ≡ found-as.Row what to
+    pub straight-acts : {before after : Cells A} {answer : Acted} {words : RowWords} {what : Straight} {to : Place}
+        → Finds table rows place found
+        → found ≡ found-as.Row words to
+        → actionSaid what ≡ actionOf (rowSaid words)
         → ActsBy A what roles constants seeds to before after answer
         → StraightRow A table rows roles constants seeds place before after answer
-    straight-acts {before} {after} {answer} finds is acts =
+    straight-acts {before} {after} {answer} finds is reads acts =
         let there = rw is at finds in
         let left = there .follows .left in
         let spends = there .follows .spends in
@@ -320,7 +324,7 @@ module _ {A : Arithmetic} where
           left = rw spends (does .left);
           steps = λ setting lines repeats former holds count suits sizes sound.
               let line = there .stands lines holds count in
-              let done = does .acts setting (line .row .action) former (line .said) suits sizes sound in
+              let done = does .acts setting (line .row .action) former (reads ∙ line .said) suits sizes sound in
               record {
                 held = done .held;
                 says =

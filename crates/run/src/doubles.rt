@@ -32,6 +32,7 @@ use super::places::turns_to;
 use super::places::values_to;
 use super::places::went_to;
 use super::rows::block_at;
+use super::rows::read_straight;
 use super::rows::straight_at;
 use super::turns::save_turn;
 use number::Outcome;
@@ -316,8 +317,8 @@ fn straight_row(
         (cellsOf doubles (now (vals .exit)) (now (values .exit)) (now (turns .exit)) (now (copied .exit))) r ⌝ }
 {
     match straight_at(table, rows, place) {
-        Found::Row(what, next) => act(
-            what,
+        Found::Row(row, next) => act(
+            read_straight(row),
             roles,
             constants,
             seeds,

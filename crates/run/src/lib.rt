@@ -130,9 +130,9 @@ struct Place {
     pub left: usize,
 }
 
-// What the inner loop finds at a place: a straight row with the place after it, the row of a block or none, or no step left for a straight row.
+// What the inner loop finds at a place: a straight row's words with the place after it, the row of a block or none, or no step left for a straight row.
 enum Found {
-    Row(Straight, Place),
+    Row(RowWords, Place),
     Block,
     Spent,
 }

@@ -46,8 +46,8 @@ fn right_side(row: RowWords) -> RightSide
     RightSide::None
 }
 
-// Kinds 1 to 6, 12 to 14, 16 and 17.
-fn read_straight(row: RowWords) -> Straight
+// Kinds 1 to 6, 12 to 14, 16 and 17. Called where the row is acted on, so that reading and acting compile to one choice by the kind.
+pub fn read_straight(row: RowWords) -> Straight
     ensures { λ r. ⌜ actionSaid r ≡ actionOf (rowSaid row) ⌝ }
 {
     let kind = row.kind;
@@ -86,7 +86,7 @@ pub fn straight_at(table: &[u16], rows: usize, place: Place) -> Found
     if left == 0 {
         return Found::Spent;
     }
-    Found::Row(read_straight(row), following(place, at + 1, left - 1))
+    Found::Row(row, following(place, at + 1, left - 1))
 }
 
 // The row of a block at a place, or the end.

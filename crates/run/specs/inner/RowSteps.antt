@@ -18,7 +18,7 @@ use Rattle.run.specs.Attempts.{Attempt, through, halted, stuck}
 use Rattle.run.specs.Actions.{Setting, Try}
 use Rattle.run.specs.Machine.{Repeat, State, Step, goesOn, ended, stops, sticks, stepAt, step}
 use Rattle.run.specs.inner.Buffers.{Buffers, memoryOf, Sound, Does, RoundSizes}
-use Rattle.run.specs.inner.RowWords.{actionSaid}
+use Rattle.run.specs.inner.RowWords.{actionOf, actionSaid}
 use Rattle.run.specs.inner.Runnable.{Holds, Jumps}
 use Rattle.run.specs.declared.Straight.{Straight}
 use Rattle.run.specs.declared.Found.{Found}
@@ -136,22 +136,22 @@ pub record Follows (place next : Place) : Type 0 where
   pub is : next ≡ following place (place .at + 1) left
   pub spends : place .left ≡ suc left
 
--- a straight row stands there, and this is what it does
-pub record StandsStraight (lines : List TableLine) (at : ℕ) (what : Straight) : Type 0 where
+-- a straight row stands there, and its words say what it does
+pub record StandsStraight (lines : List TableLine) (at : ℕ) (words : Row) : Type 0 where
   pub row : TableRow
   pub rest : List TableLine
   pub is : drop at lines ≡ basic row ∷ rest
-  pub said : actionSaid what ≡ some (row .action)
+  pub said : actionOf words ≡ some (row .action)
 
-pub record FindsRow (table : List ℕ) (rows : ℕ) (place : Place) (what : Straight) (next : Place) : Type 0 where
+pub record FindsRow (table : List ℕ) (rows : ℕ) (place : Place) (words : Row) (next : Place) : Type 0 where
   pub follows : Follows place next
-  pub stands : (lines : List TableLine) → Holds table lines → length lines ≡ rows → StandsStraight lines (place .at) what
+  pub stands : (lines : List TableLine) → Holds table lines → length lines ≡ rows → StandsStraight lines (place .at) words
 
 pub record FindsNone (table : List ℕ) (rows : ℕ) (place : Place) : Type 0 where
   pub none : (lines : List TableLine) → Holds table lines → length lines ≡ rows → NoneStraight (place .at) lines
 
 abbrev pub Finds : (table : List ℕ) → (rows : ℕ) → Place → Found → Type 0
-Finds table rows place (found-as.Row what next) = FindsRow table rows place what next
+Finds table rows place (found-as.Row words next) = FindsRow table rows place (rowSaid words) next
 Finds table rows place found-as.Block = FindsNone table rows place
 Finds table rows place found-as.Spent = place .left ≡ 0
 

@@ -7,8 +7,11 @@ use Rattle.run.proofs.residues.straight_row.Tie as tie
 straight-at-requires : tie.Need-straight-at-requires
 straight-at-requires c κs = search needs
 
-enum-known-what : tie.Need-enum-known-what
-enum-known-what c = search needs
+enum-known-row : tie.Need-enum-known-row
+enum-known-row c = search needs
+
+read-straight-requires : tie.Need-read-straight-requires
+read-straight-requires c κs = search needs
 
 act-requires : tie.Need-act-requires
 act-requires c κs = search needs
@@ -34,8 +37,8 @@ same-length-4 c = search needs
 returns : tie.Need-returns
 returns c =
     let done = c .before .before .before .before .before .before .before .before in
-    straight-acts (done .before .before .before .before .before .before .before .before .straight-at .ensures)
-    (done .before .before .before .before .before .before .what .given .1)
+    let read = done .before .before .before .before .before in
+    straight-acts (read .before .before .before .before .straight-at .ensures) (read .before .before .row .given .1) (read .read-straight .ensures)
     (done .act .ensures)
 
 returns-2 : tie.Need-returns-2
@@ -49,7 +52,8 @@ straight-row-spec =
     tie.close
     (tie.spec
     straight-at-requires
-    enum-known-what
+    enum-known-row
+    read-straight-requires
     act-requires
     enum-told
     enum-told-2

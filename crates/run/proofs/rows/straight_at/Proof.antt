@@ -21,9 +21,6 @@ returns-2 c = finds-block (c .before .before .row-words .ensures) (sym (c .befor
 returns-3 : tie.Need-returns-3
 returns-3 c = search needs
 
-read-straight-requires : tie.Need-read-straight-requires
-read-straight-requires c κs = search needs
-
 add-following : tie.Need-add-following
 add-following c = search needs
 
@@ -35,9 +32,8 @@ following-requires c κs = search needs
 
 returns-4 : tie.Need-returns-4
 returns-4 c =
-    finds-row (c .before .before .before .before .before .row-words .ensures)
-    (sym (c .before .before .before .before .is-of-block .ensures) ∙ c .before .before .before .if2 .left) (omega arith) (omega arith)
-    (c .before .read-straight .ensures)
+    finds-row (c .before .before .before .before .row-words .ensures)
+    (sym (c .before .before .before .is-of-block .ensures) ∙ c .before .before .if2 .left) (omega arith) (omega arith)
     (c .following .ensures)
 
 pub straight-at-spec : {M : Type 1} → statement M
@@ -49,7 +45,6 @@ straight-at-spec =
     is-of-block-requires
     returns-2
     returns-3
-    read-straight-requires
     add-following
     sub-following
     following-requires
