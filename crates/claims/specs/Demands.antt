@@ -62,16 +62,19 @@ pub record AuditSolves (sheet : Sheet) (starts seeds : List ℕ) (ran : Ran resi
   pub adjoints : (bar : Instance → ℕ) → EquationTwo (sheet .roles) seeds (progress .trace) bar → (x : ℕ) → x < variablesOf sheet
       → getD (drop (variablesOf sheet) (ran .lent .result)) x 0 ≡ cond (isIndependent (getD (sheet .roles) x 0)) (bar (valueNo x 0)) 0
 
--- "A stop is .. reported in the rows of the real table": the row reported stands in the table, has the stop's origin, and is the one whose
--- operation the arithmetic refused
-pub record StoppedThere (A : Arithmetic) (setting : Setting A) (lines : List TableLine) (row : RowNumber) (origin : Origin) (why : A .Why)
-    : Type 0 where
+-- "A stop is .. reported in the rows of the real table": the machine came to the row reported, which has the stop's origin, and the arithmetic
+-- refused its operation there
+pub record StoppedThere (A : Arithmetic) (setting : Setting A) (lines : List TableLine) (start : State A)
+    (row : RowNumber) (origin : Origin) (why : A .Why) : Type 0 where
+  pub steps : ℕ
+  pub state : State A
+  pub reached : stateAfter A steps setting lines start ≡ goesOn state
+  pub atRow : state .at ≡ row .index
   pub line : TableRow
   pub rest : List TableLine
   pub there : drop (row .index) lines ≡ basic line ∷ rest
   pub comesFrom : line .origin ≡ origin
-  pub memory : Memory A
-  pub refuses : acted A setting (line .action) memory ≡ halted why
+  pub refuses : acted A setting (line .action) (state .memory) ≡ halted why
 
 module _ (A : Arithmetic) (sheet : Sheet) (starts seeds : List (A .Carrier)) where
   -- stacks of at least the sizes that the all-saved table needs
@@ -96,7 +99,8 @@ module _ (A : Arithmetic) (sheet : Sheet) (starts seeds : List (A .Carrier)) whe
   pub data AnswersLike (before : Lent A) (ran : Ran A) : (allSaved : Ending A) → Type 0 where
     sameResult : {memory : Memory A} → ran .number ≡ 0 → ran .lent .result ≡ resultOf A sheet memory → AnswersLike before ran (finished memory)
     sameStop : {other : RowNumber} {origin : Origin} {why : A .Why} (row : RowNumber) → ran .number ≡ 12 → ran .place ≡ row .index
-        → StoppedThere A (settingOf A sheet seeds (length (before .values)) (length (before .turns))) (linesOf (tableOf sheet)) row origin why
+        → StoppedThere A (settingOf A sheet seeds (length (before .values)) (length (before .turns))) (linesOf (tableOf sheet)) (startOf A sheet starts)
+        row origin why
         → AnswersLike before ran (stoppedAt other origin why)
 
 -- of an accepted sheet, whatever the calls answer within their contracts
