@@ -27,6 +27,8 @@ saturated-product a m b = by (decLe b (suc (limit .longestRun)))
     above : (n : ℕ) → n ≤ suc m * n
     above n = omega (arith, suc-mul m n)
 
-    by : Dec (b ≤ 4097) → min (a + (1 + suc m * (1 + min b 4097))) 4097 ≡ min (a + (1 + suc m * (1 + b))) 4097
+    by : Dec (b ≤ suc (limit .longestRun)) → saturated (a + (1 + suc m * (1 + saturated b))) ≡ saturated (a + (1 + suc m * (1 + b)))
     by (yes h) = rw (min-eq-left h)
-    by (no h) = let beyond : 4097 ≤ b = omega arith in rw (min-eq-right beyond) (omega (arith, above 4098, above (1 + b)))
+    by (no h) =
+        let beyond : suc (limit .longestRun) ≤ b = omega arith in
+        rw (min-eq-right beyond) (omega (arith, above (suc (suc (limit .longestRun))), above (1 + b)))
