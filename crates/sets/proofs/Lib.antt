@@ -21,3 +21,4 @@ pub mod EquationsAlong
 pub mod SetsLeast
 pub mod MarksListed
 pub mod SheetMarked
+pub mod CallLaws

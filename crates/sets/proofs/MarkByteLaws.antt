@@ -5,8 +5,8 @@ use native.Mathlib.Numerals.{add-one}
 use native.Mathlib.Decide.{ℕ-discrete}
 use mathlib.Core.Path.{_≡_, refl, sym, ap, _∙_}
 use mathlib.Core.Bool.{Bool, true, false, cond}
-use mathlib.Core.List.{List}
-use lib.ListN.{length, getD, set, length-set}
+use mathlib.Core.List.{List, [], _∷_, _++_}
+use lib.ListN.{length, getD, set, take, drop, length-set}
 use lib.Dec.{eqb}
 use lib.Seq.{getD-set-same, getD-set-other, set-comm, set-set}
 use Rattle.sheet.specs.Tree.{basic, ifLine, elseLine, endIf, repeat, endRepeat}
@@ -16,7 +16,8 @@ use Rattle.sets.specs.Equations.{setAt}
 use Rattle.sets.specs.inner.RowWords.{Gives}
 use Rattle.sets.specs.Transfers.{Activity}
 use Rattle.sets.specs.Marks.{markBy}
-use Rattle.sets.specs.inner.MarkBytes.{weight, weightIf, byteBy, bitOf, byteAt, byteFor, written}
+use Rattle.sets.specs.MarkBytes.{weight, weightIf, byteBy, bitOf}
+use Rattle.sets.specs.inner.RowBytes.{byteAt, byteFor, written}
 use Rattle.sets.proofs.LinesByKind.{assignment-kind, ByKind, assigns, inBlock, by-kind}
 
 -- ---- the marks read back
@@ -113,3 +114,17 @@ pub written-same : (f g : ℕ → ℕ) (n : ℕ) (xs : List ℕ) → ((i : ℕ) 
 unfolding written
 written-same f g zero xs h = refl
 written-same f g (suc n) xs h = cc (written-same f g n xs (λ i l. h i (omega arith)), h n (omega arith))
+
+-- a list's own numbers, written over the start of another
+store-next : (n : ℕ) (bs xs : List ℕ) → n < length bs → n < length xs
+    → set (take n bs ++ drop n xs) n (getD bs n 0) ≡ take (suc n) bs ++ drop (suc n) xs
+store-next n [] xs h l = absurd (omega arith)
+store-next n (b ∷ bs) [] h l = absurd (omega arith)
+store-next zero (b ∷ bs) (x ∷ xs) h l = refl
+store-next (suc n) (b ∷ bs) (x ∷ xs) h l = ap (λ ys. b ∷ ys) (store-next n bs xs (omega arith) (omega arith))
+
+pub written-first : (bs : List ℕ) (n : ℕ) (xs : List ℕ) → n ≤ length bs → n ≤ length xs → written (λ p. getD bs p 0) n xs ≡ take n bs ++ drop n xs
+unfolding written
+written-first bs zero xs h l = refl
+written-first bs (suc n) xs h l =
+    ap (λ ys. set ys n (getD bs n 0)) (written-first bs n xs (omega arith) (omega arith)) ∙ store-next n bs xs (omega arith) (omega arith)

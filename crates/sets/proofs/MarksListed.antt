@@ -1,7 +1,7 @@
 -- The sheet's marks, row by row, are the bytes of its lines.
 use Prim.Native.Nat.{ℕ, zero, suc, _+_, _<_}
 use native.Mathlib.Omega.{arith}
-use mathlib.Core.Path.{_≡_, refl, ap, subst}
+use mathlib.Core.Path.{_≡_, refl, ap, subst, _∙_}
 use mathlib.Core.List.{List, [], _∷_, map}
 use lib.ListN.{length, getD, length-map}
 use Rattle.sheet.specs.Tree.{Tree, done, one, fork, again, rows, Line, flat, basic, ifLine, elseLine, endIf, repeat, endRepeat}
@@ -10,7 +10,8 @@ use Rattle.sheet.specs.Reading.{Sheet}
 use Rattle.sheet.proofs.RowsCounted.{lines-counted}
 use Rattle.sets.specs.VariableSets.{VariableSet}
 use Rattle.sets.specs.Marks.{Marked, MarkedTest, varied, useful, required, numbered, markBy, marked}
-use Rattle.sets.specs.inner.MarkBytes.{byteOf, byteAt, bytesOf, markBytes}
+use Rattle.sets.specs.MarkBytes.{byteOf, markBytes}
+use Rattle.sets.specs.inner.RowBytes.{byteAt, bytesOf}
 use Rattle.sets.proofs.RowByRow.{LinesAt}
 
 -- a list's numbers are f's from p on
@@ -62,6 +63,12 @@ module _ (line : ℕ → SheetLine) (v u r : List VariableSet) where
             (byte-line end endRepeat (l .2), bytes-from k (suc end) q rest (omega arith) (l .3) h),
       )
 
+pub bytes-counted : (sheet : Sheet) → length (markBytes sheet) ≡ rows (sheet .body)
+unfolding markBytes marked
+bytes-counted sheet =
+    length-map (flat (marked sheet) []) byteOf ∙ lines-counted (marked sheet)
+    ∙ numbered-rows (markBy (varied sheet) (useful sheet) (required sheet)) (sheet .body) 0
+
 pub marks-listed : (sheet : Sheet) (line : ℕ → SheetLine) → LinesAt line (sheet .body) 0 → (p : ℕ) → p < rows (sheet .body)
     → byteAt (varied sheet) (useful sheet) (required sheet) p (line p) ≡ getD (markBytes sheet) p 0
 unfolding markBytes marked
@@ -69,9 +76,8 @@ marks-listed sheet line l p h =
     let v = varied sheet in
     let u = useful sheet in
     let r = required sheet in
-    let mark = markBy v u r in
-    let tree = numbered mark (sheet .body) 0 in
+    let tree = numbered (markBy v u r) (sheet .body) 0 in
     let here : 0 + p ≡ p = omega arith in
     rw here at
     (from-at (bytesOf v u r line) (map byteOf (flat tree [])) 0 p (bytes-from line v u r (sheet .body) 0 _ [] refl l tt)
-    (omega (arith, length-map (flat tree []) byteOf, lines-counted tree, numbered-rows mark (sheet .body) 0)))
+    (omega (arith, bytes-counted sheet)))

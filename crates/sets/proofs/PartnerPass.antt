@@ -7,7 +7,7 @@ use lib.ListN.{length}
 use Rattle.sheet.specs.Bounds.{limit}
 use Rattle.sheet.specs.Rows.{SheetLine, Row, sheetRowOf}
 use Rattle.sheet.specs.Reading.{rowAt}
-use Rattle.sets.specs.inner.Partners.{Found, found, FoundBy, foundAt, foundOver, PartnersFound}
+use Rattle.sets.specs.inner.PartnerPass.{Found, found, FoundBy, foundAt, foundOver, PartnersFound}
 use Rattle.sets.specs.inner.RowEquations.{wordValues, lineIn, Readable}
 
 -- what holds before a row of the pass

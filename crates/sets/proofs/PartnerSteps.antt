@@ -7,7 +7,7 @@ use mathlib.Core.Bool.{Bool, true, false, _||_}
 use mathlib.Core.Logic.{_≢_, _⊎_, inl, inr}
 use lib.ListN.{getD, set}
 use lib.Dec.{eqb, eqb→eq}
-use Rattle.sets.specs.inner.Partners.{found, FoundBy, foundAt}
+use Rattle.sets.specs.inner.PartnerPass.{found, FoundBy, foundAt}
 use Rattle.sets.proofs.Truths.{T-of}
 use Rattle.sets.proofs.LinesByKind.{ByKind, assigns, inBlock, by-kind, if-line, else-line, end-if-line, repeat-line, end-repeat-line}
 

@@ -1,14 +1,15 @@
--- One pass over a tree's lines leaves each of its rows with its partner, and changes nothing outside.
+-- One pass over a tree's lines leaves each of its rows with its partner, and the lists that the definitions give.
 use Prim.Native.Nat.{ℕ, zero, suc, _+_, _≤_, _<_}
 use native.Mathlib.Omega.{arith}
-use mathlib.Core.Path.{_≡_, refl, ap, subst, _∙_}
+use mathlib.Core.Path.{_≡_, refl, sym, ap, subst, _∙_}
 use mathlib.Core.List.{List}
 use mathlib.Core.Logic.{_⊎_, inl, inr}
 use lib.ListN.{length, getD, set, length-set}
-use lib.Seq.{getD-set-same, getD-set-other}
+use lib.Seq.{getD-set-same, getD-set-other, set-comm, set-set}
 use Rattle.sheet.specs.Tree.{Tree, done, one, fork, again, rows, basic, ifLine, elseLine, endIf, repeat, endRepeat}
 use Rattle.sheet.specs.Rows.{Assignment, Test, SheetLine}
-use Rattle.sets.specs.inner.Partners.{CameFrom, GoesTo, Found, foundAt, foundOver}
+use Rattle.sets.specs.Partners.{CameFrom, GoesTo, cameBy, goesBy}
+use Rattle.sets.specs.inner.PartnerPass.{Found, foundAt, foundOver}
 use Rattle.sets.proofs.RowByRow.{LinesAt}
 
 -- ---- lists that differ from place lo up to hi at most
@@ -75,6 +76,46 @@ goes-stays (again m a k) p xs ys s c = (
   goes-stays k _ xs ys (λ i l h. s i (omega arith) (omega arith)) (c .2),
 )
 
+-- ---- a place before a tree's rows may as well be stored after them
+
+goes-past : (around : ℕ) (t : Tree Assignment Test) (p : ℕ) (xs : List ℕ) (i v : ℕ) → i < p
+    → goesBy around t p (set xs i v) ≡ set (goesBy around t p xs) i v
+unfolding goesBy rows
+goes-past around done p xs i v h = refl
+goes-past around (one b k) p xs i v h = goes-past around k (suc p) xs i v (omega arith)
+goes-past around (fork f a b k) p xs i v h =
+    let q = suc p + rows a in
+    let r = suc q + rows b in
+    let first = goesBy p a (suc p) (set xs p q) in
+    let second = goesBy q b (suc q) (set first q r) in
+    let atIf : goesBy p a (suc p) (set (set xs i v) p q) ≡ set first i v =
+    ap (goesBy p a (suc p)) (set-comm xs i p v q (λ e. omega arith)) ∙ goes-past p a (suc p) (set xs p q) i v (omega arith) in
+    let atElse : goesBy q b (suc q) (set (set first i v) q r) ≡ set second i v =
+    ap (goesBy q b (suc q)) (set-comm first i q v r (λ e. omega arith)) ∙ goes-past q b (suc q) (set first q r) i v (omega arith) in
+    ap (λ ys. goesBy around k (suc r) (goesBy q b (suc q) (set ys q r))) atIf ∙ ap (goesBy around k (suc r)) atElse
+    ∙ goes-past around k (suc r) second i v (omega arith)
+goes-past around (again m a k) p xs i v h =
+    let q = suc p + rows a in
+    let first = goesBy p a (suc p) (set xs p around) in
+    let atRepeat : goesBy p a (suc p) (set (set xs i v) p around) ≡ set first i v =
+    ap (goesBy p a (suc p)) (set-comm xs i p v around (λ e. omega arith)) ∙ goes-past p a (suc p) (set xs p around) i v (omega arith) in
+    ap (λ ys. goesBy around k (suc q) (set ys q p)) atRepeat ∙ ap (goesBy around k (suc q)) (set-comm first i q v p (λ e. omega arith))
+    ∙ goes-past around k (suc q) (set first q p) i v (omega arith)
+
+-- so what stood there while its block was open is gone
+goes-over : (around : ℕ) (t : Tree Assignment Test) (p : ℕ) (xs : List ℕ) (i v w : ℕ) → i < p
+    → set (goesBy around t p (set xs i v)) i w ≡ goesBy around t p (set xs i w)
+goes-over around t p xs i v w h = sym (goes-past around t p (set xs i v) i w h) ∙ ap (goesBy around t p) (set-set xs i v w)
+
+goes-closed : (a b : Tree Assignment Test) (p around : ℕ) (xs : List ℕ) → let q = suc p + rows a in let r = suc q + rows b in
+    set (goesBy q b (suc q) (set (set (goesBy p a (suc p) (set xs p around)) p q) q around)) q r
+    ≡ goesBy q b (suc q) (set (goesBy p a (suc p) (set xs p q)) q r)
+goes-closed a b p around xs =
+    let q = suc p + rows a in
+    let r = suc q + rows b in
+    goes-over q b (suc q) (set (goesBy p a (suc p) (set xs p around)) p q) q around r (omega arith)
+    ∙ ap (λ ys. goesBy q b (suc q) (set ys q r)) (goes-over p a (suc p) xs p around q (omega arith))
+
 -- ---- what a pass over a tree comes to
 
 pub record Passed (t : Tree Assignment Test) (p : ℕ) (s s′ : Found) : Type 0 where
@@ -83,6 +124,8 @@ pub record Passed (t : Tree Assignment Test) (p : ℕ) (s s′ : Found) : Type 0
   pub goes : GoesTo (s′ .goes) t p
   pub cameKept : Keeps p (p + rows t) (s .came) (s′ .came)
   pub goesKept : Keeps p (p + rows t) (s .goes) (s′ .goes)
+  pub cameIs : s′ .came ≡ cameBy t p (s .came)
+  pub goesIs : s′ .goes ≡ goesBy (s .top) t p (s .goes)
 
 -- Each part's store and pass changes only its own places; x to z are the sizes of the parts, q and r the rows of "else" and "end if",
 -- e the place after all. First of the list of where rows came from.
@@ -115,6 +158,7 @@ came-fork p x y z c c₂ c₄ c₆ top₂ top₄ l k₁ k₃ k₅ =
 
 -- and of the list of where rows go to
 record GoesFork (p q r e top : ℕ) (g g₂ g₄ g₆ : List ℕ) : Type 0 where
+  inner : getD g₂ p 0 ≡ top
   outer : getD g₄ q 0 ≡ top
   whole : Keeps p e g g₆
   first : (i : ℕ) → suc p ≤ i → i < q → getD g₆ i 0 ≡ getD g₂ i 0
@@ -136,10 +180,10 @@ goes-fork p x y z top g g₂ g₄ g₆ l k₁ k₃ k₅ =
     let long₂ : length g₂ ≡ length g = k₁ .long ∙ k₀ .long in
     let long₃ : length (set g₂ p q) ≡ length g = k₂ .long ∙ long₂ in
     let long₄ : length g₄ ≡ length g = k₃ .long ∙ k₂′ .long ∙ long₃ in
+    let kept : getD g₂ p 0 ≡ top = k₁ .at p (inl (omega arith)) ∙ getD-set-same g p top 0 (omega arith) in
     record {
-      outer =
-          k₃ .at q (inl (omega arith)) ∙ getD-set-same (set g₂ p q) q _ 0 (omega arith) ∙ k₁ .at p (inl (omega arith))
-          ∙ getD-set-same g p top 0 (omega arith);
+      inner = kept;
+      outer = k₃ .at q (inl (omega arith)) ∙ getD-set-same (set g₂ p q) q _ 0 (omega arith) ∙ kept;
       whole =
           keeps-then (wider k₀ (omega arith) (omega arith))
           (keeps-then (wider k₁ (omega arith) (omega arith))
@@ -160,7 +204,7 @@ module _ (f : Test) (a b k : Tree Assignment Test) (p : ℕ) (s s₂ s₄ s₆ :
   after-fork : let q = suc p + rows a in let r = suc q + rows b in suc r ≤ length (s .came) → suc r ≤ length (s .goes)
       → Passed a (suc p) (foundAt (ifLine f) p s) s₂ → Passed b (suc q) (foundAt elseLine q s₂) s₄ → Passed k (suc r) (foundAt endIf r s₄) s₆
       → Passed (fork f a b k) p s s₆
-  unfolding foundAt CameFrom GoesTo rows
+  unfolding foundAt CameFrom GoesTo cameBy goesBy rows
   after-fork lc lg A B K =
       let q = suc p + rows a in
       let r = suc q + rows b in
@@ -169,9 +213,12 @@ module _ (f : Test) (a b k : Tree Assignment Test) (p : ℕ) (s s₂ s₄ s₆ :
       let C = came-fork p (rows a) (rows b) (rows k) _ _ _ _ _ _ lc (A .cameKept) (B .cameKept) (K .cameKept) in
       let k₃ = subst (λ j. Keeps (suc q) r (set (set (s₂ .goes) j q) q (getD (s₂ .goes) j 0)) (s₄ .goes)) (A .top) (B .goesKept) in
       let k₅ = subst (λ j. Keeps (suc r) e (set (s₄ .goes) j r) (s₆ .goes)) (B .top) (K .goesKept) in
-      let G = goes-fork p (rows a) (rows b) (rows k) _ _ _ _ _ lg (A .goesKept) k₃ k₅ in
+      let G : GoesFork p q r e (s .top) (s .goes) (s₂ .goes) (s₄ .goes) (s₆ .goes) =
+      goes-fork p (rows a) (rows b) (rows k) (s .top) (s .goes) (s₂ .goes) (s₄ .goes) (s₆ .goes) lg (A .goesKept) k₃ k₅ in
+      let outer : getD (s₄ .goes) (s₄ .top) 0 ≡ s .top = ap (λ j. getD (s₄ .goes) j 0) (B .top) ∙ G .outer in
+      let around : getD (s₂ .goes) (s₂ .top) 0 ≡ s .top = ap (λ j. getD (s₂ .goes) j 0) (A .top) ∙ G .inner in
       record {
-        top = K .top ∙ ap (λ j. getD (s₄ .goes) j 0) (B .top) ∙ G .outer;
+        top = K .top ∙ outer;
         came = (
           came-stays a (suc p) (s₂ .came) (s₆ .came) (λ i l h. C .afterFirst .at i (inl h)) (A .came),
           C .atElse ∙ A .top,
@@ -188,12 +235,14 @@ module _ (f : Test) (a b k : Tree Assignment Test) (p : ℕ) (s s₂ s₄ s₆ :
         );
         cameKept = wider (C .whole) (omega arith) upto;
         goesKept = wider (G .whole) (omega arith) upto;
+        cameIs = K .cameIs ∙ rw (B .top, B .cameIs, A .top, A .cameIs);
+        goesIs = K .goesIs ∙ cc (outer, around, A .top, A .goesIs, B .top, B .goesIs, goes-closed a b p (s .top) (s .goes));
       }
 
 module _ (m : ℕ) (a k : Tree Assignment Test) (p : ℕ) (s s₂ s₄ : Found) where
   after-again : let q = suc p + rows a in suc q ≤ length (s .came) → suc q ≤ length (s .goes)
       → Passed a (suc p) (foundAt (repeat m) p s) s₂ → Passed k (suc q) (foundAt endRepeat q s₂) s₄ → Passed (again m a k) p s s₄
-  unfolding foundAt CameFrom GoesTo rows
+  unfolding foundAt CameFrom GoesTo cameBy goesBy rows
   after-again lc lg A K =
       let q = suc p + rows a in
       let e = suc q + rows k in
@@ -205,9 +254,10 @@ module _ (m : ℕ) (a k : Tree Assignment Test) (p : ℕ) (s s₂ s₄ : Found) 
       let g₂ = store-keeps (s₂ .goes) q (s₂ .top) in
       let g₃ = K .goesKept in
       let long : length (s₂ .goes) ≡ length (s .goes) = g₁ .long ∙ g₀ .long in
+      let outer : getD (s₂ .goes) (s₂ .top) 0 ≡ s .top =
+      ap (λ j. getD (s₂ .goes) j 0) (A .top) ∙ g₁ .at p (inl (omega arith)) ∙ getD-set-same (s .goes) p (s .top) 0 (omega arith) in
       record {
-        top =
-            K .top ∙ ap (λ j. getD (s₂ .goes) j 0) (A .top) ∙ g₁ .at p (inl (omega arith)) ∙ getD-set-same (s .goes) p (s .top) 0 (omega arith);
+        top = K .top ∙ outer;
         came = (
           c₃ .at p (inl (omega arith)) ∙ getD-set-same (s₂ .came) p q 0 (omega (arith, c₁ .long)),
           came-stays a (suc p) (s₂ .came) (s₄ .came) (λ i l h. c₃ .at i (inl (omega arith)) ∙ c₂ .at i (inr l)) (A .came),
@@ -225,6 +275,8 @@ module _ (m : ℕ) (a k : Tree Assignment Test) (p : ℕ) (s s₂ s₄ : Found) 
             keeps-then (wider g₀ (omega arith) (omega arith))
             (keeps-then (wider g₁ (omega arith) (omega arith))
             (keeps-then (wider g₂ (omega arith) (omega arith)) (wider g₃ (omega arith) (omega arith))));
+        cameIs = K .cameIs ∙ rw (A .top, A .cameIs);
+        goesIs = K .goesIs ∙ cc (outer, A .top, A .goesIs);
       }
 
 -- ---- the pass, part by part
@@ -275,9 +327,9 @@ module _ (line : ℕ → SheetLine) where
 
   pub passed-over : (t : Tree Assignment Test) (p : ℕ) (s : Found) → LinesAt line t p → p + rows t ≤ length (s .came) → p + rows t ≤ length (s .goes)
       → Passed t p s (foundOver line p (rows t) s)
-  unfolding LinesAt CameFrom GoesTo rows foundOver
+  unfolding LinesAt CameFrom GoesTo cameBy goesBy rows foundOver
   passed-over done p s l lc lg =
-      record { top = refl; came = tt; goes = tt; cameKept = keeps-all (s .came); goesKept = keeps-all (s .goes) }
+      record { top = refl; came = tt; goes = tt; cameKept = keeps-all (s .came); goesKept = keeps-all (s .goes); cameIs = refl; goesIs = refl }
   passed-over (one b k) p s l lc lg =
       let K = passed-over k (suc p) s (l .1) (omega arith) (omega arith) in
       rw (found-one p (rows k) s b (l .0)) (record {
@@ -286,6 +338,8 @@ module _ (line : ℕ → SheetLine) where
         goes = K .goes;
         cameKept = wider (K .cameKept) (omega arith) (omega arith);
         goesKept = wider (K .goesKept) (omega arith) (omega arith);
+        cameIs = K .cameIs;
+        goesIs = K .goesIs;
       })
   passed-over (fork f a b k) p s l lc lg =
       let q = suc p + rows a in

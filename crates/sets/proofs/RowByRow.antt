@@ -8,7 +8,7 @@ use Rattle.sheet.specs.Tree.{Tree, done, one, fork, again, rows, basic, ifLine,
 use Rattle.sheet.specs.Rows.{Assignment, Test, SheetLine}
 use Rattle.sets.specs.VariableSets.{VariableSet}
 use Rattle.sets.specs.Equations.{Equation, passes, joins, unchanged, forward, backward}
-use Rattle.sets.specs.inner.Partners.{CameFrom, GoesTo}
+use Rattle.sets.specs.Partners.{CameFrom, GoesTo}
 use Rattle.sets.specs.inner.RowEquations.{forwardOf, backwardOf, listed}
 
 -- ---- equations by number

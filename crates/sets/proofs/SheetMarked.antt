@@ -21,11 +21,13 @@ use Rattle.sets.specs.Equations.{Equation, starts, least}
 use Rattle.sets.specs.inner.ProperEquations.{Proper}
 use Rattle.sets.specs.Transfers.{variedAfter, usefulBefore, requiredAfter, adjointUse, Activity}
 use Rattle.sets.specs.Marks.{points, varied, useful, required, variedEquations, usefulEquations, requiredEquations, activityAt, markBy}
-use Rattle.sets.specs.inner.Partners.{CameFrom, GoesTo, found, PartnersFound}
+use Rattle.sets.specs.Partners.{CameFrom, GoesTo, cameBy, goesBy}
+use Rattle.sets.specs.inner.PartnerPass.{found, PartnersFound}
 use Rattle.sets.specs.inner.RowEquations.{givenBy, lineIn, activeIn, turnOf, equationOf, equationIn, rowInTurn}
 use Rattle.sets.specs.inner.RowEquations.{rowEquations, startOf, allEquations, AllReadable, seedIn, Settles}
 use Rattle.sets.specs.inner.RowWords.{maskBits}
-use Rattle.sets.specs.inner.MarkBytes.{markBytes, bytesOf, byteAt, written}
+use Rattle.sets.specs.MarkBytes.{markBytes}
+use Rattle.sets.specs.inner.RowBytes.{bytesOf, byteAt, written}
 use Rattle.sets.specs.inner.Laid.{Laid, MarksLeft, AllMarked}
 use Rattle.sets.proofs.RowByRow.{LinesAt, forward-listed, backward-listed}
 use Rattle.sets.proofs.SheetRows.{lines-at, rows-readable}
@@ -58,6 +60,7 @@ module _ (words : List ℕ) (variables first count : ℕ) (laid : Laid words var
   pub record Facts : Type 0 where
     pub readable : AllReadable words first count
     pub lines : LinesAt (lineIn words first) (laid .sheet .body) 0
+    pub fewRows : count ≤ limit .rows
     pub variablesSmall : variables ≤ maskBits
     pub rolesThere : variables < length words
     pub roles : laid .sheet .roles ≡ take variables (drop 1 words)
@@ -87,18 +90,30 @@ module _ (words : List ℕ) (variables first count : ℕ) (laid : Laid words var
             rows-readable _ _ fewVariables fewConstants words first (parts .n) (sheet .body) says present p (omega (arith, laid .rowsAre))
             (omega arith);
         lines = lines-at words first (parts .n) (sheet .body) says;
+        fewRows = few;
         variablesSmall = omega (arith, vars, vs .most);
         rolesThere = omega (arith, vars, vs .there);
         roles = parts .roles ∙ ap (λ n. take n (drop 1 words)) (sym vars);
       }
 
+  pub record PartnersAre (came goes came′ goes′ : List ℕ) : Type 0 where
+    pub cameFrom : CameFrom came′ (laid .sheet .body) 0
+    pub goesTo : GoesTo goes′ (laid .sheet .body) 0
+    pub cameIs : came′ ≡ cameBy (laid .sheet .body) 0 came
+    pub goesIs : goes′ ≡ goesBy 0 (laid .sheet .body) 0 goes
+
   pub partners-right : (came goes came′ goes′ : List ℕ) → PartnersFound (lineIn words first) count came goes came′ goes′ → count ≤ length came
-      → count ≤ length goes → CameFrom came′ (laid .sheet .body) 0 × GoesTo goes′ (laid .sheet .body) 0
+      → count ≤ length goes → PartnersAre came goes came′ goes′
   partners-right came goes came′ goes′ pass lc lg =
       let passed = rw (sym (laid .rowsAre)) at
       (passed-over (lineIn words first) (laid .sheet .body) 0 (found 0 came goes) (facts .lines) (omega (arith, laid .rowsAre))
       (omega (arith, laid .rowsAre))) in
-      (rw (pass .0) (passed .came), rw (pass .1) (passed .goes))
+      record {
+        cameFrom = rw (pass .0) (passed .came);
+        goesTo = rw (pass .1) (passed .goes);
+        cameIs = pass .0 ∙ passed .cameIs;
+        goesIs = pass .1 ∙ passed .goesIs;
+      }
 
 module _ {words : List ℕ} {variables first count : ℕ} (laid : Laid words variables first count) where
   abbrev sheet : Sheet

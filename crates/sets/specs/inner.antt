@@ -1,9 +1,8 @@
--- What inner functions and the calls between the layers are handed and answer. No contract of a call that is made from outside, and no claim,
--- cites it, so nothing rests on its being right.
+-- What inner functions are handed and answer. No public contract and no claim cites it, so nothing rests on its being right.
 pub mod ProperEquations
 pub mod RowWords
-pub mod MarkBytes
-pub mod Partners
+pub mod RowBytes
+pub mod PartnerPass
 pub mod RowEquations
 pub mod Growth
 pub mod Laid

@@ -1,9 +1,14 @@
-// The sets: for an accepted sheet, `mark` finds the three least sets at every point and marks every row.
+// The sets: any words in; `mark` reads them, finds an accepted sheet's three least sets at every point and marks every row.
 // In reading order: masks, transfers, partners, equations, sweep, marks.
+ghost use mathlib.Core.Path.{_≡_};
 ghost use lib.ListN.{length};
+ghost use Rattle.sheet.specs.Refusals.{given};
+ghost use Rattle.sheet.specs.Reading.{Sheet, read};
+ghost use Rattle.sheet.specs.Answers.{said, shapeRead};
+ghost use Rattle.sets.specs.Calls.{lent, SheetMarks, MarksSaid};
 ghost use Rattle.sets.specs.inner.RowEquations.{lineIn};
 ghost use Rattle.sets.specs.inner.Laid.{Laid, Room, AllMarked};
-ghost use Rattle.sets.specs.inner.Partners.{PartnersFound};
+ghost use Rattle.sets.specs.inner.PartnerPass.{PartnersFound};
 
 mod equations;
 mod marks;
@@ -36,7 +41,7 @@ struct Extent {
 }
 
 // Marks every row of an accepted sheet. The required sets take each row's activity from its mark, so the rows are marked twice.
-pub fn mark(
+fn settle_and_mark(
     words: &[u16],
     variables: usize,
     first: usize,
@@ -67,4 +72,55 @@ pub fn mark(
     marks::mark_rows(words, extent, varied, useful, required, marks);
     sweep::settle(Which::Required, words, extent, marks, came, required);
     marks::mark_rows(words, extent, varied, useful, required, marks);
+}
+
+// Every row's marks and every block row's partners of an accepted sheet. The sets themselves are not kept.
+fn mark_accepted(
+    words: &[u16],
+    shape: sheet::Shape,
+    marks: &mut [u8; sheet::MAX_ROWS],
+    came: &mut [u16; sheet::MAX_ROWS],
+    goes: &mut [u16; sheet::MAX_ROWS],
+)
+    requires { ⌜ Laid (now words) (shape .variables) (shape .«first_row») (shape .rows) ⌝ }
+    ensures { λ r. ⌜ ((sheet : Sheet) → read (now (words .entry)) ≡ given sheet
+        → SheetMarks sheet (lent (now (marks .entry)) (now (came .entry)) (now (goes .entry)))
+        (lent (now (marks .exit)) (now (came .exit)) (now (goes .exit)))) ⌝ }
+{
+    let mut varied = [0u64; sheet::MAX_ROWS + 1];
+    let mut useful = [0u64; sheet::MAX_ROWS + 1];
+    let mut required = [0u64; sheet::MAX_ROWS + 1];
+    let points = shape.rows + 1;
+    settle_and_mark(
+        words,
+        shape.variables,
+        shape.first_row,
+        shape.rows,
+        came,
+        goes,
+        &mut varied[..points],
+        &mut useful[..points],
+        &mut required[..points],
+        marks,
+    );
+}
+
+// Any words: the reader's answer. An accepted sheet's rows are marked and its block rows' partners found; refused words leave every lent place as it was.
+pub fn mark(
+    words: &[u16],
+    marks: &mut [u8; sheet::MAX_ROWS],
+    came: &mut [u16; sheet::MAX_ROWS],
+    goes: &mut [u16; sheet::MAX_ROWS],
+) -> sheet::Reading
+    ensures { λ r. ⌜ (said r ≡ shapeRead (now (words .entry)))
+        × MarksSaid (read (now (words .entry))) (lent (now (marks .entry)) (now (came .entry)) (now (goes .entry)))
+        (lent (now (marks .exit)) (now (came .exit)) (now (goes .exit))) ⌝ }
+{
+    match sheet::read_sheet(words) {
+        sheet::Reading::Refused(why) => sheet::Reading::Refused(why),
+        sheet::Reading::Accepted(shape) => {
+            mark_accepted(words, shape, marks, came, goes);
+            sheet::Reading::Accepted(shape)
+        }
+    }
 }

@@ -3,7 +3,7 @@ ghost use mathlib.Core.Path.{_≡_};
 ghost use Prim.Native.Nat.{_<_};
 ghost use lib.ListN.{getD, set};
 ghost use Rattle.sets.specs.inner.RowEquations.{wordValues, AllReadable, lineIn};
-ghost use Rattle.sets.specs.inner.Partners.{found, FoundBy, PartnersFound};
+ghost use Rattle.sets.specs.inner.PartnerPass.{found, FoundBy, PartnersFound};
 use super::Extent;
 use sheet::RowNumber;
 use sheet::kinds;

@@ -5,7 +5,7 @@ ghost use lib.ListN.{getD, length, replicate};
 ghost use Rattle.sets.specs.VariableSets.{empty};
 ghost use Rattle.sets.specs.Equations.{least};
 ghost use Rattle.sets.specs.inner.RowWords.{maskBits};
-ghost use Rattle.sets.specs.inner.MarkBytes.{weight, bitOf};
+ghost use Rattle.sets.specs.MarkBytes.{weight, bitOf};
 ghost use Rattle.sets.specs.inner.RowEquations.{givenBy, Readable, AllReadable, equationIn, rowInTurn};
 ghost use Rattle.sets.specs.inner.RowEquations.{startOf, allEquations, hasRole, seedIn, Settles};
 ghost use Rattle.sets.specs.inner.Growth.{Grown, Stepped, Swept};

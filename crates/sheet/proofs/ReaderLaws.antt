@@ -7,7 +7,7 @@ use mathlib.Core.Option.{Option, none, some}
 use lib.ListN.{length, length-map}
 use native.Mathlib.Omega.{arith}
 use Rattle.sheet.specs.Bounds.{limit}
-use Rattle.sheet.specs.Refusals.{Refusal, given, wordsEnd, wordsLeft, countBeyond, roleAbove, badRow, badBlock, tooLong, smallTable}
+use Rattle.sheet.specs.Refusals.{Refusal, Answer, refused, given, _>>=_, wordsEnd, wordsLeft, countBeyond, roleAbove, badRow, badBlock, tooLong, smallTable}
 use Rattle.sheet.specs.Refusals.{smallValueStack, smallTurnStack, wrongStarts, wrongSeeds, wrongResult, notFiniteGiven, notFiniteResult}
 use Rattle.sheet.specs.Tree.{flat, rows}
 use Rattle.sheet.specs.Rows.{sheetRowOf, treeRows}
@@ -122,3 +122,14 @@ unfolding shapeRead
 accepted-shape words r shape contract is =
     let found = bound (read words) _ shape (sym contract ∙ ap said is) in
     subst (Shaped words) (same-given (found .2)) (shaped words (found .0) (found .1))
+
+-- ---- refused words
+
+pub refused-read : (words : List ℕ) (r : Reading) (why : No) → said r ≡ shapeRead words → r ≡ reading.Refused why
+    → read words ≡ refused (refusalOf why)
+unfolding shapeRead
+refused-read words r why contract is = stopped (read words) (sym contract ∙ ap said is)
+  where
+    stopped : (answer : Answer Sheet) → (answer >>= λ sheet. given (shapeOf sheet)) ≡ refused (refusalOf why) → answer ≡ refused (refusalOf why)
+    stopped (refused r) e = cc
+    stopped (given sheet) e = let z : _≡_ {A = ℕ} 0 1 = cc in absurd (omega arith)

@@ -10,7 +10,7 @@ use Rattle.sheet.specs.Rows.{Row, kindOf, rowOf, rowOfAssignment}
 use Rattle.sheet.specs.inner.RowLines.{lineOfRow}
 use Rattle.table.specs.TableRows.{Table, Action, Operation, linesOf, tableRowOf, rowOfAction}
 use Rattle.table.specs.Adjoint.{put, putIf, partsOf, derivativeRows, backwardOf}
-use Rattle.sets.specs.inner.MarkBytes.{bitOf}
+use Rattle.sets.specs.MarkBytes.{bitOf}
 use Rattle.table.specs.inner.MarkedRows.{rowWith, rowIf, rowsIn, anyRow, knownBy, sourceOf, scaledRows, partRows, derivativesOf, assignmentBack}
 
 pub rows-of-put : (row : RowNumber) (operation : Operation) (action : Action) (rest : Table)

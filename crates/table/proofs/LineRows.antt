@@ -10,7 +10,7 @@ use Rattle.sheet.specs.Rows.{Row, SheetLine, less, kindOf, rowOf, sheetRowOf, _
 use Rattle.sheet.specs.inner.RowLines.{lineOfRow}
 use Rattle.table.specs.TableRows.{tableRowOf, rowOfAction, rowOfTableTest}
 use Rattle.table.specs.Adjoint.{forwardRow}
-use Rattle.sets.specs.inner.MarkBytes.{bitOf}
+use Rattle.sets.specs.MarkBytes.{bitOf}
 use Rattle.table.specs.inner.MarkedRows.{rowWith, rowIf, Assigns, Says, sourceOf, assignmentBack, forwardOfLine, backwardOfLine}
 use Rattle.table.proofs.AssignmentRows.{kind-is, rows-of-put, rows-of-put-if, rows-of-done}
 

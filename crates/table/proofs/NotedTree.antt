@@ -1,31 +1,23 @@
 -- What `sets::mark` leaves is what the writer reads: every assignment's marks and every block row's partners.
-use Prim.Native.Nat.{ℕ, suc, _+_, _≤_, _<_}
+use Prim.Native.Nat.{ℕ, suc, _+_, _<_}
 use native.Mathlib.Omega.{arith}
 use mathlib.Core.Path.{_≡_, refl, sym, ap, subst, _∙_}
 use mathlib.Core.Bool.{Bool}
-use mathlib.Core.List.{List}
-use lib.ListN.{length, getD, take, length-take}
-use Rattle.sheet.specs.Bounds.{limit}
+use mathlib.Core.List.{List, [], _∷_, map}
+use lib.ListN.{length, getD, drop, List·getD-append}
+use Rattle.sheet.specs.Tree.{Tree, done, one, fork, again, rows, Line, flat}
+use Rattle.sheet.specs.Rows.{Assignment, Test}
 use Rattle.sheet.specs.Refusals.{given}
-use Rattle.sheet.specs.Tree.{Tree, done, one, fork, again, rows, basic}
-use Rattle.sheet.specs.Rows.{Assignment, Test, SheetLine}
 use Rattle.sheet.specs.Reading.{Sheet, read}
-use Rattle.sheet.proofs.ReadingParts.{same-given}
 use Rattle.sets.specs.VariableSets.{VariableSet}
 use Rattle.sets.specs.Transfers.{Activity}
-use Rattle.sets.specs.Marks.{markBy, varied, useful, required}
-use Rattle.sets.specs.inner.MarkBytes.{byteBy, byteAt, markBytes}
-use Rattle.sets.specs.inner.Partners.{CameFrom, GoesTo, PartnersFound}
-use Rattle.sets.specs.inner.RowEquations.{lineIn}
-use Rattle.sets.specs.inner.Laid.{Laid, AllMarked}
-use Rattle.sets.proofs.RowByRow.{LinesAt}
-use Rattle.sets.proofs.MarkByteLaws.{read-back, written-at}
-use Rattle.sets.proofs.MarksListed.{marks-listed}
-use Rattle.sets.proofs.SheetMarked.{facts, partners-right}
+use Rattle.sets.specs.Marks.{Marked, MarkedTest, numbered, markBy, marked, varied, useful, required}
+use Rattle.sets.specs.MarkBytes.{byteBy, byteOf, markBytes}
+use Rattle.sets.specs.Partners.{CameFrom, GoesTo}
+use Rattle.sets.specs.Calls.{Lent, SheetMarks, MarksSaid}
+use Rattle.sets.proofs.MarkByteLaws.{read-back}
 use Rattle.table.specs.inner.MarkedRows.{knownBy, savedBy, MarkSays, Noted}
 use Rattle.table.specs.inner.Plans.{SheetNoted}
-use Rattle.table.proofs.WalkTree.{rows-of-tree}
-use Rattle.table.proofs.SheetLaid.{sheet-lies}
 
 -- ---- a byte read back
 
@@ -36,68 +28,83 @@ same-activity x y z x′ y′ z′ e f g = rw (e, f, g)
 known-back : (known : Activity) (saved : Bool) → knownBy (byteBy known saved) ≡ known
 known-back known saved = let back = read-back known saved in same-activity _ _ _ _ _ _ (back .variedA) (back .variedB) (back .active)
 
+-- ---- the marks hold a list's bytes from a row on
+
+module _ (marks : List ℕ) where
+  abbrev Holds : List ℕ → ℕ → Type 0
+  Holds [] p = Unit {0}
+  Holds (x ∷ xs) p = (getD marks p 0 ≡ x) × Holds xs (suc p)
+
+  holds-all : (xs : List ℕ) (p : ℕ) → ((i : ℕ) → i < length xs → getD marks (p + i) 0 ≡ getD xs i 0) → Holds xs p
+  holds-all [] p same = tt
+  holds-all (x ∷ xs) p same =
+      let here : p + 0 ≡ p = omega arith in (
+        rw here at (same 0 (omega arith)),
+        holds-all xs (suc p) (λ i below. let next : p + suc i ≡ suc p + i = omega arith in rw next at (same (suc i) (omega arith))),
+      )
+
 -- ---- all rows
 
-module _ (line : ℕ → SheetLine) (v u r : List VariableSet) (marks came goes : List ℕ) (count : ℕ)
-    (bytes : (p : ℕ) → p < count → getD marks p 0 ≡ byteAt v u r p (line p)) where
-  mark-says : (p : ℕ) (b : Assignment) → p < count → line p ≡ basic b → MarkSays (getD marks p 0) b (markBy v u r p b)
-  unfolding byteAt markBy
-  mark-says p b below is =
+module _ (v u r : List VariableSet) (marks came goes : List ℕ) where
+  mark-says : (p : ℕ) (b : Assignment) → let m = markBy v u r p b in getD marks p 0 ≡ byteBy (m .known) (m .saved) → MarkSays (getD marks p 0) b m
+  unfolding markBy
+  mark-says p b at =
       let m = markBy v u r p b in
-      let at : getD marks p 0 ≡ byteBy (m .known) (m .saved) = bytes p below ∙ ap (byteAt v u r p) is in
       record {
         assignment = refl;
         known = sym (ap knownBy at ∙ known-back (m .known) (m .saved));
         saved = sym (ap savedBy at ∙ read-back (m .known) (m .saved) .saved);
       }
 
-  noted-tree : (t : Tree Assignment Test) (p : ℕ) → p + rows t ≤ count → LinesAt line t p → CameFrom came t p → GoesTo goes t p
-      → Noted marks came goes (markBy v u r) t p
-  unfolding LinesAt CameFrom GoesTo Noted rows
-  noted-tree done p below l c g = tt
-  noted-tree (one b k) p below l c g = (mark-says p b (omega arith) (l .0), noted-tree k (suc p) (omega arith) (l .1) c g)
-  noted-tree (fork f a b k) p below l c g =
+  abbrev HoldsLines : List (Line Marked MarkedTest) → ℕ → Type 0
+  HoldsLines ls p = Holds marks (map byteOf ls) p
+
+  -- the marks of a tree's rows and then those of what follows
+  record NotedThen (t : Tree Assignment Test) (p : ℕ) (rest : List (Line Marked MarkedTest)) : Type 0 where
+    noted : Noted marks came goes (markBy v u r) t p
+    after : HoldsLines rest (p + rows t)
+
+  noted-tree : (t : Tree Assignment Test) (p : ℕ) (rest : List (Line Marked MarkedTest)) → HoldsLines (flat (numbered (markBy v u r) t p) rest) p
+      → CameFrom came t p → GoesTo goes t p → NotedThen t p rest
+  unfolding numbered flat byteOf CameFrom GoesTo Noted rows
+  noted-tree done p rest h c g = record { noted = tt; after = subst (HoldsLines rest) (omega arith) h }
+  noted-tree (one b k) p rest h c g =
+      let K = noted-tree k (suc p) rest (h .1) c g in
+      record { noted = (mark-says p b (h .0), K .noted); after = subst (HoldsLines rest) (omega arith) (K .after) }
+  noted-tree (fork f a b k) p rest h c g =
       let split = suc p + rows a in
-      let end = suc split + rows b in (
-        record { ifGoes = g .0; elseGoes = g .2; elseCame = c .1; endCame = c .3 },
-        (
-          noted-tree a (suc p) (omega arith) (l .1) (c .0) (g .1),
-          (noted-tree b (suc split) (omega arith) (l .3) (c .2) (g .3), noted-tree k (suc end) (omega arith) (l .5) (c .4) (g .4)),
-        ),
-      )
-  noted-tree (again m a k) p below l c g =
-      let end = suc p + rows a in (
-        record { repeatCame = c .0; endGoes = g .1 },
-        (noted-tree a (suc p) (omega arith) (l .1) (c .1) (g .0), noted-tree k (suc end) (omega arith) (l .3) (c .2) (g .2)),
-      )
+      let end = suc split + rows b in
+      let A = noted-tree a (suc p) _ (h .1) (c .0) (g .1) in
+      let B = noted-tree b (suc split) _ (A .after .1) (c .2) (g .3) in
+      let K = noted-tree k (suc end) rest (B .after .1) (c .4) (g .4) in
+      record {
+        noted = (record { ifGoes = g .0; elseGoes = g .2; elseCame = c .1; endCame = c .3 }, (A .noted, (B .noted, K .noted)));
+        after = subst (HoldsLines rest) (omega arith) (K .after);
+      }
+  noted-tree (again m a k) p rest h c g =
+      let end = suc p + rows a in
+      let A = noted-tree a (suc p) _ (h .1) (c .1) (g .0) in
+      let K = noted-tree k (suc end) rest (A .after .1) (c .2) (g .2) in
+      record {
+        noted = (record { repeatCame = c .0; endGoes = g .1 }, (A .noted, K .noted));
+        after = subst (HoldsLines rest) (omega arith) (K .after);
+      }
 
 -- ---- what marking leaves
 
-pub sheet-noted : (words : List ℕ) (variables first count : ℕ) (laid : Laid words variables first count)
-    (v u r : List VariableSet) (before marks came goes came′ goes′ : List ℕ) → count ≤ length before → count ≤ length came → count ≤ length goes
-    → AllMarked words count v u r before marks → PartnersFound (lineIn words first) count came goes came′ goes′
-    → (sheet : Sheet) → read words ≡ given sheet → SheetNoted sheet marks came′ goes′
-sheet-noted words variables first count laid v u r before marks came goes came′ goes′ long longCame longGoes allMarked found sheet e =
-    let same : laid .sheet ≡ sheet = same-given (sym (laid .accepted) ∙ e) in
-    let count-is : count ≡ rows (sheet .body) = laid .rowsAre ∙ ap (λ s. rows (s .body)) same in
-    let lines = subst (λ s. LinesAt (lineIn words first) (s .body) 0) same (facts words variables first count laid .lines) in
-    let right = partners-right words variables first count laid came goes came′ goes′ found longCame longGoes in
-    let bytes : (p : ℕ) → p < count → getD marks p 0 ≡ byteAt (varied sheet) (useful sheet) (required sheet) p (lineIn words first p) =
-    λ p below.
-    ap (λ bs. getD bs p 0) (allMarked sheet e .marksLeft) ∙ written-at (λ i. getD (markBytes sheet) i 0) count before long p below
-    ∙ sym (marks-listed sheet (lineIn words first) lines p (omega arith)) in
-    noted-tree (lineIn words first) (varied sheet) (useful sheet) (required sheet) marks came′ goes′ count bytes (sheet .body) 0 (omega arith) lines
-    (subst (λ s. CameFrom came′ (s .body) 0) same (right .0)) (subst (λ s. GoesTo goes′ (s .body) 0) same (right .1))
+module _ (sheet : Sheet) (before after : Lent) (says : SheetMarks sheet before after) where
+  bytes-held : Holds (after .marks) (markBytes sheet) 0
+  bytes-held =
+      holds-all (after .marks) (markBytes sheet) 0 (λ i below.
+      let here : 0 + i ≡ i = omega arith in
+      rw here (ap (λ bytes. getD bytes i 0) (says .marks) ∙ List·getD-append (markBytes sheet) (drop (rows (sheet .body)) (before .marks)) 0 i below))
 
--- ---- the sets' room: a point before each row and one after the last
+  all-noted : SheetNoted sheet (after .marks) (after .came) (after .goes)
+  unfolding markBytes marked
+  all-noted =
+      noted-tree (varied sheet) (useful sheet) (required sheet) (after .marks) (after .came) (after .goes) (sheet .body) 0 [] bytes-held
+      (says .cameFrom) (says .goesTo) .noted
 
-pub few-points : (words : List ℕ) (variables first count : ℕ) → Laid words variables first count → count ≤ limit .rows
-few-points words variables first count laid =
-    let lies = sheet-lies words (laid .sheet) (laid .accepted) in
-    omega (arith, laid .rowsAre, rows-of-tree words _ _ (laid .sheet .body) (lies .says), lies .fewRows)
-
-pub first-points : (words : List ℕ) (variables first count : ℕ) → Laid words variables first count → (sets : List VariableSet)
-    → limit .rows < length sets → length (take (count + 1) sets) ≡ suc count
-first-points words variables first count laid sets long =
-    let few = few-points words variables first count laid in
-    simp length-take (omega arith)
+pub sheet-noted : (words : List ℕ) (before after : Lent) → MarksSaid (read words) before after
+    → (sheet : Sheet) → read words ≡ given sheet → SheetNoted sheet (after .marks) (after .came) (after .goes)
+sheet-noted words before after says sheet e = all-noted sheet before after (subst (λ answer. MarksSaid answer before after) e says)

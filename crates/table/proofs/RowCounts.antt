@@ -7,7 +7,7 @@ use lib.ListN.{length, length-append, getD}
 use native.Mathlib.Omega.{arith}
 use Rattle.sheet.specs.Rows.{Row}
 use Rattle.sheet.specs.inner.RowLines.{lineOfRow}
-use Rattle.sets.specs.inner.MarkBytes.{bitOf}
+use Rattle.sets.specs.MarkBytes.{bitOf}
 use Rattle.table.specs.inner.MarkedRows.{rowIf, rowNumbered, Says, partRows, derivativesOf, assignmentBack, forwardOfLine, backwardOfLine, bothParts, countRows}
 use Rattle.table.proofs.AssignmentRows.{constant-rows, copy-rows, negation-rows, two-rows, product-rows, active-rows, inactive-rows, assignment-rows}
 use Rattle.table.proofs.LineRows.{says-assigns, block-line, assignment-forward, assignment-backward, else-forward, end-if-forward, plain-forward}

@@ -5,7 +5,7 @@ use mathlib.Core.Path.{_≡_, refl, sym, ap, subst, _∙_}
 use mathlib.Core.List.{List, []}
 use lib.ListN.{length, length-map}
 use Rattle.sheet.specs.Bounds.{limit}
-use Rattle.sheet.specs.Refusals.{Refusal, Answer, refused, given, _>>=_}
+use Rattle.sheet.specs.Refusals.{given}
 use Rattle.sheet.specs.Tree.{flat}
 use Rattle.sheet.specs.Rows.{sheetRowOf, treeRows}
 use Rattle.sheet.specs.LongestRun.{longestRun}
@@ -18,15 +18,12 @@ use Rattle.sheet.proofs.ReadingExact.{reading-exact}
 use Rattle.sheet.proofs.NamesPresent.{counts}
 use Rattle.sheet.proofs.TreeInWords.{body-stands}
 use Rattle.sheet.proofs.ReaderLaws.{Shaped, accepted-shape}
-use Rattle.sets.specs.inner.Laid.{Laid}
 use Rattle.table.specs.inner.MarkedRows.{rowNumbered, Small}
-use Rattle.table.proofs.WalkTree.{rows-of-tree}
 use Rattle.table.proofs.RowsSmall.{rows-small}
 
 pub record Lies (words : List ℕ) (sheet : Sheet) (shape : Shape) : Type 0 where
   pub is : read words ≡ given sheet
   pub shapeIs : shape ≡ shapeOf sheet
-  pub laid : Laid words (shape .variables) (shape .«first_row») (shape .rows)
   pub says : treeRows (sheet .body) ≡ rowsAt words (shape .«first_row») (shape .rows)
   pub variables : shape .variables ≡ variablesOf sheet
   pub fewVariables : shape .variables ≤ limit .variables
@@ -58,13 +55,6 @@ sheet-lies words sheet e =
     record {
       is = e;
       shapeIs = refl;
-      laid = record {
-        sheet = sheet;
-        accepted = e;
-        variablesAre = refl;
-        firstIs = omega arith;
-        rowsAre = rows-of-tree words first _ (sheet .body) says;
-      };
       says = says;
       variables = refl;
       fewVariables = shaped .variablesWithin;
@@ -83,12 +73,3 @@ unfolding shapeRead
 accepted-lies words shape e =
     let found = bound (read words) _ shape e in
     record { sheet = found .0; lies = subst (Lies words (found .0)) (same-given (found .2)) (sheet-lies words (found .0) (found .1)) }
-
--- and of one that it refuses
-pub refused-read : (words : List ℕ) (why : Refusal) → shapeRead words ≡ refused why → read words ≡ refused why
-unfolding shapeRead
-refused-read words why e = stopped (read words) e
-  where
-    stopped : (answer : Answer Sheet) → (answer >>= λ sheet. given (shapeOf sheet)) ≡ refused why → answer ≡ refused why
-    stopped (refused r) e = cc
-    stopped (given sheet) e = let z : _≡_ {A = ℕ} 0 1 = cc in absurd (omega arith)

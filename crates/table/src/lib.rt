@@ -5,7 +5,6 @@ ghost use lib.ListN.{length};
 ghost use Rattle.sheet.specs.Refusals.{given};
 ghost use Rattle.sheet.specs.Reading.{Sheet, read};
 ghost use Rattle.sheet.specs.Answers.{shapeRead};
-ghost use Rattle.sets.specs.inner.Laid.{Laid};
 ghost use Rattle.table.specs.TableRows.{tableWords};
 ghost use Rattle.table.specs.Adjoint.{tableOf};
 ghost use Rattle.table.specs.Calls.{tableRoom, overwritten, checkedSaid, check, writtenOf, write};
@@ -57,48 +56,18 @@ pub enum Planned {
     Made(Plan),
 }
 
-// Every row's marks and every block row's partners. The sets themselves are not kept.
-fn note(
-    words: &[u16],
-    shape: sheet::Shape,
-    marks: &mut [u8; sheet::MAX_ROWS],
-    came: &mut [u16; sheet::MAX_ROWS],
-    goes: &mut [u16; sheet::MAX_ROWS],
-)
-    requires { ⌜ Laid (now words) (shape .variables) (shape .«first_row») (shape .rows) ⌝ }
-    ensures { λ r. ⌜ ((sheet : Sheet) → read (now (words .entry)) ≡ given sheet
-        → SheetNoted sheet (now (marks .exit)) (now (came .exit)) (now (goes .exit))) ⌝ }
-{
-    let mut varied = [0u64; sheet::MAX_ROWS + 1];
-    let mut useful = [0u64; sheet::MAX_ROWS + 1];
-    let mut required = [0u64; sheet::MAX_ROWS + 1];
-    let points = shape.rows + 1;
-    sets::mark(
-        words,
-        shape.variables,
-        shape.first_row,
-        shape.rows,
-        came,
-        goes,
-        &mut varied[..points],
-        &mut useful[..points],
-        &mut required[..points],
-        marks,
-    );
-}
-
-// The plan of an accepted sheet.
+// The plan of an accepted sheet, from its rows' marks and its block rows' partners.
 fn plan_of(
     words: &[u16],
     shape: sheet::Shape,
-    marks: &mut [u8; sheet::MAX_ROWS],
-    came: &mut [u16; sheet::MAX_ROWS],
-    goes: &mut [u16; sheet::MAX_ROWS],
+    marks: &[u8; sheet::MAX_ROWS],
+    came: &[u16; sheet::MAX_ROWS],
+    goes: &[u16; sheet::MAX_ROWS],
 ) -> Plan
-    requires { ⌜ shapeRead (now words) ≡ given shape ⌝ }
-    ensures { λ r. ⌜ PlanMade (now (words .entry)) r (now (marks .exit)) (now (came .exit)) (now (goes .exit)) ⌝ }
+    requires { ⌜ shapeRead (now words) ≡ given shape ⌝
+        ∗ ⌜ ((sheet : Sheet) → read (now words) ≡ given sheet → SheetNoted sheet (now marks) (now came) (now goes)) ⌝ }
+    ensures { λ r. ⌜ PlanMade (now (words .entry)) r (now (marks .entry)) (now (came .entry)) (now (goes .entry)) ⌝ }
 {
-    note(words, shape, marks, came, goes);
     let count = count::table_rows(words, shape, marks);
     let values = needs::needed(needs::Stack::Values, words, shape, marks, came, goes);
     let turns = needs::needed(needs::Stack::Turns, words, shape, marks, came, goes);
@@ -119,7 +88,7 @@ pub fn plan_sheet(
 ) -> Planned
     ensures { λ r. ⌜ PlanSays (now (words .entry)) (now (marks .exit)) (now (came .exit)) (now (goes .exit)) r ⌝ }
 {
-    match sheet::read_sheet(words) {
+    match sets::mark(words, marks, came, goes) {
         sheet::Reading::Refused(why) => Planned::Refused(why),
         sheet::Reading::Accepted(shape) => Planned::Made(plan_of(words, shape, marks, came, goes)),
     }

@@ -5,7 +5,7 @@ ghost use Rattle.sheet.specs.Answers.{rowSaid};
 ghost use Rattle.sheet.specs.Bounds.{limit};
 ghost use Prim.Native.Nat.{_≤_};
 ghost use mathlib.Core.List.{[], _∷_};
-ghost use Rattle.sets.specs.inner.MarkBytes.{bitOf};
+ghost use Rattle.sets.specs.MarkBytes.{bitOf};
 ghost use Rattle.table.specs.inner.MarkedRows.{rowWith, Room, Wrote, rowIf, Small, scaledRows, partRows, derivativesOf, assignmentBack, Assigns, Says, forwardOfLine, backwardOfLine};
 use super::kinds;
 use sheet::RowWords;

@@ -8,7 +8,8 @@ use Rattle.sheet.specs.Refusals.{given}
 use Rattle.sheet.specs.Reading.{Sheet, read}
 use Rattle.sets.specs.VariableSets.{VariableSet}
 use Rattle.sets.specs.Marks.{varied, useful, required}
-use Rattle.sets.specs.inner.MarkBytes.{markBytes, written}
+use Rattle.sets.specs.MarkBytes.{markBytes}
+use Rattle.sets.specs.inner.RowBytes.{written}
 
 pub record Laid (words : List ℕ) (variables first count : ℕ) : Type 0 where
   pub sheet : Sheet

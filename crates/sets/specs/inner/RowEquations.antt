@@ -18,7 +18,7 @@ use Rattle.sets.specs.Equations.{Equation, starts, passes, joins, unchan
 use Rattle.sets.specs.inner.ProperEquations.{Proper}
 use Rattle.sets.specs.Transfers.{variedAfter, usefulBefore, requiredAfter}
 use Rattle.sets.specs.inner.RowWords.{maskBits, InMask}
-use Rattle.sets.specs.inner.MarkBytes.{weight, bitOf}
+use Rattle.sets.specs.MarkBytes.{weight, bitOf}
 
 -- a partner is kept in 16 bits
 abbrev pub wordValues : ℕ

@@ -1,13 +1,14 @@
--- `table::plan_sheet` meets its contract: the reader's refusal, or the plan of the sheet that it accepts.
+-- `table::plan_sheet` meets its contract: the reader's refusal, or the plan of the sheet that it accepts, from what `sets::mark` promises.
 use mathlib.Core.Path.{sym, ap, _∙_}
 use borrow.Author.Needs.{needs}
 use Rattle.sheet.specs.Answers.{said}
-use Rattle.table.proofs.SheetLaid.{refused-read}
+use Rattle.sheet.proofs.ReaderLaws.{refused-read}
+use Rattle.table.proofs.NotedTree.{sheet-noted}
 use Rattle.table.proofs.plan_sheet.Statement.{statement}
 use Rattle.table.proofs.plan_sheet.Tie as tie
 
-read-sheet-requires : tie.Need-read-sheet-requires
-read-sheet-requires c κs = search needs
+mark-requires : tie.Need-mark-requires
+mark-requires c κs = search needs
 
 enum-known-why : tie.Need-enum-known-why
 enum-known-why c = search needs
@@ -16,10 +17,15 @@ enum-known-shape : tie.Need-enum-known-shape
 enum-known-shape c = search needs
 
 plan-of-requires : tie.Need-plan-of-requires
-plan-of-requires c κs = sym (c .before .before .before .before .before .before .read-sheet .ensures) ∙ ap said (c .before .before .before .before .shape .given .1)
+plan-of-requires c κs =
+    let marked : tie.After-mark = search in
+    let is : tie.After-shape = search in
+    (sym (marked .mark .ensures .0) ∙ ap said (is .shape .given .1), sheet-noted _ _ _ (marked .mark .ensures .1))
 
 returns : tie.Need-returns
-returns c = refused-read _ _ (sym (c .before .before .before .read-sheet .ensures) ∙ ap said (c .before .why .given .1))
+returns c =
+    let marked : tie.After-mark = search in
+    refused-read _ _ _ (marked .mark .ensures .0) (c .before .why .given .1)
 
 returns-2 : tie.Need-returns-2
 returns-2 c = c .plan-of .ensures
@@ -28,7 +34,7 @@ pub plan-sheet-spec : {M : Type 1} → statement M
 plan-sheet-spec =
     tie.close
     (tie.spec
-    read-sheet-requires
+    mark-requires
     enum-known-why
     enum-known-shape
     plan-of-requires

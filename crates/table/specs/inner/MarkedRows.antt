@@ -16,7 +16,7 @@ use Rattle.sheet.specs.inner.RowLines.{lineOfRow}
 use Rattle.sheet.specs.declared.Shape.{Shape}
 use Rattle.sets.specs.Transfers.{Activity}
 use Rattle.sets.specs.Marks.{Marked}
-use Rattle.sets.specs.inner.MarkBytes.{weight, bitOf}
+use Rattle.sets.specs.MarkBytes.{weight, bitOf}
 use Rattle.table.specs.TableRows.{adjointOf, t, u, Table, linesOf, tableRowOf, wordsOf, rowOfAction, saveTurn, onTurn}
 use Rattle.table.specs.Adjoint.{forwardRow, partsOf, derivativeRows, backwardOf}
 

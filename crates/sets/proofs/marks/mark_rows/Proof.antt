@@ -5,7 +5,7 @@ use mathlib.Core.Path.{_≡_, refl, sym, ap, _∙_}
 use denote.Ref.{now}
 use lib.ListN.{length}
 use Rattle.sets.specs.inner.RowEquations.{lineIn}
-use Rattle.sets.specs.inner.MarkBytes.{bytesOf, written}
+use Rattle.sets.specs.inner.RowBytes.{bytesOf, written}
 use Rattle.sets.proofs.MarkByteLaws.{written-length, written-next}
 use Rattle.sets.proofs.marks.mark_rows.Statement.{statement}
 use Rattle.sets.proofs.marks.mark_rows.Tie as tie

@@ -5,7 +5,7 @@ use mathlib.Core.Bool.{cond}
 use borrow.Author.Needs.{needs}
 use native.Mathlib.Omega.{arith}
 use Rattle.sheet.specs.Answers.{rowSaid}
-use Rattle.sets.specs.inner.MarkBytes.{bitOf}
+use Rattle.sets.specs.MarkBytes.{bitOf}
 use Rattle.table.proofs.RowCounts.{constant-count, copy-count, negation-count, product-count, two-count}
 use Rattle.table.proofs.count.parts_count.Statement.{statement}
 use Rattle.table.proofs.count.parts_count.Tie as tie

@@ -2,7 +2,7 @@
 use borrow.Author.Needs.{needs}
 use mathlib.Core.Path.{_≡_, sym, _∙_}
 use mathlib.Core.Bool.{true, false}
-use Rattle.sets.specs.inner.MarkBytes.{bitOf}
+use Rattle.sets.specs.MarkBytes.{bitOf}
 use Rattle.table.proofs.WritingLaws.{wrote-then, room-first, room-after}
 use Rattle.table.proofs.AssignmentRows.{active-rows, inactive-rows}
 use Rattle.table.proofs.rows.derivatives.Statement.{statement}

@@ -1,41 +1,10 @@
--- The partners of a block's rows: where an equation takes a set from besides the row's own point.
-use Prim.Native.Nat.{ℕ, zero, suc, _+_}
+-- How one pass over the rows finds every block row's partners both ways.
+use Prim.Native.Nat.{ℕ, zero, suc}
 use mathlib.Core.Path.{_≡_}
 use mathlib.Core.List.{List}
 use lib.ListN.{getD, set}
-use Rattle.sheet.specs.Tree.{Tree, done, one, fork, again, rows, basic, ifLine, elseLine, endIf, repeat, endRepeat}
+use Rattle.sheet.specs.Tree.{basic, ifLine, elseLine, endIf, repeat, endRepeat}
 use Rattle.sheet.specs.Rows.{SheetLine, sheetRowOf}
-
-module _ {B F : Type 0} where
-  -- from before to after: "else" has its "if", "end if" its "else", "repeat" its "end repeat"
-  unfoldable pub CameFrom : List ℕ → Tree B F → ℕ → Type 0
-  unfolding rows
-  CameFrom partners done p = Unit {0}
-  CameFrom partners (one b k) p = CameFrom partners k (suc p)
-  CameFrom partners (fork f a b k) p =
-      let split = suc p + rows a in
-      let end = suc split + rows b in
-      CameFrom partners a (suc p) × (getD partners split 0 ≡ p) × CameFrom partners b (suc split) × (getD partners end 0 ≡ split)
-      × CameFrom partners k (suc end)
-  CameFrom partners (again m a k) p =
-      let end = suc p + rows a in
-      (getD partners p 0 ≡ end) × CameFrom partners a (suc p) × CameFrom partners k (suc end)
-
-  -- from after to before: "if" has its "else", "else" its "end if", "end repeat" its "repeat"
-  unfoldable pub GoesTo : List ℕ → Tree B F → ℕ → Type 0
-  unfolding rows
-  GoesTo partners done p = Unit {0}
-  GoesTo partners (one b k) p = GoesTo partners k (suc p)
-  GoesTo partners (fork f a b k) p =
-      let split = suc p + rows a in
-      let end = suc split + rows b in
-      (getD partners p 0 ≡ split) × GoesTo partners a (suc p) × (getD partners split 0 ≡ end) × GoesTo partners b (suc split)
-      × GoesTo partners k (suc end)
-  GoesTo partners (again m a k) p =
-      let end = suc p + rows a in
-      GoesTo partners a (suc p) × (getD partners end 0 ≡ p) × GoesTo partners k (suc end)
-
--- ---- how one pass finds both
 
 -- The innermost open block's last row so far, and both lists of partners. An open block's row has in `goes`, until its own partner is known,
 -- the row that was innermost outside it, so that no stack is needed.
