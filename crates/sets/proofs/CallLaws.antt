@@ -75,7 +75,7 @@ same-lists : (marks came goes marks′ came′ goes′ : List ℕ) → marks ≡
     → lent marks came goes ≡ lent marks′ came′ goes′
 same-lists marks came goes marks′ came′ goes′ e f g = rw (e, f, g)
 
-same-lent : (answer : Answer Sheet) (before after after′ : Lent) → MarksSaid answer before after → MarksSaid answer before after′ → after ≡ after′
+pub same-lent : (answer : Answer Sheet) (before after after′ : Lent) → MarksSaid answer before after → MarksSaid answer before after′ → after ≡ after′
 same-lent (refused r) before after after′ s s′ = s ∙ sym s′
 same-lent (given sheet) before after after′ s s′ =
     same-lists _ _ _ _ _ _ (s .marks ∙ sym (s′ .marks)) (s .came ∙ sym (s′ .came)) (s .goes ∙ sym (s′ .goes))

@@ -5,6 +5,7 @@ ghost use lib.ListN.{length};
 ghost use Rattle.sheet.specs.Refusals.{given};
 ghost use Rattle.sheet.specs.Reading.{Sheet, read};
 ghost use Rattle.sheet.specs.Answers.{shapeRead};
+ghost use Rattle.sets.specs.Calls.{lent, MarksSaid};
 ghost use Rattle.table.specs.TableRows.{tableWords};
 ghost use Rattle.table.specs.Adjoint.{tableOf};
 ghost use Rattle.table.specs.Calls.{tableRoom, overwritten, checkedSaid, check, writtenOf, write};
@@ -86,7 +87,9 @@ pub fn plan_sheet(
     came: &mut [u16; sheet::MAX_ROWS],
     goes: &mut [u16; sheet::MAX_ROWS],
 ) -> Planned
-    ensures { λ r. ⌜ PlanSays (now (words .entry)) (now (marks .exit)) (now (came .exit)) (now (goes .exit)) r ⌝ }
+    ensures { λ r. ⌜ PlanSays (now (words .entry)) (now (marks .exit)) (now (came .exit)) (now (goes .exit)) r
+        × MarksSaid (read (now (words .entry))) (lent (now (marks .entry)) (now (came .entry)) (now (goes .entry)))
+        (lent (now (marks .exit)) (now (came .exit)) (now (goes .exit))) ⌝ }
 {
     match sets::mark(words, marks, came, goes) {
         sheet::Reading::Refused(why) => Planned::Refused(why),

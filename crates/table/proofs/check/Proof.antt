@@ -24,13 +24,13 @@ returns c =
     let called = c .before .before .before .before .before in
     let words = called .before .before .before .before .before .args .words .now in
     let why = c .before .before .before .why in
-    check-refused words _ _ _ (when-refused words _ _ _ _ (why .given .1) (called .plan-sheet .ensures)) (c .before .number-of .ensures) (c .place-of .ensures)
+    check-refused words _ _ _ (when-refused words _ _ _ _ (why .given .1) (called .plan-sheet .ensures .0)) (c .before .number-of .ensures) (c .place-of .ensures)
 
 returns-2 : tie.Need-returns-2
 returns-2 c =
     let called = c .before .before .before .before in
     let words = called .before .before .before .before .before .args .words .now in
-    check-made words (when-made words _ _ _ _ (c .before .before .plan .given .1) (called .plan-sheet .ensures))
+    check-made words (when-made words _ _ _ _ (c .before .before .plan .given .1) (called .plan-sheet .ensures .0))
 
 pub check-spec : {M : Type 1} → statement M
 check-spec =

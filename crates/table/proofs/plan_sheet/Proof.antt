@@ -25,10 +25,10 @@ plan-of-requires c κs =
 returns : tie.Need-returns
 returns c =
     let marked : tie.After-mark = search in
-    refused-read _ _ _ (marked .mark .ensures .0) (c .before .why .given .1)
+    (refused-read _ _ _ (marked .mark .ensures .0) (c .before .why .given .1), marked .mark .ensures .1)
 
 returns-2 : tie.Need-returns-2
-returns-2 c = c .plan-of .ensures
+returns-2 c = let marked : tie.After-mark = search in (c .plan-of .ensures, marked .mark .ensures .1)
 
 pub plan-sheet-spec : {M : Type 1} → statement M
 plan-sheet-spec =

@@ -11,7 +11,7 @@ use Rattle.table.proofs.write.Tie as tie
 plan-made : (c : tie.After-plan) → let called = c .before .before in
     PlanMade (called .before .before .before .before .before .before .args .words .now) (c .plan .given .0 .0) (called .plan-sheet .last .1 .0)
     (called .plan-sheet .last .1 .1 .0) (called .plan-sheet .last .1 .1 .1 .0)
-plan-made c = when-made _ _ _ _ _ (c .plan .given .1) (c .before .before .plan-sheet .ensures)
+plan-made c = when-made _ _ _ _ _ (c .plan .given .1) (c .before .before .plan-sheet .ensures .0)
 
 plan-sheet-requires : tie.Need-plan-sheet-requires
 plan-sheet-requires c κs = search needs
@@ -48,7 +48,7 @@ returns-2 c =
     let args = called .before .before .before .before .before .before .args in
     let words = args .words .now in
     let why = c .before .before .before .why in
-    write-refused words (args .table .now) _ _ _ (when-refused words _ _ _ _ (why .given .1) (called .plan-sheet .ensures)) (c .before .number-of .ensures) (c .place-of .ensures)
+    write-refused words (args .table .now) _ _ _ (when-refused words _ _ _ _ (why .given .1) (called .plan-sheet .ensures .0)) (c .before .number-of .ensures) (c .place-of .ensures)
 
 same-length : tie.Need-same-length
 same-length c = search needs

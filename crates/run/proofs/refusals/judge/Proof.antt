@@ -35,21 +35,21 @@ enum-told c = search needs
 
 returns : tie.Need-returns
 returns c =
-    unread _ (subst (PlanSays _ _ _ _) (c .before .before .before .why .given .1) (c .before .before .before .before .before .plan-sheet .ensures))
+    unread _ (subst (PlanSays _ _ _ _) (c .before .before .before .why .given .1) (c .before .before .before .before .before .plan-sheet .ensures .0))
     (record { number = c .before .number-of .ensures; place = c .place-of .ensures })
 
 returns-2 : tie.Need-returns-2
 returns-2 c =
     let judged = c .before .before .before .before in
     let planned = judged .before .before in
-    rooms-refuse _ (subst (PlanSays _ _ _ _) (planned .plan .given .1) (planned .before .before .plan-sheet .ensures))
+    rooms-refuse _ (subst (PlanSays _ _ _ _) (planned .plan .given .1) (planned .before .before .plan-sheet .ensures .0))
     (said (judged .rooms-fit .ensures) (c .before .before .why2 .given .1)) (c .answer-no .ensures)
 
 returns-3 : tie.Need-returns-3
 returns-3 c =
     let judged = c .before .before in
     let planned = judged .before .before in
-    rooms-fit _ (subst (PlanSays _ _ _ _) (planned .plan .given .1) (planned .before .before .plan-sheet .ensures))
+    rooms-fit _ (subst (PlanSays _ _ _ _) (planned .plan .given .1) (planned .before .before .plan-sheet .ensures .0))
     (said (judged .rooms-fit .ensures) (c .enum-told .given .1))
 
 pub judge-spec : {M : Type 1} → statement M
