@@ -66,7 +66,8 @@ module _ {words : List ℕ} {variables first count : ℕ} (laid : Laid words var
       })
 
 -- by the case of the reader's answer
-pub said-by : (answer answer′ : Answer Sheet) (before after : Lent) → answer ≡ answer′ → MarksSaid answer′ before after → MarksSaid answer before after
+pub said-by : (answer answer′ : Answer Sheet) (before after : Lent) → answer ≡ answer′ → MarksSaid answer′ before after
+    → MarksSaid answer before after
 said-by answer answer′ before after is says = subst (λ a. MarksSaid a before after) (sym is) says
 
 -- ---- any two results that the contract of `mark` permits coincide

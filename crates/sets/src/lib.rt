@@ -105,7 +105,8 @@ fn mark_accepted(
     );
 }
 
-// Any words: the reader's answer. An accepted sheet's rows are marked and its block rows' partners found; refused words leave every lent place as it was.
+// Any words: the reader's answer. An accepted sheet's rows are marked and its block rows' partners found.
+// Refused words leave every lent place as it was.
 pub fn mark(
     words: &[u16],
     marks: &mut [u8; sheet::MAX_ROWS],
