@@ -1,29 +1,29 @@
 -- What each row makes of the buffers, over the arithmetic: the row's code has only to say which case it is in.
 use Prim.Native.Nat.{ℕ, suc, _+_, _≤_, _<_}
-use mathlib.Core.Path.{_≡_, refl, sym}
+use mathlib.Core.Path.{_≡_, refl, sym, ap, _∙_}
 use mathlib.Core.Bool.{Bool, true, false}
 use mathlib.Core.List.{List, [], _∷_}
-use mathlib.Core.Option.{some}
+use mathlib.Core.Option.{Option, none, some}
 use native.Mathlib.Omega.{arith}
 use native.Mathlib.Numerals.{add-one}
 use borrow.Author.Tests.{lt-ltb, le-ltb}
 use lib.Dec.{eqb}
-use lib.ListN.{length, getD, set, length-set}
+use lib.ListN.{length, getD, getElem?, set, length-set}
 use Rattle.number.specs.Arithmetic.{Arithmetic}
 use Rattle.number.specs.Doubles.{doubles}
 use Rattle.number.specs.Residues.{residues}
 use Rattle.sheet.specs.Rows.{_≔_}
 use Rattle.table.specs.TableRows.{Action, save, takeBack, saveTurn, clear, assign, turnWord}
-use Rattle.run.specs.Attempts.{through, halted, stuck}
-use Rattle.run.specs.Actions.{Memory, Setting, acted, tested, compared, restored}
-use Rattle.run.specs.inner.RowAnswers.{turnOf, heightBranched}
-use Rattle.run.specs.inner.Buffers.{Buffers, memoryOf, Sound, Does, InBoth, Assigns, Clears, MovesValues, SavesTurn, Compares, TakesTurn, stackOf}
+use Rattle.run.specs.Attempts.{through, halted, stuck, _>>=_, present, look}
+use Rattle.run.specs.Actions.{Memory, Setting, Try, acted, lessOf, tested, compared, restored}
+use Rattle.run.specs.inner.RowAnswers.{branchOf, turnOf, heightBranched}
+use Rattle.run.specs.inner.Buffers.{Buffers, memoryOf, Sound, Does, InBoth, bothOf, Operands, Assigns, Clears, MovesValues, SavesTurn, Compares, TakesTurn, stackOf}
 use Rattle.run.specs.declared.Went.the-variants as went
 use Rattle.run.specs.declared.Moved.the-variants as moved
-use Rattle.run.specs.declared.Branch.the-variants as branch
+use Rattle.run.specs.declared.Branch.{Branch}
 use Rattle.run.specs.declared.Branched.{Branched}
 use Rattle.run.specs.declared.Branched.the-variants as branched
-use Rattle.run.proofs.PlaceLaws.{place-there, place-missing, look-there, look-missing}
+use Rattle.run.proofs.PlaceLaws.{look-there, look-missing}
 use Rattle.run.proofs.StackLaws.{stack-length, stack-top, stack-pushed, stack-below, pushed-on, taken-off}
 
 pub in-both : {P : Arithmetic → Type 0} → ((A : Arithmetic) → P A) → InBoth P
@@ -31,6 +31,12 @@ in-both shown = record { residues = shown residues; doubles = shown doubles }
 
 pub in-both-by : {P Q : Arithmetic → Type 0} → InBoth P → ((A : Arithmetic) → P A → Q A) → InBoth Q
 in-both-by both shown = record { residues = shown residues (both .residues); doubles = shown doubles (both .doubles) }
+
+-- the test of both operands, where they are there
+abbrev lessIn : (A : Arithmetic) → Try A (A .Carrier × A .Carrier) → Option Bool
+lessIn A (through both) = some (A .less (both .0) (both .1))
+lessIn A (halted why) = none
+lessIn A stuck = none
 
 module _ {A : Arithmetic} where
   -- a row that is stuck or stopped leaves the buffers as they are
@@ -223,41 +229,48 @@ module _ {A : Arithmetic} where
               sticks setting (saveTurn first) _ sound (rw (le-ltb _ _ none-left));
         }
 
-  -- ---- kind 7
+  -- ---- the operands of kinds 3 to 5 and 7
 
   module _ {a b : ℕ} {store : List (A .Carrier)} where
-    module _ (z : A .Carrier) (ha : a < length store) (hb : b < length store) where
-      pub compare-first : A .less (getD store a z) (getD store b z) ≡ true → Compares A a b store branch.First
+    pub operands-there : (z : A .Carrier) → a < length store → b < length store → Operands A a b store (through (getD store a z, getD store b z))
+    operands-there z ha hb = record { are = rw (look-there store a z ha, look-there store b z hb) }
+
+    pub first-missing : length store ≤ a → Operands A a b store stuck
+    first-missing h = record { are = rw (look-missing store a h) }
+
+    pub second-missing : a < length store → length store ≤ b → Operands A a b store stuck
+    second-missing ha h = record { are = rw (look-there store a (A .zero) ha, look-missing store b h) }
+
+    module _ {got : Try A (A .Carrier × A .Carrier)} (both : Operands A a b store got) where
+      -- kinds 3 to 5, by what each makes of two operands
+      pub combines : (next : A .Carrier → A .Carrier → Try A (A .Carrier))
+          → (got >>= λ pair. next (pair .0) (pair .1)) ≡ (look store a >>= λ x. look store b >>= λ y. next x y)
+      combines next = rw (both .are) (by-places (getElem? store a) (getElem? store b))
+        where
+          by-places : (p q : Option (A .Carrier))
+              → (bothOf A (present p) (present q) >>= λ pair. next (pair .0) (pair .1))
+              ≡ (present p >>= λ x. present q >>= λ y. next x y)
+          by-places none q = refl
+          by-places (some x) none = refl
+          by-places (some x) (some y) = refl
+
+      -- kind 7
+      pub compares : {picked : Branch} → branchOf picked ≡ lessIn A got → Compares A a b store picked
       unfolding tested compared
-      compare-first is =
+      compares picks =
           record {
             tests = λ setting values height turns turnHeight copied sound.
-                record { meaning = rw (place-there store a z ha, place-there store b z hb, is); sound = sound; unchanged = λ _. refl };
+                record {
+                  meaning = rw (picks ∙ ap (lessIn A) (both .are) ∙ by-places (getElem? store a) (getElem? store b));
+                  sound = sound;
+                  unchanged = λ _. refl;
+                };
           }
-
-      pub compare-second : A .less (getD store a z) (getD store b z) ≡ false → Compares A a b store branch.Second
-      unfolding tested compared
-      compare-second is =
-          record {
-            tests = λ setting values height turns turnHeight copied sound.
-                record { meaning = rw (place-there store a z ha, place-there store b z hb, is); sound = sound; unchanged = λ _. refl };
-          }
-
-    pub compare-first-missing : length store ≤ a → Compares A a b store branch.Stuck
-    unfolding tested compared
-    compare-first-missing h =
-        record {
-          tests = λ setting values height turns turnHeight copied sound.
-              record { meaning = rw (place-missing store a h); sound = sound; unchanged = λ _. refl };
-        }
-
-    pub compare-second-missing : a < length store → length store ≤ b → Compares A a b store branch.Stuck
-    unfolding tested compared
-    compare-second-missing ha h =
-        record {
-          tests = λ setting values height turns turnHeight copied sound.
-              record { meaning = rw (place-there store a (A .zero) ha, place-missing store b h); sound = sound; unchanged = λ _. refl };
-        }
+        where
+          by-places : (p q : Option (A .Carrier)) → lessIn A (bothOf A (present p) (present q)) ≡ lessOf A p q
+          by-places none q = refl
+          by-places (some x) none = refl
+          by-places (some x) (some y) = refl
 
   -- ---- kind 15
 

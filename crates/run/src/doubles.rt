@@ -5,9 +5,9 @@ ghost use Rattle.number.specs.Answers.{outcomeOf};
 ghost use Rattle.number.specs.Doubles.{doubles};
 ghost use Rattle.sheet.specs.Rows.{copy, sum, difference, product, negation, isDependent};
 ghost use Rattle.table.specs.TableRows.{save, takeBack};
-ghost use Rattle.run.specs.inner.RowAnswers.{readDouble, whetherDid};
+ghost use Rattle.run.specs.inner.RowAnswers.{readDouble, pairOfDoubles, whetherDid};
 ghost use Rattle.run.specs.Attempts.{whole};
-ghost use Rattle.run.specs.inner.Buffers.{Evaluates, EvaluatesFixed, Assigns, Clears, MovesValues, Compares, TurnsRound};
+ghost use Rattle.run.specs.inner.Buffers.{Operands, Evaluates, EvaluatesFixed, Assigns, Clears, MovesValues, Compares, TurnsRound};
 ghost use Rattle.run.specs.inner.RowWords.{sourceSaid, EvaluatesSaid};
 ghost use Rattle.run.specs.inner.RowSteps.{ActsBy, StraightRow, BlockRow};
 ghost use Rattle.run.specs.inner.RunsRows.{cellsOf, RunsRows};
@@ -15,6 +15,7 @@ use super::Acted;
 use super::Branch;
 use super::Crossed;
 use super::Did;
+use super::DoublePair;
 use super::DoubleRead;
 use super::Ended;
 use super::Found;
@@ -75,49 +76,49 @@ pub fn fixed(constants: &[u16], c: usize) -> DoubleRead
     }
 }
 
-// Kind 3.
-pub fn added(vals: &[f64], a: Variable, b: Variable) -> DoubleRead
-    ensures { λ r. ⌜ Evaluates doubles (sum (a .0) (b .0)) (now (vals .entry)) (readDouble r) ⌝ }
+// Both operands of kinds 3 to 5 and 7.
+fn operands(vals: &[f64], a: Variable, b: Variable) -> DoublePair
+    ensures { λ r. ⌜ Operands doubles (a .0) (b .0) (now (vals .entry)) (pairOfDoubles r) ⌝ }
 {
     let first = a.0;
     let second = b.0;
     if vals.len() <= first {
-        return DoubleRead::Stuck;
+        return DoublePair::Missing;
     }
     if vals.len() <= second {
-        return DoubleRead::Stuck;
+        return DoublePair::Missing;
     }
-    read_of(double::sum(vals[first], vals[second]))
+    DoublePair::Are(vals[first], vals[second])
+}
+
+// Kind 3.
+pub fn added(vals: &[f64], a: Variable, b: Variable) -> DoubleRead
+    ensures { λ r. ⌜ Evaluates doubles (sum (a .0) (b .0)) (now (vals .entry)) (readDouble r) ⌝ }
+{
+    match operands(vals, a, b) {
+        DoublePair::Are(x, y) => read_of(double::sum(x, y)),
+        DoublePair::Missing => DoubleRead::Stuck,
+    }
 }
 
 // Kind 4.
 pub fn subtracted(vals: &[f64], a: Variable, b: Variable) -> DoubleRead
     ensures { λ r. ⌜ Evaluates doubles (difference (a .0) (b .0)) (now (vals .entry)) (readDouble r) ⌝ }
 {
-    let first = a.0;
-    let second = b.0;
-    if vals.len() <= first {
-        return DoubleRead::Stuck;
+    match operands(vals, a, b) {
+        DoublePair::Are(x, y) => read_of(double::difference(x, y)),
+        DoublePair::Missing => DoubleRead::Stuck,
     }
-    if vals.len() <= second {
-        return DoubleRead::Stuck;
-    }
-    read_of(double::difference(vals[first], vals[second]))
 }
 
 // Kind 5.
 pub fn multiplied(vals: &[f64], a: Variable, b: Variable) -> DoubleRead
     ensures { λ r. ⌜ Evaluates doubles (product (a .0) (b .0)) (now (vals .entry)) (readDouble r) ⌝ }
 {
-    let first = a.0;
-    let second = b.0;
-    if vals.len() <= first {
-        return DoubleRead::Stuck;
+    match operands(vals, a, b) {
+        DoublePair::Are(x, y) => read_of(double::product(x, y)),
+        DoublePair::Missing => DoubleRead::Stuck,
     }
-    if vals.len() <= second {
-        return DoubleRead::Stuck;
-    }
-    read_of(double::product(vals[first], vals[second]))
 }
 
 // Kind 6.
@@ -220,15 +221,10 @@ pub fn take_back(vals: &mut [f64], d: Variable, values: &mut [f64], height: usiz
 pub fn test(vals: &[f64], a: Variable, b: Variable) -> Branch
     ensures { λ r. ⌜ Compares doubles (a .0) (b .0) (now (vals .entry)) r ⌝ }
 {
-    let first = a.0;
-    let second = b.0;
-    if vals.len() <= first {
+    let DoublePair::Are(x, y) = operands(vals, a, b) else {
         return Branch::Stuck;
-    }
-    if vals.len() <= second {
-        return Branch::Stuck;
-    }
-    if double::less(vals[first], vals[second]) {
+    };
+    if double::less(x, y) {
         Branch::First
     } else {
         Branch::Second

@@ -88,6 +88,17 @@ enum DoubleRead {
     Stuck,
 }
 
+// Both operands of a row, where the variables have them.
+enum ResiduePair {
+    Are(u32, u32),
+    Missing,
+}
+
+enum DoublePair {
+    Are(f64, f64),
+    Missing,
+}
+
 // What a row comes to that no arithmetic can stop.
 enum Went {
     On,

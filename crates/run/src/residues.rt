@@ -4,8 +4,8 @@ ghost use mathlib.Core.Path.{_≡_};
 ghost use Rattle.number.specs.Residues.{residues};
 ghost use Rattle.sheet.specs.Rows.{copy, sum, difference, product, negation, isDependent};
 ghost use Rattle.table.specs.TableRows.{save, takeBack};
-ghost use Rattle.run.specs.inner.RowAnswers.{readResidue, whetherWent};
-ghost use Rattle.run.specs.inner.Buffers.{Evaluates, EvaluatesFixed, Assigns, Clears, MovesValues, Compares, TurnsRound};
+ghost use Rattle.run.specs.inner.RowAnswers.{readResidue, pairOfResidues, whetherWent};
+ghost use Rattle.run.specs.inner.Buffers.{Operands, Evaluates, EvaluatesFixed, Assigns, Clears, MovesValues, Compares, TurnsRound};
 ghost use Rattle.run.specs.inner.RowWords.{sourceSaid, EvaluatesSaid};
 ghost use Rattle.run.specs.inner.RowSteps.{ActsBy, StraightRow, BlockRow};
 ghost use Rattle.run.specs.inner.RunsRows.{cellsOf, RunsRows};
@@ -17,6 +17,7 @@ use super::Found;
 use super::Met;
 use super::Moved;
 use super::Place;
+use super::ResiduePair;
 use super::ResidueRead;
 use super::RightSide;
 use super::Straight;
@@ -61,49 +62,49 @@ pub fn fixed(constants: &[u16], c: usize) -> ResidueRead
     }
 }
 
-// Kind 3.
-pub fn added(vals: &[u32], a: Variable, b: Variable) -> ResidueRead
-    ensures { λ r. ⌜ Evaluates residues (sum (a .0) (b .0)) (now (vals .entry)) (readResidue r) ⌝ }
+// Both operands of kinds 3 to 5 and 7.
+fn operands(vals: &[u32], a: Variable, b: Variable) -> ResiduePair
+    ensures { λ r. ⌜ Operands residues (a .0) (b .0) (now (vals .entry)) (pairOfResidues r) ⌝ }
 {
     let first = a.0;
     let second = b.0;
     if vals.len() <= first {
-        return ResidueRead::Stuck;
+        return ResiduePair::Missing;
     }
     if vals.len() <= second {
-        return ResidueRead::Stuck;
+        return ResiduePair::Missing;
     }
-    ResidueRead::Is(residue::sum(vals[first], vals[second]))
+    ResiduePair::Are(vals[first], vals[second])
+}
+
+// Kind 3.
+pub fn added(vals: &[u32], a: Variable, b: Variable) -> ResidueRead
+    ensures { λ r. ⌜ Evaluates residues (sum (a .0) (b .0)) (now (vals .entry)) (readResidue r) ⌝ }
+{
+    match operands(vals, a, b) {
+        ResiduePair::Are(x, y) => ResidueRead::Is(residue::sum(x, y)),
+        ResiduePair::Missing => ResidueRead::Stuck,
+    }
 }
 
 // Kind 4.
 pub fn subtracted(vals: &[u32], a: Variable, b: Variable) -> ResidueRead
     ensures { λ r. ⌜ Evaluates residues (difference (a .0) (b .0)) (now (vals .entry)) (readResidue r) ⌝ }
 {
-    let first = a.0;
-    let second = b.0;
-    if vals.len() <= first {
-        return ResidueRead::Stuck;
+    match operands(vals, a, b) {
+        ResiduePair::Are(x, y) => ResidueRead::Is(residue::difference(x, y)),
+        ResiduePair::Missing => ResidueRead::Stuck,
     }
-    if vals.len() <= second {
-        return ResidueRead::Stuck;
-    }
-    ResidueRead::Is(residue::difference(vals[first], vals[second]))
 }
 
 // Kind 5.
 pub fn multiplied(vals: &[u32], a: Variable, b: Variable) -> ResidueRead
     ensures { λ r. ⌜ Evaluates residues (product (a .0) (b .0)) (now (vals .entry)) (readResidue r) ⌝ }
 {
-    let first = a.0;
-    let second = b.0;
-    if vals.len() <= first {
-        return ResidueRead::Stuck;
+    match operands(vals, a, b) {
+        ResiduePair::Are(x, y) => ResidueRead::Is(residue::product(x, y)),
+        ResiduePair::Missing => ResidueRead::Stuck,
     }
-    if vals.len() <= second {
-        return ResidueRead::Stuck;
-    }
-    ResidueRead::Is(residue::product(vals[first], vals[second]))
 }
 
 // Kind 6.
@@ -199,15 +200,10 @@ pub fn take_back(vals: &mut [u32], d: Variable, values: &mut [u32], height: usiz
 pub fn test(vals: &[u32], a: Variable, b: Variable) -> Branch
     ensures { λ r. ⌜ Compares residues (a .0) (b .0) (now (vals .entry)) r ⌝ }
 {
-    let first = a.0;
-    let second = b.0;
-    if vals.len() <= first {
+    let ResiduePair::Are(x, y) = operands(vals, a, b) else {
         return Branch::Stuck;
-    }
-    if vals.len() <= second {
-        return Branch::Stuck;
-    }
-    if residue::less(vals[first], vals[second]) {
+    };
+    if residue::less(x, y) {
         Branch::First
     } else {
         Branch::Second

@@ -10,7 +10,7 @@ use Rattle.number.specs.Doubles.{doubles}
 use Rattle.number.specs.Residues.{residues}
 use Rattle.sheet.specs.Rows.{Source, fixed, _≔_, less}
 use Rattle.table.specs.TableRows.{Action, assign, saveTurn, clear, turnRound, TableTest, whether, onTurn}
-use Rattle.run.specs.Attempts.{through, _>>=_}
+use Rattle.run.specs.Attempts.{through, _>>=_, look}
 use Rattle.run.specs.Actions.{Memory, Setting, Try, evaluated, acted, tested, verdictOn}
 use Rattle.run.specs.inner.RowAnswers.{whetherWent, whetherMoved, heightAfter, branchOf, turnOf, heightBranched}
 use Rattle.run.specs.declared.Went.{Went}
@@ -84,6 +84,16 @@ module _ (A : Arithmetic) where
 
   abbrev pub EvaluatesFixed : (c : ℕ) → (constants : List ℕ) → Try A (A .Carrier) → Type 0
   EvaluatesFixed c constants got = (store : List (A .Carrier)) → got ≡ evaluated A constants (fixed c) store
+
+  -- both operands of kinds 3 to 5 and 7
+  abbrev pub bothOf : (first second : Try A (A .Carrier)) → Try A (A .Carrier × A .Carrier)
+  bothOf first second = do
+    x ← first
+    y ← second
+    through (x, y)
+
+  pub record Operands (a b : ℕ) (store : List (A .Carrier)) (got : Try A (A .Carrier × A .Carrier)) : Type 0 where
+    pub are : got ≡ bothOf (look store a) (look store b)
 
   -- a row that changes the variables alone
   abbrev pub Stores : (setting : Setting A) → Action → (store after : List (A .Carrier)) → Try A (Unit {0}) → Type 0

@@ -11,6 +11,10 @@ use Rattle.run.specs.declared.ResidueRead.{ResidueRead}
 use Rattle.run.specs.declared.ResidueRead.the-variants as residue-read
 use Rattle.run.specs.declared.DoubleRead.{DoubleRead}
 use Rattle.run.specs.declared.DoubleRead.the-variants as double-read
+use Rattle.run.specs.declared.ResiduePair.{ResiduePair}
+use Rattle.run.specs.declared.ResiduePair.the-variants as residue-pair
+use Rattle.run.specs.declared.DoublePair.{DoublePair}
+use Rattle.run.specs.declared.DoublePair.the-variants as double-pair
 use Rattle.run.specs.declared.Went.{Went}
 use Rattle.run.specs.declared.Went.the-variants as went
 use Rattle.run.specs.declared.Did.{Did}
@@ -30,6 +34,14 @@ abbrev pub readDouble : DoubleRead → Try doubles Float
 readDouble (double-read.Is x) = through x
 readDouble double-read.Stopped = halted notFinite
 readDouble double-read.Stuck = stuck
+
+abbrev pub pairOfResidues : ResiduePair → Try residues (ℕ × ℕ)
+pairOfResidues (residue-pair.Are x y) = through (x, y)
+pairOfResidues residue-pair.Missing = stuck
+
+abbrev pub pairOfDoubles : DoublePair → Try doubles (Float × Float)
+pairOfDoubles (double-pair.Are x y) = through (x, y)
+pairOfDoubles double-pair.Missing = stuck
 
 abbrev pub whetherDid : Did → Try doubles (Unit {0})
 whetherDid did.On = through tt

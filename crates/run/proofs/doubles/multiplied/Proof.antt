@@ -1,37 +1,18 @@
--- `run::doubles::multiplied` meets its contract: both places are there, or the first that isn't is where it is stuck.
+-- `run::doubles::multiplied` meets its contract.
 use mathlib.Core.Path.{ap, _∙_}
-use lib.Ieee.{nan}
 use Rattle.number.specs.Doubles.{doubles}
 use Rattle.run.specs.Attempts.{whole}
 use Rattle.run.specs.Actions.{evaluated}
-use Rattle.run.proofs.PlaceLaws.{operands-there, first-missing, second-missing}
+use Rattle.run.proofs.RowLaws.{combines}
 use borrow.Author.Needs.{needs}
 use Rattle.run.proofs.doubles.multiplied.Statement.{statement}
 use Rattle.run.proofs.doubles.multiplied.Tie as tie
 
-returns : tie.Need-returns
-unfolding evaluated
-returns c constants =
-    let args = c .before .before .args in
-    first-missing (args .vals .now) (λ x y. whole (doubles .product x y)) (args .a .0) (args .b .0) (c .if1 .taken)
+operands-requires : tie.Need-operands-requires
+operands-requires c κs = search needs
 
-returns-2 : tie.Need-returns-2
-unfolding evaluated
-returns-2 c constants =
-    let args = c .before .before .before .args in
-    second-missing (args .vals .now) (λ x y. whole (doubles .product x y)) (args .a .0) (args .b .0) nan (c .before .if1 .left) (c .if2 .taken)
-
-mul-product : tie.Need-mul-product
-mul-product c = search needs
-
-shared-slice-read-product : tie.Need-shared-slice-read-product
-shared-slice-read-product c = search needs
-
-mul-product-2 : tie.Need-mul-product-2
-mul-product-2 c = search needs
-
-shared-slice-read-product-2 : tie.Need-shared-slice-read-product-2
-shared-slice-read-product-2 c = search needs
+enum-known-x : tie.Need-enum-known-x
+enum-known-x c = search needs
 
 product-requires : tie.Need-product-requires
 product-requires c κs = search needs
@@ -39,26 +20,20 @@ product-requires c κs = search needs
 read-of-requires : tie.Need-read-of-requires
 read-of-requires c κs = search needs
 
-returns-3 : tie.Need-returns-3
+enum-told : tie.Need-enum-told
+enum-told c = search needs
+
+returns : tie.Need-returns
 unfolding evaluated
-returns-3 c constants =
-    let args = c .before .before .before .before .before .before .before .args in
+returns c constants =
     c .read-of .ensures
     ∙ ap whole (c .before .product .ensures)
-    ∙ operands-there (args .vals .now) (λ x y. whole (doubles .product x y)) (args .a .0) (args .b .0) nan
-    (c .before .before .before .before .before .if1 .left)
-    (c .before .before .before .before .if2 .left)
+    ∙ combines (rw (c .before .before .before .x .given .1) at (c .before .before .before .before .before .operands .ensures))
+    (λ x y. whole (doubles .product x y))
+
+returns-2 : tie.Need-returns-2
+unfolding evaluated
+returns-2 c constants = combines (rw (c .enum-told .given .1) at (c .before .before .operands .ensures)) (λ x y. whole (doubles .product x y))
 
 pub multiplied-spec : {M : Type 1} → statement M
-multiplied-spec =
-    tie.close
-    (tie.spec
-    returns
-    returns-2
-    mul-product
-    shared-slice-read-product
-    mul-product-2
-    shared-slice-read-product-2
-    product-requires
-    read-of-requires
-    returns-3)
+multiplied-spec = tie.close (tie.spec operands-requires enum-known-x product-requires read-of-requires enum-told returns returns-2)

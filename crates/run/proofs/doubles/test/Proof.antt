@@ -1,47 +1,35 @@
 -- `run::doubles::test` meets its contract.
-use mathlib.Core.Path.{sym, _∙_}
+use mathlib.Core.Path.{refl, sym, ap, _∙_}
+use mathlib.Core.Option.{some}
 use borrow.Author.Needs.{needs}
-use Rattle.run.proofs.RowLaws.{compare-first, compare-second, compare-first-missing, compare-second-missing}
+use Rattle.run.proofs.RowLaws.{compares}
 use Rattle.run.proofs.doubles.test.Statement.{statement}
 use Rattle.run.proofs.doubles.test.Tie as tie
 
+operands-requires : tie.Need-operands-requires
+operands-requires c κs = search needs
+
+enum-known-x : tie.Need-enum-known-x
+enum-known-x c = search needs
+
+enum-told : tie.Need-enum-told
+enum-told c = search needs
+
 returns : tie.Need-returns
-returns c = compare-first-missing (c .if1 .taken)
-
-returns-2 : tie.Need-returns-2
-returns-2 c = compare-second-missing (c .before .if1 .left) (c .if2 .taken)
-
-mul-less : tie.Need-mul-less
-mul-less c = search needs
-
-shared-slice-read-less : tie.Need-shared-slice-read-less
-shared-slice-read-less c = search needs
-
-mul-less-2 : tie.Need-mul-less-2
-mul-less-2 c = search needs
-
-shared-slice-read-less-2 : tie.Need-shared-slice-read-less-2
-shared-slice-read-less-2 c = search needs
+returns c = compares (rw (c .enum-told .given .1) at (c .before .before .operands .ensures)) refl
 
 less-requires : tie.Need-less-requires
 less-requires c κs = search needs
 
-returns-3 : tie.Need-returns-3
-returns-3 c = compare-first _ (search needs) (search needs) (sym (c .before .less .ensures) ∙ c .if3 .taken)
+returns-2 : tie.Need-returns-2
+returns-2 c =
+    compares (rw (c .before .before .before .x .given .1) at (c .before .before .before .before .before .operands .ensures))
+    (ap some (sym (c .if1 .taken) ∙ c .before .less .ensures))
 
-returns-4 : tie.Need-returns-4
-returns-4 c = compare-second _ (search needs) (search needs) (sym (c .before .less .ensures) ∙ c .if3 .left)
+returns-3 : tie.Need-returns-3
+returns-3 c =
+    compares (rw (c .before .before .before .x .given .1) at (c .before .before .before .before .before .operands .ensures))
+    (ap some (sym (c .if1 .left) ∙ c .before .less .ensures))
 
 pub test-spec : {M : Type 1} → statement M
-test-spec =
-    tie.close
-    (tie.spec
-    returns
-    returns-2
-    mul-less
-    shared-slice-read-less
-    mul-less-2
-    shared-slice-read-less-2
-    less-requires
-    returns-3
-    returns-4)
+test-spec = tie.close (tie.spec operands-requires enum-known-x enum-told returns less-requires returns-2 returns-3)

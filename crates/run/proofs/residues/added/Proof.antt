@@ -1,58 +1,35 @@
--- `run::residues::added` meets its contract: both places are there, or the first that isn't is where it is stuck.
+-- `run::residues::added` meets its contract.
 use mathlib.Core.Path.{ap, _∙_}
 use Rattle.number.specs.Residues.{residues}
 use Rattle.run.specs.Attempts.{whole}
 use Rattle.run.specs.Actions.{evaluated}
-use Rattle.run.proofs.PlaceLaws.{operands-there, first-missing, second-missing}
+use Rattle.run.proofs.RowLaws.{combines}
 use borrow.Author.Needs.{needs}
 use Rattle.run.proofs.residues.added.Statement.{statement}
 use Rattle.run.proofs.residues.added.Tie as tie
 
-returns : tie.Need-returns
-unfolding evaluated
-returns c constants =
-    let args = c .before .before .args in
-    first-missing (args .vals .now) (λ x y. whole (residues .sum x y)) (args .a .0) (args .b .0) (c .if1 .taken)
+operands-requires : tie.Need-operands-requires
+operands-requires c κs = search needs
 
-returns-2 : tie.Need-returns-2
-unfolding evaluated
-returns-2 c constants =
-    let args = c .before .before .before .args in
-    second-missing (args .vals .now) (λ x y. whole (residues .sum x y)) (args .a .0) (args .b .0) 0 (c .before .if1 .left) (c .if2 .taken)
-
-mul-sum : tie.Need-mul-sum
-mul-sum c = search needs
-
-shared-slice-read-sum : tie.Need-shared-slice-read-sum
-shared-slice-read-sum c = search needs
-
-mul-sum-2 : tie.Need-mul-sum-2
-mul-sum-2 c = search needs
-
-shared-slice-read-sum-2 : tie.Need-shared-slice-read-sum-2
-shared-slice-read-sum-2 c = search needs
+enum-known-x : tie.Need-enum-known-x
+enum-known-x c = search needs
 
 sum-requires : tie.Need-sum-requires
 sum-requires c κs = search needs
 
-returns-3 : tie.Need-returns-3
+enum-told : tie.Need-enum-told
+enum-told c = search needs
+
+returns : tie.Need-returns
 unfolding evaluated
-returns-3 c constants =
-    let args = c .before .before .before .before .before .before .args in
+returns c constants =
     ap whole (c .sum .ensures)
-    ∙ operands-there (args .vals .now) (λ x y. whole (residues .sum x y)) (args .a .0) (args .b .0) 0
-    (c .before .before .before .before .if1 .left)
-    (c .before .before .before .if2 .left)
+    ∙ combines (rw (c .before .before .x .given .1) at (c .before .before .before .before .operands .ensures))
+    (λ x y. whole (residues .sum x y))
+
+returns-2 : tie.Need-returns-2
+unfolding evaluated
+returns-2 c constants = combines (rw (c .enum-told .given .1) at (c .before .before .operands .ensures)) (λ x y. whole (residues .sum x y))
 
 pub added-spec : {M : Type 1} → statement M
-added-spec =
-    tie.close
-    (tie.spec
-    returns
-    returns-2
-    mul-sum
-    shared-slice-read-sum
-    mul-sum-2
-    shared-slice-read-sum-2
-    sum-requires
-    returns-3)
+added-spec = tie.close (tie.spec operands-requires enum-known-x sum-requires enum-told returns returns-2)
