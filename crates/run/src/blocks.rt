@@ -1,55 +1,21 @@
 // The rows of blocks but for the comparison, which no arithmetic has a part in. `next` is the place of the row after the one at hand.
-ghost use mathlib.Core.Path.{_≡_};
 ghost use Rattle.sheet.specs.Answers.{rowSaid};
 ghost use Rattle.run.specs.inner.Buffers.{InBoth};
-ghost use Rattle.run.specs.inner.RowSteps.{moved, within, raised, JumpsTo, BranchesTo, TurnsTo, Opens, Closes, CrossesBy};
+ghost use Rattle.run.specs.inner.RowSteps.{JumpsTo, BranchesTo, TurnsTo, Opens, Closes, CrossesBy};
 use super::Branch;
 use super::Branched;
 use super::Crossed;
 use super::Ended;
 use super::Place;
+use super::places::moved;
+use super::places::raised;
+use super::places::within;
 use super::turns::test_turn;
 use sheet::MAX_DEPTH;
 use sheet::RowNumber;
 use sheet::RowWords;
 use sheet::kinds;
 use sheet::wide;
-
-fn moved(place: Place, at: usize) -> Place
-    ensures { λ r. ⌜ r ≡ moved place at ⌝ }
-{
-    Place {
-        at,
-        depth: place.depth,
-        values: place.values,
-        turns: place.turns,
-        left: place.left,
-    }
-}
-
-fn within(place: Place, depth: usize) -> Place
-    ensures { λ r. ⌜ r ≡ within place depth ⌝ }
-{
-    Place {
-        at: place.at,
-        depth,
-        values: place.values,
-        turns: place.turns,
-        left: place.left,
-    }
-}
-
-fn turned(place: Place, height: usize) -> Place
-    ensures { λ r. ⌜ r ≡ raised place (place .values) height ⌝ }
-{
-    Place {
-        at: place.at,
-        depth: place.depth,
-        values: place.values,
-        turns: height,
-        left: place.left,
-    }
-}
 
 // From an "if" past its "else", or from an "else" past its "end if".
 fn jump(beyond: &[u16], at: RowNumber, next: Place) -> Crossed
@@ -79,8 +45,8 @@ fn turn_to(branched: Branched, beyond: &[u16], at: RowNumber, next: Place) -> Cr
     ensures { λ r. ⌜ TurnsTo (now (beyond .entry)) (at .0) next branched r ⌝ }
 {
     match branched {
-        Branched::First(height) => Crossed::On(turned(next, height)),
-        Branched::Second(height) => jump(beyond, at, turned(next, height)),
+        Branched::First(height) => Crossed::On(raised(next, next.values, height)),
+        Branched::Second(height) => jump(beyond, at, raised(next, next.values, height)),
         Branched::Stuck => Crossed::Out(Ended::Stuck),
     }
 }

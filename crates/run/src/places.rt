@@ -1,6 +1,6 @@
-// The place that a straight row leads to, from what its code answered.
+// Places, which no other module builds, and the place that a straight row leads to, from what its code answered.
 ghost use mathlib.Core.Path.{_≡_};
-ghost use Rattle.run.specs.inner.RowSteps.{wentTo, didTo, valuesTo, turnsTo, firstPlace, following, isOfBlock};
+ghost use Rattle.run.specs.inner.RowSteps.{wentTo, didTo, valuesTo, turnsTo, firstPlace, following, moved, within, raised, isOfBlock};
 use super::Acted;
 use super::Did;
 use super::Moved;
@@ -32,13 +32,7 @@ pub fn values_to(moved: Moved, next: Place) -> Acted
     ensures { λ r. ⌜ r ≡ valuesTo moved next ⌝ }
 {
     match moved {
-        Moved::To(height) => Acted::On(Place {
-            at: next.at,
-            depth: next.depth,
-            values: height,
-            turns: next.turns,
-            left: next.left,
-        }),
+        Moved::To(height) => Acted::On(raised(next, height, next.turns)),
         Moved::Stuck => Acted::Stuck,
     }
 }
@@ -48,13 +42,7 @@ pub fn turns_to(moved: Moved, next: Place) -> Acted
     ensures { λ r. ⌜ r ≡ turnsTo moved next ⌝ }
 {
     match moved {
-        Moved::To(height) => Acted::On(Place {
-            at: next.at,
-            depth: next.depth,
-            values: next.values,
-            turns: height,
-            left: next.left,
-        }),
+        Moved::To(height) => Acted::On(raised(next, next.values, height)),
         Moved::Stuck => Acted::Stuck,
     }
 }
@@ -81,6 +69,39 @@ pub fn following(place: Place, at: usize, left: usize) -> Place
         values: place.values,
         turns: place.turns,
         left,
+    }
+}
+
+// The same place at another row.
+pub fn moved(place: Place, at: usize) -> Place
+    ensures { λ r. ⌜ r ≡ moved place at ⌝ }
+{
+    following(place, at, place.left)
+}
+
+// The same place with another number of open repeats.
+pub fn within(place: Place, depth: usize) -> Place
+    ensures { λ r. ⌜ r ≡ within place depth ⌝ }
+{
+    Place {
+        at: place.at,
+        depth,
+        values: place.values,
+        turns: place.turns,
+        left: place.left,
+    }
+}
+
+// The same place with other heights of the two stacks.
+pub fn raised(place: Place, values: usize, turns: usize) -> Place
+    ensures { λ r. ⌜ r ≡ raised place values turns ⌝ }
+{
+    Place {
+        at: place.at,
+        depth: place.depth,
+        values,
+        turns,
+        left: place.left,
     }
 }
 

@@ -8,14 +8,14 @@ use Rattle.run.proofs.blocks.turn_to.Tie as tie
 enum-known-branched : tie.Need-enum-known-branched
 enum-known-branched c = search needs
 
-turned-requires : tie.Need-turned-requires
-turned-requires c κs = search needs
+raised-requires : tie.Need-raised-requires
+raised-requires c κs = search needs
 
 enum-known-branched-2 : tie.Need-enum-known-branched-2
 enum-known-branched-2 c = search needs
 
-turned-requires-2 : tie.Need-turned-requires-2
-turned-requires-2 c κs = search needs
+raised-requires-2 : tie.Need-raised-requires-2
+raised-requires-2 c κs = search needs
 
 jump-requires : tie.Need-jump-requires
 jump-requires c κs = search needs
@@ -24,10 +24,10 @@ enum-told : tie.Need-enum-told
 enum-told c = search needs
 
 returns : tie.Need-returns
-returns c = rw (c .before .before .branched .given .1) (ap crossed.On (c .turned .ensures))
+returns c = rw (c .before .before .branched .given .1) (ap crossed.On (c .raised .ensures))
 
 returns-2 : tie.Need-returns-2
-returns-2 c = rw (c .before .before .before .branched2 .given .1) (rw (c .before .turned2 .ensures) at (c .jump .ensures))
+returns-2 c = rw (c .before .before .before .branched2 .given .1) (rw (c .before .raised2 .ensures) at (c .jump .ensures))
 
 returns-3 : tie.Need-returns-3
 returns-3 c = rw (c .enum-told .given .1)
@@ -37,9 +37,9 @@ turn-to-spec =
     tie.close
     (tie.spec
     enum-known-branched
-    turned-requires
+    raised-requires
     enum-known-branched-2
-    turned-requires-2
+    raised-requires-2
     jump-requires
     enum-told
     returns
