@@ -13,7 +13,7 @@ use Rattle.sheet.specs.Bounds.{limit}
 use Rattle.sheet.specs.Refusals.{Answer, refused, given, _>>=_, badRow, badBlock}
 use Rattle.sheet.specs.Tree.{basic, ifLine, elseLine, endIf, repeat, endRepeat}
 use Rattle.sheet.specs.Rows.{SheetLine, Row, Slot, variable, constant, turns, unused, fits, Kind, kindOf, wordsFit}
-use Rattle.sheet.specs.Reading.{unless, Item, Block, inFirst, inSecond, inRepeat, Progress, lineBy, lineOf, entered, splitAt, ifEndedAt, repeatEndedAt, taken}
+use Rattle.sheet.specs.Reading.{unless, Item, Block, inFirst, inSecond, inRepeat, RowsTaken, lineBy, lineOf, entered, splitAt, ifEndedAt, repeatEndedAt, taken}
 use Rattle.sheet.proofs.Judgements.{Tells, leb-tells, eqb-tells, both-tell, judged, _andThen_, passes, refuses, after-given, after-refused}
 use Rattle.claims.specs.ExactlyWhen.{Fits, Says, Opening, firstBranch, secondBranch, repeatBody, Takes, assigns, opensIf, splitsIf, closesIf, opensRepeat, closesRepeat}
 
@@ -125,12 +125,12 @@ same-effect endRepeat (firstBranch ∷ outer) after after′ e e′ = absurd e
 same-effect endRepeat (secondBranch ∷ outer) after after′ e e′ = absurd e
 same-effect endRepeat (repeatBody ∷ outer) after after′ e e′ = cc
 
-pub record Taken (line : SheetLine) (blocks : List Block) (answer : Answer Progress) : Type 0 where
-  pub progress : Progress
+pub record Taken (line : SheetLine) (blocks : List Block) (answer : Answer RowsTaken) : Type 0 where
+  pub progress : RowsTaken
   pub is : answer ≡ given progress
   pub takes : Takes line (shape blocks) (shape (progress .blocks))
 
-abbrev pub TakeJudged : SheetLine → (place : ℕ) → List Block → Answer Progress → Type 0
+abbrev pub TakeJudged : SheetLine → (place : ℕ) → List Block → Answer RowsTaken → Type 0
 TakeJudged line place blocks answer =
     Taken line blocks answer ⊎ ((answer ≡ refused (badBlock place)) × ((after : List Opening) → ¬ Takes line (shape blocks) after))
 

@@ -8,7 +8,7 @@ use Rattle.sheet.specs.Bounds.{limit}
 use Rattle.sheet.specs.Refusals.{Answer, refused, given, badRow, badBlock}
 use Rattle.sheet.specs.Tree.{Tree, done}
 use Rattle.sheet.specs.Rows.{Assignment, Test, SheetLine}
-use Rattle.sheet.specs.Reading.{rowsAt, Item, Block, closed, Progress, taken, bodyOf}
+use Rattle.sheet.specs.Reading.{rowsAt, Item, Block, closed, RowsTaken, taken, bodyOf}
 use Rattle.sheet.proofs.Judgements.{_andThen_}
 use Rattle.claims.specs.ExactlyWhen.{rows, Opening, Takes, variableCount, constantCount, rowCount, rowPlace, rowNo, sheetRows, firstItem, afterRows, RowsReached, RowSays, OpenAfter, start, next, rowSaysNothing, blockWrong, neverClosed}
 use Rattle.claims.proofs.SectionsJudged.{SomeRule}
@@ -37,7 +37,7 @@ module _ (words : List ℕ) where
   unfolding bodyOf rowsAt
   block-refused i left blocks items line says e = rw (line-given _ _ _ (rowPlace words i) says, e)
 
-  row-taken : (i left : ℕ) (blocks : List Block) (items : List Item) (line : SheetLine) (now : Progress) → RowSays words i line
+  row-taken : (i left : ℕ) (blocks : List Block) (items : List Item) (line : SheetLine) (now : RowsTaken) → RowSays words i line
       → taken line (rowPlace words i) blocks items ≡ given now
       → rest i (suc left) blocks items ≡ rest (suc i) left (now .blocks) (now .items)
   unfolding bodyOf rowsAt
@@ -127,7 +127,7 @@ module _ (words : List ℕ) where
     abbrev Further : ℕ → Type 0
     Further i = (blocks : List Block) × OpenAfter words i (shape blocks)
 
-    line-taken : (i : ℕ) (blocks : List Block) (line : SheetLine) {answer : Answer Progress} → i < rowCount words → OpenAfter words i (shape blocks)
+    line-taken : (i : ℕ) (blocks : List Block) (line : SheetLine) {answer : Answer RowsTaken} → i < rowCount words → OpenAfter words i (shape blocks)
         → RowSays words i line → TakeJudged line (rowPlace words i) blocks answer → Further (suc i) ⊎ SomeRule words
     line-taken i blocks line more now says (inl took) = inl (took .progress .blocks, next now says (took .takes))
     line-taken i blocks line more now says (inr wrong) = inr (_, blockWrong i (shape blocks) line reached more now says (wrong .1))

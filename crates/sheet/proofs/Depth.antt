@@ -8,7 +8,7 @@ use Rattle.sheet.specs.Bounds.{limit}
 use Rattle.sheet.specs.Refusals.{given}
 use Rattle.sheet.specs.Tree.{Tree, done, one, fork, again}
 use Rattle.sheet.specs.Rows.{Assignment, Test, SheetLine, Row}
-use Rattle.sheet.specs.Reading.{Item, row, branches, repeated, Block, inFirst, inSecond, inRepeat, closed, Progress}
+use Rattle.sheet.specs.Reading.{Item, row, branches, repeated, Block, inFirst, inSecond, inRepeat, closed, RowsTaken}
 use Rattle.sheet.specs.Reading.{Sheet, lineOf, taken, bodyOf, read}
 use Rattle.sheet.proofs.ReadingParts.{not-given, bound, same-given, accepted}
 use Rattle.sheet.proofs.LinesTaken.{Takes, adds, opensIf, splits, endsIf, opensRepeat, endsRepeat, takes}
@@ -44,13 +44,13 @@ BlocksFit (inFirst f outer ∷ blocks) = Inside blocks (itemsDeep outer) × Bloc
 BlocksFit (inSecond f a outer ∷ blocks) = Inside blocks (itemsDeep outer) × Inside blocks (suc (deep a)) × BlocksFit blocks
 BlocksFit (inRepeat m outer ∷ blocks) = Inside blocks (itemsDeep outer) × BlocksFit blocks
 
-record Fits (next : Progress) : Type 0 where
+record Fits (next : RowsTaken) : Type 0 where
   blocks : BlocksFit (next .blocks)
   items : Inside (next .blocks) (itemsDeep (next .items))
 
 -- ---- one row more
 
-taken-fits : {l : SheetLine} {blocks : List Block} {items : List Item} {next : Progress} → Takes l blocks items next → BlocksFit blocks
+taken-fits : {l : SheetLine} {blocks : List Block} {items : List Item} {next : RowsTaken} → Takes l blocks items next → BlocksFit blocks
     → Inside blocks (itemsDeep items) → Fits next
 unfolding BlocksFit itemsDeep deep
 taken-fits adds hb hi = record { blocks = hb; items = hi }

@@ -13,7 +13,7 @@ use Rattle.sheet.specs.Refusals.{Refusal, Answer, refused, given, _>>=_,
 use Rattle.sheet.specs.Tree.{Tree, done, one, fork, again, basic, ifLine, elseLine, endIf, repeat, endRepeat}
 use Rattle.sheet.specs.Rows.{Assignment, Test, SheetLine, Row, Kind, kindOf, wordsFit}
 use Rattle.sheet.specs.LongestRun.{longestRun}
-use Rattle.sheet.specs.Reading.{Item, row, branches, repeated, Block, inFirst, inSecond, inRepeat, closed, Progress}
+use Rattle.sheet.specs.Reading.{Item, row, branches, repeated, Block, inFirst, inSecond, inRepeat, closed, RowsTaken}
 use Rattle.sheet.specs.Reading.{unless, lineBy, lineOf, entered, splitAt, ifEndedAt, repeatEndedAt, taken}
 use Rattle.sheet.specs.inner.Steps.{partOf, saturated, enterOf, splitOf, ifEndOf, repeatEndOf, stepOf, stepOr}
 use Rattle.sheet.specs.declared.Open.{Open}
@@ -78,15 +78,15 @@ stand-set levels i l (b ∷ blocks) h s =
 -- ---- one row more
 
 -- the answer of one row, and the level that is being read after it
-pub record Next (answer : Answer Progress) (depth : ℕ) (l : Level) (Stands : List Block → Type 0) : Type 0 where
-  pub next : Progress
+pub record Next (answer : Answer RowsTaken) (depth : ℕ) (l : Level) (Stands : List Block → Type 0) : Type 0 where
+  pub next : RowsTaken
   pub is : answer ≡ given next
   pub deep : length (next .blocks) ≡ depth
   pub here : l ≡ levelOf (next .blocks) (next .items)
   pub stands : Stands (next .blocks)
 
 -- what a step has to say of the row's answer: blocks of some depth, with their levels, were open before
-abbrev pub Follows : (place depth : ℕ) (levels : List Level) (inner : Level) → Step → Answer Progress → Type 0
+abbrev pub Follows : (place depth : ℕ) (levels : List Level) (inner : Level) → Step → Answer RowsTaken → Type 0
 Follows place depth levels inner step.BadRow answer = answer ≡ refused (badRow place)
 Follows place depth levels inner step.BadBlock answer = answer ≡ refused (badBlock place)
 Follows place depth levels inner (step.Stay l) answer = Next answer depth l (Stand levels)
@@ -172,7 +172,7 @@ module _ (place : ℕ) (levels : List Level) where
   )
 
   module _ (blocks : List Block) (items : List Item) (stands : Stand levels blocks) where
-    abbrev FollowedBy : Step → Answer Progress → Type 0
+    abbrev FollowedBy : Step → Answer RowsTaken → Type 0
     FollowedBy = Follows place (length blocks) levels (levelOf blocks items)
 
     line-follows : (line : SheetLine)

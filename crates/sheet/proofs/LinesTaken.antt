@@ -8,7 +8,7 @@ use Rattle.sheet.specs.Bounds.{limit}
 use Rattle.sheet.specs.Refusals.{given, badBlock}
 use Rattle.sheet.specs.Tree.{Tree, done, basic, ifLine, elseLine, endIf, repeat, endRepeat}
 use Rattle.sheet.specs.Rows.{Assignment, Test, SheetLine}
-use Rattle.sheet.specs.Reading.{unless, Item, row, branches, repeated, Block, inFirst, inSecond, inRepeat, closed, Progress}
+use Rattle.sheet.specs.Reading.{unless, Item, row, branches, repeated, Block, inFirst, inSecond, inRepeat, closed, RowsTaken}
 use Rattle.sheet.specs.Reading.{entered, splitAt, ifEndedAt, repeatEndedAt, taken}
 use Rattle.sheet.proofs.Judgements.{ltb-tells}
 use Rattle.sheet.proofs.ReadingParts.{bound, passed, same-given, not-given}
@@ -16,7 +16,7 @@ use Rattle.sheet.proofs.ReadingParts.{bound, passed, same-given, not-gi
 abbrev Body : Type 0
 Body = Tree Assignment Test
 
-pub data Takes : SheetLine → List Block → List Item → Progress → Type 0 where
+pub data Takes : SheetLine → List Block → List Item → RowsTaken → Type 0 where
   adds : {b : Assignment} {blocks : List Block} {items : List Item}
       → Takes (basic b) blocks items (record { blocks = blocks; items = row b ∷ items })
   opensIf : {f : Test} {blocks : List Block} {items : List Item} → length blocks < limit .depth
@@ -31,18 +31,18 @@ pub data Takes : SheetLine → List Block → List Item → Progress → Type 0 
       → Takes endRepeat (inRepeat m outer ∷ blocks) items (record { blocks = blocks; items = repeated m (closed items done) ∷ outer })
 
 -- a block that is entered has room, and nothing has been read in it
-record Entered (block : Block) (blocks : List Block) (next : Progress) : Type 0 where
+record Entered (block : Block) (blocks : List Block) (next : RowsTaken) : Type 0 where
   room : length blocks < limit .depth
   is : record { blocks = block ∷ blocks; items = [] } ≡ next
 
-enters : (block : Block) (place : ℕ) (blocks : List Block) (next : Progress) → entered block place blocks ≡ given next → Entered block blocks next
+enters : (block : Block) (place : ℕ) (blocks : List Block) (next : RowsTaken) → entered block place blocks ≡ given next → Entered block blocks next
 unfolding entered
 enters block place blocks next e =
     let test = ltb (length blocks) (limit .depth) in
     let c = bound (unless test (badBlock place)) _ next e in
     record { room = ltb-tells _ _ .0 (passed test (badBlock place) (c .1)); is = same-given (c .2) }
 
-split-takes : (place : ℕ) (blocks : List Block) (items : List Item) (next : Progress) → splitAt place blocks items ≡ given next
+split-takes : (place : ℕ) (blocks : List Block) (items : List Item) (next : RowsTaken) → splitAt place blocks items ≡ given next
     → Takes elseLine blocks items next
 unfolding splitAt
 split-takes place [] items next e = not-given e
@@ -50,7 +50,7 @@ split-takes place (inFirst f outer ∷ blocks) items next e = subst (Takes _ _ i
 split-takes place (inSecond f a outer ∷ blocks) items next e = not-given e
 split-takes place (inRepeat m outer ∷ blocks) items next e = not-given e
 
-if-ended-takes : (place : ℕ) (blocks : List Block) (items : List Item) (next : Progress) → ifEndedAt place blocks items ≡ given next
+if-ended-takes : (place : ℕ) (blocks : List Block) (items : List Item) (next : RowsTaken) → ifEndedAt place blocks items ≡ given next
     → Takes endIf blocks items next
 unfolding ifEndedAt
 if-ended-takes place [] items next e = not-given e
@@ -58,7 +58,7 @@ if-ended-takes place (inFirst f outer ∷ blocks) items next e = not-given e
 if-ended-takes place (inSecond f a outer ∷ blocks) items next e = subst (Takes _ _ items) (same-given e) endsIf
 if-ended-takes place (inRepeat m outer ∷ blocks) items next e = not-given e
 
-repeat-ended-takes : (place : ℕ) (blocks : List Block) (items : List Item) (next : Progress) → repeatEndedAt place blocks items ≡ given next
+repeat-ended-takes : (place : ℕ) (blocks : List Block) (items : List Item) (next : RowsTaken) → repeatEndedAt place blocks items ≡ given next
     → Takes endRepeat blocks items next
 unfolding repeatEndedAt
 repeat-ended-takes place [] items next e = not-given e
@@ -66,7 +66,7 @@ repeat-ended-takes place (inFirst f outer ∷ blocks) items next e = not-given e
 repeat-ended-takes place (inSecond f a outer ∷ blocks) items next e = not-given e
 repeat-ended-takes place (inRepeat m outer ∷ blocks) items next e = subst (Takes _ _ items) (same-given e) endsRepeat
 
-pub takes : (l : SheetLine) (place : ℕ) (blocks : List Block) (items : List Item) (next : Progress) → taken l place blocks items ≡ given next
+pub takes : (l : SheetLine) (place : ℕ) (blocks : List Block) (items : List Item) (next : RowsTaken) → taken l place blocks items ≡ given next
     → Takes l blocks items next
 unfolding taken
 takes (basic b) place blocks items next e = subst (Takes _ blocks items) (same-given e) adds

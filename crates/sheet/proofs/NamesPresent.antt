@@ -14,7 +14,7 @@ use Rattle.sheet.specs.Tree.{Tree, done, one, fork, again, basic, ifLine
 use Rattle.sheet.specs.Rows.{Assignment, Test, SheetLine, Row, variable, constant, fits, Kind, kindOf, wordsFit}
 use Rattle.sheet.specs.Names.{SourcePresent, AssignmentPresent, TestPresent, Present}
 use Rattle.sheet.specs.Reading.{Sheet, unless, countAt, lineBy, lineOf, taken, bodyOf, read}
-use Rattle.sheet.specs.Reading.{Item, row, branches, repeated, Block, inFirst, inSecond, inRepeat, closed, Progress}
+use Rattle.sheet.specs.Reading.{Item, row, branches, repeated, Block, inFirst, inSecond, inRepeat, closed, RowsTaken}
 use Rattle.sheet.proofs.Judgements.{leb-tells, ltb-tells}
 use Rattle.sheet.proofs.EachKind.{each-kind, _then_, end}
 use Rattle.sheet.proofs.ReadingParts.{not-given, bound, passed, same-given, Accepted, accepted}
@@ -47,7 +47,7 @@ module _ (v k : ℕ) where
   BlocksPresent (inSecond f a outer ∷ blocks) = TestPresent v f × Present v k a × ItemsPresent outer × BlocksPresent blocks
   BlocksPresent (inRepeat m outer ∷ blocks) = ItemsPresent outer × BlocksPresent blocks
 
-  record ReadPresent (next : Progress) : Type 0 where
+  record ReadPresent (next : RowsTaken) : Type 0 where
     blocks : BlocksPresent (next .blocks)
     items : ItemsPresent (next .items)
 
@@ -104,7 +104,7 @@ module _ (v k : ℕ) where
   unfolding lineOf
   line-present r place l e = line-by-present r place l (kindOf (r .kind)) (names (r .d) (r .a) (r .b) (r .kind)) e
 
-  taken-present : {l : SheetLine} {blocks : List Block} {items : List Item} {next : Progress} → Takes l blocks items next → LinePresent l
+  taken-present : {l : SheetLine} {blocks : List Block} {items : List Item} {next : RowsTaken} → Takes l blocks items next → LinePresent l
       → BlocksPresent blocks → ItemsPresent items → ReadPresent next
   unfolding LinePresent BlocksPresent ItemsPresent Present
   taken-present adds hl hb hi = record { blocks = hb; items = (hl, hi) }

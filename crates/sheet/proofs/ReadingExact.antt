@@ -8,7 +8,7 @@ use Rattle.sheet.specs.Refusals.{given, badRow}
 use Rattle.sheet.specs.Tree.{Tree, done, one, fork, again, basic, ifLine, elseLine, endIf, repeat, endRepeat, flat}
 use Rattle.sheet.specs.Rows.{Assignment, Test, SheetLine, Row, Kind, kindOf, wordsFit, sheetRowOf, treeRows}
 use Rattle.sheet.specs.Reading.{Sheet, unless, lineBy, lineOf, taken, bodyOf, read}
-use Rattle.sheet.specs.Reading.{Item, row, branches, repeated, Block, inFirst, inSecond, inRepeat, closed, Progress}
+use Rattle.sheet.specs.Reading.{Item, row, branches, repeated, Block, inFirst, inSecond, inRepeat, closed, RowsTaken}
 use Rattle.sheet.proofs.ReadingParts.{not-given, bound, passed, same-given, accepted}
 use Rattle.sheet.proofs.LinesTaken.{Takes, adds, opensIf, splits, endsIf, opensRepeat, endsRepeat, takes}
 use Rattle.sheet.proofs.TreeOnly.{only-tree}
@@ -59,10 +59,10 @@ unfolding lineOf
 line-says v k r place l e = line-by-says v k r place l (kindOf (r .kind)) refl e
 
 -- taking a line adds it to what has been read
-abbrev Adds : List Block → List Item → SheetLine → Progress → Type 0
+abbrev Adds : List Block → List Item → SheetLine → RowsTaken → Type 0
 Adds blocks items l next = (rest : List SheetLine) → readLines (next .blocks) (next .items) rest ≡ readLines blocks items (l ∷ rest)
 
-taken-adds : {l : SheetLine} {blocks : List Block} {items : List Item} {next : Progress} → Takes l blocks items next → Adds blocks items l next
+taken-adds : {l : SheetLine} {blocks : List Block} {items : List Item} {next : RowsTaken} → Takes l blocks items next → Adds blocks items l next
 unfolding readLines blockLines itemLines flat
 taken-adds adds = λ rest. refl
 taken-adds (opensIf room) = λ rest. refl

@@ -10,7 +10,7 @@ use Rattle.sheet.specs.Bounds.{limit}
 use Rattle.sheet.specs.Refusals.{Refusal, Answer, refused, given, _>>=_, badBlock}
 use Rattle.sheet.specs.Rows.{SheetLine, Row}
 use Rattle.sheet.specs.LongestRun.{longestRun}
-use Rattle.sheet.specs.Reading.{Item, Block, Progress, closed, rowAt, rowsAt, lineOf, taken, bodyOf}
+use Rattle.sheet.specs.Reading.{Item, Block, RowsTaken, closed, rowAt, rowsAt, lineOf, taken, bodyOf}
 use Rattle.sheet.specs.inner.Steps.{rowFits, partOf, partFor, partIf, saturated, stepOf, stepOr, judgedBy, rowStep, bodyRun}
 use Rattle.sheet.specs.declared.Part.{Part}
 use Rattle.sheet.specs.declared.Level.{Level}
@@ -36,10 +36,10 @@ row-step v k r place depth inner outer = rw (part-seen v k r place) (judged-step
 
 module _ (v k : ℕ) where
   -- the answer of one row
-  abbrev pub rowTaken : Row → (place : ℕ) → List Block → List Item → Answer Progress
+  abbrev pub rowTaken : Row → (place : ℕ) → List Block → List Item → Answer RowsTaken
   rowTaken r place blocks items = lineOf v k r place >>= λ line. taken line place blocks items
 
-  abbrev restRun : List Row → (place : ℕ) → Progress → Answer ℕ
+  abbrev restRun : List Row → (place : ℕ) → RowsTaken → Answer ℕ
   restRun rs place next = bodyRun v k rs (place + limit .rowWords) (next .blocks) (next .items)
 
   row-then-rest : (r : Row) (rs : List Row) (place : ℕ) (blocks : List Block) (items : List Item)
@@ -114,7 +114,7 @@ going-starts words first count v k levels room there =
 module _ {words : List ℕ} {first count v k : ℕ} {levels : List Level} {depth : ℕ} {inner : Level} {place left : ℕ}
     (going : Going words first count v k levels depth inner place left) where
   -- the answer of the row that is next
-  abbrev pub rowHere : Answer Progress
+  abbrev pub rowHere : Answer RowsTaken
   rowHere = rowTaken v k (rowAt words place) place (going .blocks) (going .items)
 
   pub step-follows : (row : Row) (s : Step) → row ≡ rowAt words place → s ≡ rowStep v k row depth inner (getD levels depth bottom)

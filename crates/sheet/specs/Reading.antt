@@ -74,7 +74,7 @@ closed (row b ∷ items) rest = closed items (one b rest)
 closed (branches f a b ∷ items) rest = closed items (fork f a b rest)
 closed (repeated m a ∷ items) rest = closed items (again m a rest)
 
-pub record Progress : Type 0 where
+pub record RowsTaken : Type 0 where
   pub blocks : List Block
   pub items : List Item
 
@@ -91,33 +91,33 @@ unfolding kindOf lineBy
 lineOf v k r place = lineBy v k (kindOf (r .kind)) r place
 
 -- "a block closed or split wrongly .. or a ninth level opened": 6
-unfoldable pub entered : Block → (place : ℕ) → List Block → Answer Progress
+unfoldable pub entered : Block → (place : ℕ) → List Block → Answer RowsTaken
 entered block place blocks = do
   _ ← unless (ltb (length blocks) (limit .depth)) (badBlock place)
   given (record { blocks = block ∷ blocks; items = [] })
 
-unfoldable pub splitAt : (place : ℕ) → List Block → List Item → Answer Progress
+unfoldable pub splitAt : (place : ℕ) → List Block → List Item → Answer RowsTaken
 unfolding closed
 splitAt place [] items = refused (badBlock place)
 splitAt place (inFirst f outer ∷ blocks) items = given (record { blocks = inSecond f (closed items done) outer ∷ blocks; items = [] })
 splitAt place (inSecond f a outer ∷ blocks) items = refused (badBlock place)
 splitAt place (inRepeat m outer ∷ blocks) items = refused (badBlock place)
 
-unfoldable pub ifEndedAt : (place : ℕ) → List Block → List Item → Answer Progress
+unfoldable pub ifEndedAt : (place : ℕ) → List Block → List Item → Answer RowsTaken
 unfolding closed
 ifEndedAt place [] items = refused (badBlock place)
 ifEndedAt place (inFirst f outer ∷ blocks) items = refused (badBlock place)
 ifEndedAt place (inSecond f a outer ∷ blocks) items = given (record { blocks = blocks; items = branches f a (closed items done) ∷ outer })
 ifEndedAt place (inRepeat m outer ∷ blocks) items = refused (badBlock place)
 
-unfoldable pub repeatEndedAt : (place : ℕ) → List Block → List Item → Answer Progress
+unfoldable pub repeatEndedAt : (place : ℕ) → List Block → List Item → Answer RowsTaken
 unfolding closed
 repeatEndedAt place [] items = refused (badBlock place)
 repeatEndedAt place (inFirst f outer ∷ blocks) items = refused (badBlock place)
 repeatEndedAt place (inSecond f a outer ∷ blocks) items = refused (badBlock place)
 repeatEndedAt place (inRepeat m outer ∷ blocks) items = given (record { blocks = blocks; items = repeated m (closed items done) ∷ outer })
 
-unfoldable pub taken : SheetLine → (place : ℕ) → List Block → List Item → Answer Progress
+unfoldable pub taken : SheetLine → (place : ℕ) → List Block → List Item → Answer RowsTaken
 unfolding entered splitAt ifEndedAt repeatEndedAt
 taken (basic b) place blocks items = given (record { blocks = blocks; items = row b ∷ items })
 taken (ifLine f) place blocks items = entered (inFirst f items) place blocks
