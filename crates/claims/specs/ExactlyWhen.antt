@@ -33,7 +33,7 @@ pub data Section : Type 0 where
 
 -- "V, 1 to 32", "K, 0 to 64", "N, 0 to 512"
 abbrev pub lowest : Section → ℕ
-lowest variables = 1
+lowest variables = limit .fewestVariables
 lowest constants = 0
 lowest rows = 0
 

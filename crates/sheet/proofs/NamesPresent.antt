@@ -169,7 +169,7 @@ pub record Counts (words : List ℕ) (sheet : Sheet) (parts : Accepted words she
 
 pub counts : (words : List ℕ) (sheet : Sheet) (parts : Accepted words sheet) → Counts words sheet parts
 counts words sheet parts =
-    let v = count-judged words 0 1 (limit .variables) 1 (parts .v) (parts .variables) in
+    let v = count-judged words 0 (limit .fewestVariables) (limit .variables) 1 (parts .v) (parts .variables) in
     let k = count-judged words (1 + parts .v) 0 (limit .constants) 1 (parts .k) (parts .constantCount) in
     let roles = ap length (parts .roles) ∙ section-length words 0 (parts .v) (v .there) in
     let constants = ap length (parts .constants) ∙ section-length words (1 + parts .v) (parts .k) (k .there) in

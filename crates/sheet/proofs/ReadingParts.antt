@@ -35,7 +35,7 @@ pub record Accepted (words : List ℕ) (sheet : Sheet) : Type 0 where
   pub v : ℕ
   pub k : ℕ
   pub n : ℕ
-  pub variables : countAt words 0 1 (limit .variables) 1 ≡ given v
+  pub variables : countAt words 0 (limit .fewestVariables) (limit .variables) 1 ≡ given v
   pub roles : sheet .roles ≡ take v (drop 1 words)
   pub rolesJudged : rolesFit (sheet .roles) 1 ≡ given tt
   pub constantCount : countAt words (1 + v) 0 (limit .constants) 1 ≡ given k
@@ -49,7 +49,7 @@ pub record Accepted (words : List ℕ) (sheet : Sheet) : Type 0 where
 pub accepted : (words : List ℕ) (sheet : Sheet) → read words ≡ given sheet → Accepted words sheet
 unfolding read
 accepted words sheet e =
-    let c₁ = bound (countAt words 0 1 (limit .variables) 1) _ sheet e in
+    let c₁ = bound (countAt words 0 (limit .fewestVariables) (limit .variables) 1) _ sheet e in
     let v = c₁ .0 in
     let c₂ = bound (rolesFit (take v (drop 1 words)) 1) _ sheet (c₁ .2) in
     let c₃ = bound (countAt words (1 + v) 0 (limit .constants) 1) _ sheet (c₂ .2) in

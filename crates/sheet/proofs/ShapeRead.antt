@@ -29,11 +29,11 @@ body-refused (given t) r e = not-given (sym e)
 -- ---- up to the rows
 
 module _ (words : List ℕ) where
-  pub variables-refused : (r : Refusal) → countAt words 0 1 (limit .variables) 1 ≡ refused r → refused r ≡ shapeRead words
+  pub variables-refused : (r : Refusal) → countAt words 0 (limit .fewestVariables) (limit .variables) 1 ≡ refused r → refused r ≡ shapeRead words
   unfolding shapeRead read
   variables-refused r e = rw e
 
-  module _ (v : ℕ) (isV : countAt words 0 1 (limit .variables) 1 ≡ given v) where
+  module _ (v : ℕ) (isV : countAt words 0 (limit .fewestVariables) (limit .variables) 1 ≡ given v) where
     pub roles-refused : (r : Refusal) → rolesFit (take v (drop 1 words)) 1 ≡ refused r → refused r ≡ shapeRead words
     unfolding shapeRead read
     roles-refused r e = rw (isV, e)
@@ -72,8 +72,8 @@ module _ {words : List ℕ} {counts : Counts} (judged : CountsJudged words count
   isFirst : suc (1 + v + 1 + k) ≡ first
   isFirst = omega arith
 
-  variables-counted : Counted words 0 1 (limit .variables) 1 v
-  variables-counted = count-judged words 0 1 (limit .variables) 1 v (judged .variables)
+  variables-counted : Counted words 0 (limit .fewestVariables) (limit .variables) 1 v
+  variables-counted = count-judged words 0 (limit .fewestVariables) (limit .variables) 1 v (judged .variables)
 
   constants-counted : Counted words (1 + v) 0 (limit .constants) 1 k
   constants-counted = count-judged words (1 + v) 0 (limit .constants) 1 k (judged .constants)

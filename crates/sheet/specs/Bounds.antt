@@ -2,6 +2,7 @@
 use Prim.Native.Nat.{ℕ}
 
 pub record Bounds : Type 0 where
+  pub fewestVariables : ℕ
   pub variables : ℕ
   pub greatestRole : ℕ
   pub constants : ℕ
@@ -16,6 +17,7 @@ pub record Bounds : Type 0 where
 abbrev pub limit : Bounds
 limit =
     record {
+      fewestVariables = 1;
       variables = 32;
       greatestRole = 3;
       constants = 64;

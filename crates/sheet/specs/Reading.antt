@@ -142,7 +142,7 @@ bodyOf v k (r ∷ rs) place blocks items = do
 unfoldable pub read : List ℕ → Answer Sheet
 unfolding countAt rolesFit rowsAt bodyOf longestRun
 read words = do
-  v ← countAt words 0 1 (limit .variables) 1
+  v ← countAt words 0 (limit .fewestVariables) (limit .variables) 1
   let roles = take v (drop 1 words)
   _ ← rolesFit roles 1
   let constantCount = 1 + v

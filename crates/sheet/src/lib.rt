@@ -16,6 +16,8 @@ mod rows;
 mod sections;
 
 // Every bound on a sheet, once. They are the fields of `limit` in specs/Bounds.antt.
+const MIN_VARIABLES: usize = 1;
+
 pub const MAX_VARIABLES: usize = 32;
 
 const MAX_ROLE: usize = 3;

@@ -12,6 +12,7 @@ use super::MAX_CONSTANTS;
 use super::MAX_ROLE;
 use super::MAX_ROWS;
 use super::MAX_VARIABLES;
+use super::MIN_VARIABLES;
 use super::No;
 use super::ROW_WORDS;
 use super::Roles;
@@ -61,7 +62,7 @@ fn roles_fit(words: &[u16], count: usize) -> Roles
 pub fn counts_read(words: &[u16]) -> Counting
     ensures { λ r. ⌜ CountsSaid (now (words .entry)) r ⌝ }
 {
-    let variables = match count_at(words, 0, 1, MAX_VARIABLES, 1) {
+    let variables = match count_at(words, 0, MIN_VARIABLES, MAX_VARIABLES, 1) {
         Count::Refused(why) => return Counting::Refused(why),
         Count::Is(count) => count,
     };

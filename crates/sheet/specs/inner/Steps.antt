@@ -55,7 +55,7 @@ rolesSaid roles.Fit = given tt
 
 -- each judgement on V, K and N was passed
 pub record CountsJudged (words : List ℕ) (counts : Counts) : Type 0 where
-  pub variables : countAt words 0 1 (limit .variables) 1 ≡ given (counts .variables)
+  pub variables : countAt words 0 (limit .fewestVariables) (limit .variables) 1 ≡ given (counts .variables)
   pub roles : rolesFit (take (counts .variables) (drop 1 words)) 1 ≡ given tt
   pub constants : countAt words (1 + counts .variables) 0 (limit .constants) 1 ≡ given (counts .constants)
   pub rows : countAt words (1 + counts .variables + 1 + counts .constants) 0 (limit .rows) (limit .rowWords) ≡ given (counts .rows)

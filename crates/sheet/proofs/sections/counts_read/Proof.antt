@@ -33,11 +33,11 @@ module _ (c : tie.After-known-told2) where
   abbrev v : ℕ
   v = c .before .count .given .0 .0
 
-  isV : countAt words 0 1 (limit .variables) 1 ≡ given v
+  isV : countAt words 0 (limit .fewestVariables) (limit .variables) 1 ≡ given v
   isV = told (c .before .before .before .count-at .ensures) (c .before .count .given .1)
 
-  v-counted : Counted words 0 1 (limit .variables) 1 v
-  v-counted = count-judged words 0 1 (limit .variables) 1 v isV
+  v-counted : Counted words 0 (limit .fewestVariables) (limit .variables) 1 v
+  v-counted = count-judged words 0 (limit .fewestVariables) (limit .variables) 1 v isV
 
 roles : (c : tie.After-enum-told) → rolesFit (take (v (atV c)) (drop 1 (words (atV c)))) 1 ≡ given tt
 roles c = sym (c .before .before .roles-fit .ensures) ∙ ap rolesSaid (c .enum-told .given .1)
