@@ -4,11 +4,11 @@ use native.Mathlib.Omega.{arith}
 use mathlib.Core.Path.{_≡_, refl, sym, ap, _∙_}
 use mathlib.Core.List.{List}
 use lib.ListN.{length}
-use Rattle.sheet.specs.Bounds.{limit}
+use Rattle.sheet.specs.Bounds.{limit, wordValues}
 use Rattle.sheet.specs.Rows.{SheetLine, Row, sheetRowOf}
 use Rattle.sheet.specs.Reading.{rowAt}
 use Rattle.sets.specs.inner.PartnerPass.{Found, found, FoundBy, foundAt, foundOver, PartnersFound}
-use Rattle.sets.specs.inner.RowEquations.{wordValues, lineIn, Readable}
+use Rattle.sets.specs.inner.RowEquations.{lineIn, Readable}
 
 -- what holds before a row of the pass
 pub record Finding (line : ℕ → SheetLine) (n : ℕ) (came₀ goes₀ came goes : List ℕ) (top row : ℕ) : Type 0 where

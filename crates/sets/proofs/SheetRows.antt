@@ -4,7 +4,7 @@ use native.Mathlib.Omega.{arith}
 use mathlib.Core.Path.{_≡_, refl, sym, ap, subst, _∙_}
 use mathlib.Core.List.{List, [], _∷_, map}
 use lib.ListN.{length}
-use Rattle.sheet.specs.Bounds.{limit}
+use Rattle.sheet.specs.Bounds.{limit, wordValues}
 use Rattle.sheet.specs.Tree.{Tree, done, one, fork, again, rows, flat, elseLine, endIf, endRepeat}
 use Rattle.sheet.specs.Rows.{Assignment, _≔_, copy, fixed, sum, difference, product, negation, less, Test, SheetLine}
 use Rattle.sheet.specs.Rows.{rowOfAssignment, sheetRowOf, treeRows}
@@ -14,7 +14,7 @@ use Rattle.sheet.specs.Reading.{rowAt, rowsAt}
 use Rattle.sheet.proofs.RowsBack.{line-back}
 use Rattle.sheet.proofs.RowsCounted.{lines-counted}
 use Rattle.sets.specs.inner.RowWords.{maskBits, InMask}
-use Rattle.sets.specs.inner.RowEquations.{wordValues, lineIn, Readable, Small}
+use Rattle.sets.specs.inner.RowEquations.{lineIn, Readable, Small}
 use Rattle.sets.proofs.RowByRow.{LinesAt}
 
 -- ---- rows by number

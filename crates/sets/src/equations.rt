@@ -2,10 +2,11 @@
 ghost use mathlib.Core.Path.{_≡_};
 ghost use mathlib.Core.Bool.{cond};
 ghost use Prim.Native.Nat.{_<_};
+ghost use Rattle.sheet.specs.Bounds.{wordValues};
 ghost use Rattle.sheet.specs.Answers.{rowSaid};
 ghost use Rattle.sets.specs.VariableSets.{_∪_};
 ghost use Rattle.sets.specs.Equations.{setAt};
-ghost use Rattle.sets.specs.inner.RowEquations.{wordValues, joinsBy, ownPoint, settledPoint, Small, RightSide};
+ghost use Rattle.sets.specs.inner.RowEquations.{joinsBy, ownPoint, settledPoint, Small, RightSide};
 use super::Which;
 use super::transfers;
 use sheet::RowNumber;

@@ -2,7 +2,8 @@
 ghost use mathlib.Core.Path.{_≡_};
 ghost use Prim.Native.Nat.{_<_};
 ghost use lib.ListN.{getD, set};
-ghost use Rattle.sets.specs.inner.RowEquations.{wordValues, AllReadable, lineIn};
+ghost use Rattle.sheet.specs.Bounds.{wordValues};
+ghost use Rattle.sets.specs.inner.RowEquations.{AllReadable, lineIn};
 ghost use Rattle.sets.specs.inner.PartnerPass.{found, FoundBy, PartnersFound};
 use super::Extent;
 use sheet::RowNumber;

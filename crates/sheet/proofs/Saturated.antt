@@ -4,12 +4,12 @@ use mathlib.Core.Path.{_≡_}
 use native.Mathlib.Decide.{decLe}
 use native.Mathlib.Omega.{arith}
 use native.Mathlib.Nat.{mul-le-mul, suc-mul, min-eq-left, min-eq-right}
-use Rattle.sheet.specs.Bounds.{limit}
+use Rattle.sheet.specs.Bounds.{limit, wordValues}
 use Rattle.sheet.specs.inner.Steps.{saturated}
 
 -- two words multiplied stay far below 2^64
-pub product-small : (m n : ℕ) → m < 65536 → n < 65536 → m * (1 + n) ≤ 65536 * 65536
-product-small m n h k = let p : m ≤ 65536 = omega arith in let q : 1 + n ≤ 65536 = omega arith in mul-le-mul p q
+pub product-small : (m n : ℕ) → m < wordValues → n < wordValues → m * (1 + n) ≤ wordValues * wordValues
+product-small m n h k = let p : m ≤ wordValues = omega arith in let q : 1 + n ≤ wordValues = omega arith in mul-le-mul p q
 
 pub saturated-sum : (a b : ℕ) → saturated (saturated a + b) ≡ saturated (a + b)
 unfolding saturated

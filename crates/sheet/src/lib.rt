@@ -3,7 +3,7 @@
 ghost use mathlib.Core.Path.{_≡_};
 ghost use Prim.Native.Nat.{_+_, _*_, _≤_, _<_};
 ghost use lib.ListN.{length, getD};
-ghost use Rattle.sheet.specs.Bounds.{limit};
+ghost use Rattle.sheet.specs.Bounds.{limit, wordValues};
 ghost use Rattle.sheet.specs.Refusals.{numberOf, placeOf};
 ghost use Rattle.sheet.specs.Rows.{isIndependent, isDependent};
 ghost use Rattle.sheet.specs.Reading.{rowAt};
@@ -172,7 +172,7 @@ enum Step {
 
 // A word as a number, with its bound.
 pub fn wide(x: u16) -> usize
-    ensures { λ r. ⌜ (r ≡ x) × (r < 65536) ⌝ }
+    ensures { λ r. ⌜ (r ≡ x) × (r < wordValues) ⌝ }
 {
     x as usize
 }

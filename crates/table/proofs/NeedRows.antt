@@ -6,10 +6,11 @@ use native.Mathlib.Omega.{arith}
 use borrow.Author.Tests.{lt-ltb, le-ltb}
 use lib.ListN.{length, getD, set, replicate, getD-replicate, List·getD-eq-default}
 use lib.Seq.{getD-set-same, getD-set-other}
+use Rattle.sheet.specs.Bounds.{greatestWord}
 use Rattle.sheet.specs.Rows.{Row, sheetRowOf, rowOf}
 use Rattle.sheet.specs.inner.RowLines.{lineOfRow}
 use Rattle.table.specs.inner.MarkedRows.{savedBy, rowNumbered, Says}
-use Rattle.table.specs.inner.Needs.{greatestWord, capped, ofSaved, ofBranch, needOfLine, blockEnd, afterRow, HoldsFrom, LooksUp, needAt, needsFrom}
+use Rattle.table.specs.inner.Needs.{capped, ofSaved, ofBranch, needOfLine, blockEnd, afterRow, HoldsFrom, LooksUp, needAt, needsFrom}
 use Rattle.table.specs.declared.needs.Stack.{Stack}
 use Rattle.table.proofs.LineRows.{assignment-line, if-line, repeat-line, block-line, says-assigns}
 

@@ -6,6 +6,7 @@ use lib.ListN.{getD}
 use native.Mathlib.Nat.{suc-mul}
 use native.Mathlib.Omega.{arith}
 use borrow.Author.Tests.{le-ltb}
+use Rattle.sheet.specs.Bounds.{greatestWord}
 use Rattle.sheet.specs.Tree.{Tree, done, one, fork, again, basic, ifLine, elseLine, endIf, repeat, endRepeat, flat, rows}
 use Rattle.sheet.specs.Rows.{Assignment, Test, less, SheetLine, rowOf, rowOfTest, sheetRowOf, treeRows}
 use Rattle.sheet.specs.inner.RowLines.{lineOfRow}
@@ -15,7 +16,7 @@ use Rattle.sets.specs.Marks.{Marked, MarkedTest, numbered}
 use Rattle.table.specs.Adjoint.{Body}
 use Rattle.table.specs.Sizes.{valuesNeeded, turnsNeeded}
 use Rattle.table.specs.inner.MarkedRows.{rowNumbered, Noted}
-use Rattle.table.specs.inner.Needs.{greatestWord, capped, ofSaved, ofBranch, needOfLine, blockEnd, afterRow, needAt, needsFrom}
+use Rattle.table.specs.inner.Needs.{capped, ofSaved, ofBranch, needOfLine, blockEnd, afterRow, needAt, needsFrom}
 use Rattle.table.specs.declared.needs.Stack.{Stack}
 use Rattle.table.specs.declared.needs.Stack.the-variants as stack
 use Rattle.sheet.proofs.RowsBack.{line-back}

@@ -6,7 +6,7 @@ use mathlib.Core.Bool.{Bool, false, _||_}
 use mathlib.Core.List.{List, [], _∷_}
 use lib.ListN.{getD, take, drop, length as List·length}
 use lib.Dec.{eqb}
-use Rattle.sheet.specs.Bounds.{limit}
+use Rattle.sheet.specs.Bounds.{limit, wordValues}
 use Rattle.sheet.specs.Tree.{basic, ifLine, elseLine, endIf, repeat, endRepeat}
 use Rattle.sheet.specs.Rows.{Assignment, SheetLine, Row, sheetRowOf, isIndependent, isDependent}
 use Rattle.sheet.specs.inner.RowLines.{lineOfRow}
@@ -19,10 +19,6 @@ use Rattle.sets.specs.inner.ProperEquations.{Proper}
 use Rattle.sets.specs.Transfers.{variedAfter, usefulBefore, requiredAfter}
 use Rattle.sets.specs.inner.RowWords.{maskBits, InMask}
 use Rattle.sets.specs.MarkBytes.{weight, bitOf}
-
--- a partner is kept in 16 bits
-abbrev pub wordValues : ℕ
-wordValues = 65536
 
 -- the line of a sheet's row
 abbrev pub lineIn : List ℕ → (first row : ℕ) → SheetLine

@@ -5,6 +5,7 @@ use mathlib.Core.Bool.{Bool, cond}
 use mathlib.Core.List.{List, [], _∷_}
 use lib.ListN.{length, getD}
 use lib.Dec.{eqb, ltb}
+use Rattle.sheet.specs.Bounds.{greatestWord}
 use Rattle.sheet.specs.Tree.{basic, ifLine, elseLine, endIf, repeat, endRepeat}
 use Rattle.sheet.specs.Rows.{SheetLine}
 use Rattle.sheet.specs.inner.RowLines.{lineOfRow}
@@ -14,10 +15,7 @@ use Rattle.table.specs.inner.MarkedRows.{savedBy, rowNumbered, ifEnd}
 use Rattle.table.specs.declared.needs.Stack.{Stack}
 use Rattle.table.specs.declared.needs.Stack.the-variants as stack
 
--- the greatest number that a word holds; it stands for every sum above it
-abbrev pub greatestWord : ℕ
-greatestWord = 65535
-
+-- the greatest word stands for every sum above it
 abbrev pub capped : ℕ → ℕ
 capped sum = min sum greatestWord
 

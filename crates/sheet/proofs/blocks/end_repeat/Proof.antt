@@ -1,6 +1,7 @@
 -- `sheet::blocks::end_repeat` meets its contract.
 use Prim.Native.Nat.{_+_, _*_, _≤_}
 use native.Mathlib.Omega.{arith}
+use Rattle.sheet.specs.Bounds.{wordValues}
 use Rattle.sheet.specs.inner.Steps.{repeatEndOf}
 use Rattle.sheet.proofs.BlocksApart.{not-repeat}
 use Rattle.sheet.proofs.Saturated.{product-small}
@@ -8,7 +9,7 @@ use borrow.Author.Needs.{needs}
 use Rattle.sheet.proofs.blocks.end_repeat.Statement.{statement}
 use Rattle.sheet.proofs.blocks.end_repeat.Tie as tie
 
-run-small : (c : tie.After-wide2) → c .before .wide .result * (1 + c .wide2 .result) ≤ 65536 * 65536
+run-small : (c : tie.After-wide2) → c .before .wide .result * (1 + c .wide2 .result) ≤ wordValues * wordValues
 run-small c = product-small _ _ (c .before .wide .ensures .1) (c .wide2 .ensures .1)
 
 enum-known-block : tie.Need-enum-known-block

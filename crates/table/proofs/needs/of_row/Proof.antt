@@ -3,7 +3,7 @@ use Prim.Native.Nat.{_*_, _≤_}
 use native.Mathlib.Nat.{mul-le-mul}
 use borrow.Author.Needs.{needs}
 use native.Mathlib.Omega.{arith}
-use Rattle.table.specs.inner.Needs.{greatestWord}
+use Rattle.sheet.specs.Bounds.{greatestWord}
 use Rattle.table.proofs.NeedRows.{assignment-need, if-need, repeat-need, closing-need}
 use Rattle.table.proofs.needs.of_row.Statement.{statement}
 use Rattle.table.proofs.needs.of_row.Tie as tie
