@@ -1,6 +1,6 @@
 -- Refusals 1 to 11 in a call's order, and the run behind them.
 use Prim.Native.Nat.{ℕ}
-use mathlib.Core.Path.{_≡_, refl, sym, ap, _∙_}
+use mathlib.Core.Path.{_≡_, sym, ap, _∙_}
 use mathlib.Core.List.{List, _++_}
 use lib.ListN.{length}
 use lib.Dec.{eqb}
@@ -10,6 +10,7 @@ use Rattle.sheet.specs.Refusals.{Refusal, Answer, refused, given, _>>=_, smallT
 use Rattle.sheet.specs.Reading.{Sheet, read, unless}
 use Rattle.sheet.specs.Answers.{shapeOf}
 use Rattle.sheet.specs.declared.Shape.{Shape}
+use Rattle.sheet.proofs.Judgements.{bind-assoc}
 use Rattle.sheet.proofs.ReadingParts.{bound, passed}
 use Rattle.table.specs.TableRows.{tableWords}
 use Rattle.table.specs.Adjoint.{tableOf}
@@ -27,12 +28,6 @@ use Rattle.run.specs.inner.CallAnswers.{sheetRun, Written, RanTo}
 pub said : {judgement : Answer (Unit {0})} {fit answer : Fit} → fitSaid fit ≡ judgement → fit ≡ answer → judgement ≡ fitSaid answer
 said {judgement} {fit} {answer} is told = sym is ∙ ap fitSaid told
 
--- judgements one after another, however they are put together
-then-then : {X Y Z : Type 0} (first : Answer X) (second : X → Answer Y) (third : Y → Answer Z)
-    → ((first >>= second) >>= third) ≡ (first >>= λ x. second x >>= third)
-then-then (refused r) second third = refl
-then-then (given x) second third = refl
-
 -- ---- 1 to 10, by a plan
 
 module _ {words : List ℕ} (rooms : Rooms) where
@@ -46,7 +41,7 @@ module _ {words : List ℕ} (rooms : Rooms) where
     judged =
         let plans = made .planned in
         let variables = ap (λ (s : Shape). s .variables) (plans .shape) in
-        rw (made .accepted, plans .rows, plans .values, plans .turns, variables) (simp then-then)
+        rw (made .accepted, plans .rows, plans .values, plans .turns, variables) (simp bind-assoc)
 
     pub rooms-refuse : {why : Refusal} {answer : answered.Answer} → roomsFit plan rooms ≡ refused why → Answers answer why → NoRoom words rooms answer
     rooms-refuse {why} e answers = record { why = why; is = judged ∙ rw e; answers = answers }
@@ -85,7 +80,7 @@ module _ (A : Arithmetic) (words : List ℕ) (starts seeds : List (A .Carrier)) 
   numbers-last : readToRun A words starts seeds lent
       ≡ (readWithRoom words roomsOf >>= λ sheet. allAdmitted A (starts ++ seeds) 0 >>= λ _. given sheet)
   unfolding readToRun readWithRoom
-  numbers-last = simp then-then
+  numbers-last = simp bind-assoc
 
   pub refused-run : {answer : answered.Answer} → NoRoom words roomsOf answer → ranOf A answer lent ≡ run A words starts seeds lent
   unfolding run ranOn

@@ -1,9 +1,10 @@
 -- One judgement after another: what a met or an unmet test comes to, and what then follows.
 use Prim.Native.Nat.{ℕ, _≤_, _<_}
-use mathlib.Core.Path.{_≡_, refl, subst}
+use mathlib.Core.Path.{_≡_, refl}
 use mathlib.Core.Bool.{Bool, true, false, _&&_}
 use mathlib.Core.Logic.{_↔_, _⊎_, inl, inr}
-use lib.Dec.{T, leb, ltb, eqb, leb→le, le→leb, ltb→lt, lt→ltb, eqb→eq, eqb-refl}
+use lib.Dec.{leb, ltb, eqb}
+use borrow.Author.Tests.{leb-true, le-leb, ltb-true, lt-ltb, eqb-true, eq-eqb}
 use native.Mathlib.Omega.{arith}
 use Rattle.sheet.specs.Refusals.{Refusal, Answer, refused, given, _>>=_}
 use Rattle.sheet.specs.Reading.{unless}
@@ -14,21 +15,14 @@ use Rattle.sheet.specs.Reading.{unless}
 abbrev pub Tells : Bool → Type 0 → Type 0
 Tells test Holds = (test ≡ true) ↔ Holds
 
-T-of : {test : Bool} → test ≡ true → T test
-T-of {test} e = rw e tt
-
-of-T : (test : Bool) → T test → test ≡ true
-of-T true t = refl
-of-T false t = absurd t
-
 pub leb-tells : (a b : ℕ) → Tells (leb a b) (a ≤ b)
-leb-tells a b = (λ e. leb→le a b (T-of e), λ h. of-T (leb a b) (le→leb a b h))
+leb-tells a b = (leb-true a b, le-leb a b)
 
 pub ltb-tells : (a b : ℕ) → Tells (ltb a b) (a < b)
-ltb-tells a b = (λ e. ltb→lt a b (T-of e), λ h. of-T (ltb a b) (lt→ltb a b h))
+ltb-tells a b = (ltb-true a b, lt-ltb a b)
 
 pub eqb-tells : (a b : ℕ) → Tells (eqb a b) (a ≡ b)
-eqb-tells a b = (λ e. eqb→eq a b (T-of e), λ h. of-T (eqb a b) (subst (λ n. T (eqb a n)) h (eqb-refl a)))
+eqb-tells a b = (eqb-true a b, eq-eqb a b)
 
 pub both-tell : (p q : Bool) {P Q : Type 0} → Tells p P → Tells q Q → Tells (p && q) (P × Q)
 both-tell true q tp tq = (λ e. (tp .0 refl, tq .0 e), λ h. tq .1 (h .1))
@@ -55,6 +49,11 @@ inl h andThen further = further h
 inr n andThen further = inr n
 
 -- ---- judgements in turn
+
+-- however they are put together
+pub bind-assoc : {A B C : Type 0} (m : Answer A) (f : A → Answer B) (g : B → Answer C) → ((m >>= f) >>= g) ≡ (m >>= λ a. (f a >>= g))
+bind-assoc (refused r) f g = refl
+bind-assoc (given a) f g = refl
 
 pub after-given {ℓ κ} : {A : Type ℓ} {B : Type κ} {m : Answer A} {a : A} (next : A → Answer B) → m ≡ given a → (m >>= next) ≡ next a
 after-given next e = rw e

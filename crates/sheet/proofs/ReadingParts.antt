@@ -37,7 +37,6 @@ pub record Accepted (words : List ℕ) (sheet : Sheet) : Type 0 where
   pub n : ℕ
   pub variables : countAt words 0 (limit .fewestVariables) (limit .variables) 1 ≡ given v
   pub roles : sheet .roles ≡ take v (drop 1 words)
-  pub rolesJudged : rolesFit (sheet .roles) 1 ≡ given tt
   pub constantCount : countAt words (1 + v) 0 (limit .constants) 1 ≡ given k
   pub constants : sheet .constants ≡ take k (drop (suc (1 + v)) words)
   pub rowCount : countAt words (1 + v + 1 + k) 0 (limit .rows) (limit .rowWords) ≡ given n
@@ -68,7 +67,6 @@ accepted words sheet e =
       n = n;
       variables = c₁ .1;
       roles = refl;
-      rolesJudged = c₂ .1;
       constantCount = c₃ .1;
       constants = refl;
       rowCount = c₄ .1;

@@ -83,21 +83,18 @@ module _ (v k d a b : ℕ) where
   unfolding kindOf sheetRowOf
   says =
       each-kind (λ n o. Says v k o (rowOfKind n)) (λ n. tt)
-      (fitting 1 refl (λ p q r. rw (zero b r))
-      then fitting 2 refl (λ p q r. rw (zero b r))
+      (fitting 1 refl (λ p q r. rw (unused-is-0 v k b r))
+      then fitting 2 refl (λ p q r. rw (unused-is-0 v k b r))
       then fitting 3 refl (λ p q r. refl)
       then fitting 4 refl (λ p q r. refl)
       then fitting 5 refl (λ p q r. refl)
-      then fitting 6 refl (λ p q r. rw (zero b r))
-      then fitting 7 refl (λ p q r. rw (zero d p))
-      then fitting 8 refl (λ p q r. rw (zero d p, zero a q, zero b r))
-      then fitting 9 refl (λ p q r. rw (zero d p, zero a q, zero b r))
-      then fitting 10 refl (λ p q r. rw (zero d p, turns-above-0 v k a q, zero b r))
-      then fitting 11 refl (λ p q r. rw (zero d p, zero a q, zero b r))
+      then fitting 6 refl (λ p q r. rw (unused-is-0 v k b r))
+      then fitting 7 refl (λ p q r. rw (unused-is-0 v k d p))
+      then fitting 8 refl (λ p q r. rw (unused-is-0 v k d p, unused-is-0 v k a q, unused-is-0 v k b r))
+      then fitting 9 refl (λ p q r. rw (unused-is-0 v k d p, unused-is-0 v k a q, unused-is-0 v k b r))
+      then fitting 10 refl (λ p q r. rw (unused-is-0 v k d p, turns-above-0 v k a q, unused-is-0 v k b r))
+      then fitting 11 refl (λ p q r. rw (unused-is-0 v k d p, unused-is-0 v k a q, unused-is-0 v k b r))
       then end)
-    where
-      zero : (word : ℕ) → fits v k unused word ≡ true → word ≡ 0
-      zero = unused-is-0 v k
 
 pub row-back : (v k : ℕ) (r : Row) (kind : Kind) → kindOf (r .kind) ≡ some kind → wordsFit v k kind r ≡ true
     → sheetRowOf (kind .means (r .d) (r .a) (r .b)) ≡ r

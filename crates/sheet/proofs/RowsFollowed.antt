@@ -16,12 +16,9 @@ use Rattle.sheet.specs.declared.Part.{Part}
 use Rattle.sheet.specs.declared.Level.{Level}
 use Rattle.sheet.specs.declared.Step.{Step}
 use Rattle.sheet.specs.declared.Step.the-variants as step
+use Rattle.sheet.proofs.Judgements.{bind-assoc}
 use Rattle.sheet.proofs.PartsRead.{part-seen}
 use Rattle.sheet.proofs.Levels.{levelOf, bottom, Stand, Next, Follows, itemsRun, closed-done, row-follows}
-
-bind-assoc : {A B C : Type 0} (m : Answer A) (f : A → Answer B) (g : B → Answer C) → ((m >>= f) >>= g) ≡ (m >>= λ a. (f a >>= g))
-bind-assoc (refused r) f g = refl
-bind-assoc (given a) f g = refl
 
 judged-step : (fit : Bool) (part : Part) (depth : ℕ) (inner outer : Level)
     → judgedBy fit (stepOf part depth inner outer) ≡ stepOr (partIf fit part) depth inner outer
