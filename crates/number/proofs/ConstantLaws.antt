@@ -23,7 +23,7 @@ pub signed-low : (w : ℕ) → w < 32768 → signed w ≡ pos w
 unfolding signed
 signed-low w h = rw (lt-ltb w 32768 h)
 
-pub signed-high : (w : ℕ) → 32768 ≤ w → signed w ≡ negsuc (65535 - w)
+signed-high : (w : ℕ) → 32768 ≤ w → signed w ≡ negsuc (65535 - w)
 unfolding signed
 signed-high w h = rw (le-ltb w 32768 h)
 
@@ -46,7 +46,7 @@ signed-within w below (yes h) = rw (signed-low w h) h
 signed-within w below (no h) = rw (signed-high w (omega arith)) (omega arith)
 
 -- from −32768 to 32767
-pub signed-range : (w : ℕ) → w < 65536 → mag (signed w) < 32768
+signed-range : (w : ℕ) → w < 65536 → mag (signed w) < 32768
 signed-range w below = signed-within w below (decLt w 32768)
 
 negated-within : (z : ℤ) (n : ℕ) → mag z < n → mag (negℤ z) ≤ n

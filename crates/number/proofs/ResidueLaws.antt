@@ -30,7 +30,7 @@ residue-sum-right a b = omega arith
 spread : (a q r : ℕ) → a * (modulus * q + r) ≡ a * r + modulus * (a * q)
 spread a q r = omega arith
 
-pub residue-product-right : (a b : ℕ) → residue (a * residue b) ≡ residue (a * b)
+residue-product-right : (a b : ℕ) → residue (a * residue b) ≡ residue (a * b)
 unfolding residue
 residue-product-right a b =
     let q = b / modulus in
@@ -38,7 +38,7 @@ residue-product-right a b =
     let parts : a * b ≡ a * r + modulus * (a * q) = ap (λ x. a * x) (sym (div-add-mod b modulus)) ∙ spread a q r in
     sym (ap residue parts ∙ add-mul-mod-self-left (a * r) modulus (a * q))
 
-pub residue-product-left : (a b : ℕ) → residue (residue a * b) ≡ residue (a * b)
+residue-product-left : (a b : ℕ) → residue (residue a * b) ≡ residue (a * b)
 residue-product-left a b = rw (mul-comm (residue a) b, mul-comm a b) (residue-product-right b a)
 
 -- the product of two numbers of k bits has at most k + k

@@ -45,7 +45,7 @@ unscaled (fin t m e) s n k v = (
 )
 
 -- 2^52 with n in the digits' field is exactly 2^52 + n, since there the last digit counts one
-pub exact-value : (n : ℕ) → n < 2 ^ 52 → HasValue (ofBits binary64 (0x4330_0000_0000_0000 + n)) false (2 ^ 52 + n) 1
+exact-value : (n : ℕ) → n < 2 ^ 52 → HasValue (ofBits binary64 (0x4330_0000_0000_0000 + n)) false (2 ^ 52 + n) 1
 exact-value n h =
     rw (fields-read n h)
     (unscaled (odd 53 false (2 ^ 52 + n) 1074 1074) false (2 ^ 52 + n) 1074 (odd-sign 53 false (2 ^ 52 + n) 1074 1074))

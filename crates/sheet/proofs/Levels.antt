@@ -69,7 +69,7 @@ abbrev pub Stand : List Level → List Block → Type 0
 Stand levels [] = Unit {0}
 Stand levels (b ∷ blocks) = (getD levels (suc (length blocks)) bottom ≡ levelOf blocks (outside b)) × Stand levels blocks
 
-pub stand-set : (levels : List Level) (i : ℕ) (l : Level) (blocks : List Block) → length blocks < i → Stand levels blocks
+stand-set : (levels : List Level) (i : ℕ) (l : Level) (blocks : List Block) → length blocks < i → Stand levels blocks
     → Stand (set levels i l) blocks
 stand-set levels i l [] h s = tt
 stand-set levels i l (b ∷ blocks) h s =

@@ -128,7 +128,7 @@ module _ (v k : ℕ) where
       let present = taken-present (takes (line .0) place blocks items next (took .1)) (line-present r place (line .0) (line .1)) hb hi in
       read-present rs (place + limit .rowWords) (next .blocks) (next .items) t (present .blocks) (present .items) (took .2)
 
-  pub body-present : (rs : List Row) (place : ℕ) (t : Body) → bodyOf v k rs place [] [] ≡ given t → Present v k t
+  body-present : (rs : List Row) (place : ℕ) (t : Body) → bodyOf v k rs place [] [] ≡ given t → Present v k t
   unfolding BlocksPresent ItemsPresent
   body-present rs place t e = read-present rs place [] [] t tt tt e
 

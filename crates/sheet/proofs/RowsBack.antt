@@ -30,7 +30,7 @@ line-back endIf = refl
 line-back (repeat m) = refl
 line-back endRepeat = refl
 
-pub only-line : (l l′ : SheetLine) → sheetRowOf l ≡ sheetRowOf l′ → l ≡ l′
+only-line : (l l′ : SheetLine) → sheetRowOf l ≡ sheetRowOf l′ → l ≡ l′
 only-line l l′ e = sym (line-back l) ∙ ap lineOfRow e ∙ line-back l′
 
 pub only-lines : (ls ls′ : List SheetLine) → map sheetRowOf ls ≡ map sheetRowOf ls′ → ls ≡ ls′

@@ -4,6 +4,8 @@ use mathlib.Core.Path.{_≡_, refl, sym, _∙_}
 use mathlib.Core.Bool.{Bool, true, false}
 use mathlib.Core.List.{List, [], _∷_}
 use lib.ListN.{length, getD, set, length-set}
+use borrow.Author.Tests.{eq-eqb, ne-eqb}
+use native.Mathlib.Decide.{decLe}
 use native.Mathlib.Omega.{arith}
 use native.Mathlib.Numerals.{add-one, sub-one}
 use Rattle.sheet.specs.Bounds.{limit}
@@ -11,7 +13,7 @@ use Rattle.sheet.specs.Refusals.{Refusal, Answer, refused, given, _>>=_,
 use Rattle.sheet.specs.Rows.{SheetLine, Row}
 use Rattle.sheet.specs.LongestRun.{longestRun}
 use Rattle.sheet.specs.Reading.{Item, Block, RowsTaken, closed, rowAt, rowsAt, lineOf, taken, bodyOf}
-use Rattle.sheet.specs.inner.Steps.{rowFits, partOf, partFor, partIf, saturated, stepOf, stepOr, judgedBy, rowStep, bodyRun}
+use Rattle.sheet.specs.inner.Steps.{rowFits, partOf, partFor, partIf, saturated, stepOf, stepOr, judgedBy, rowStep, bodySaid, afterRowsOf, bodyRun}
 use Rattle.sheet.specs.declared.Part.{Part}
 use Rattle.sheet.specs.declared.Level.{Level}
 use Rattle.sheet.specs.declared.Step.{Step}
@@ -58,13 +60,13 @@ module _ (v k : ℕ) where
   first-row words place zero blocks items some = absurd (omega arith)
   first-row words place (suc n) blocks items some = rw sub-one (row-then-rest (rowAt words place) _ place blocks items)
 
-  pub closed-run-given : (place : ℕ) (blocks : List Block) (items : List Item) → length blocks ≡ 0
+  closed-run-given : (place : ℕ) (blocks : List Block) (items : List Item) → length blocks ≡ 0
       → bodyRun v k [] place blocks items ≡ given (saturated (itemsRun items))
   unfolding bodyRun bodyOf
   closed-run-given place [] items e = rw (closed-done items)
   closed-run-given place (b ∷ blocks) items e = absurd (omega arith)
 
-  pub open-refused : (place : ℕ) (blocks : List Block) (items : List Item) → ¬ (length blocks ≡ 0)
+  open-refused : (place : ℕ) (blocks : List Block) (items : List Item) → ¬ (length blocks ≡ 0)
       → bodyRun v k [] place blocks items ≡ refused (badBlock place)
   unfolding bodyRun bodyOf
   open-refused place [] items e = absurd (e refl)
@@ -157,12 +159,20 @@ module _ {words : List ℕ} {first count v k : ℕ} {levels : List Level} {depth
 
   -- after the last row
   module _ (none : left ≤ 0) where
-    pub all-closed : depth ≡ 0 → given (inner .longest) ≡ wholeRun words first count v k
+    all-closed : depth ≡ 0 → given (inner .longest) ≡ wholeRun words first count v k
     all-closed e =
         rw (going .here, ← going .same, no-rows words place left none)
         (sym (closed-run-given v k place (going .blocks) (going .items) (going .deep ∙ e)))
 
-    pub never-closed : ¬ (depth ≡ 0) → refused (badBlock place) ≡ wholeRun words first count v k
+    never-closed : ¬ (depth ≡ 0) → refused (badBlock place) ≡ wholeRun words first count v k
     never-closed e =
         rw (← going .same, no-rows words place left none)
         (sym (open-refused v k place (going .blocks) (going .items) (λ closed. e (sym (going .deep) ∙ closed))))
+
+    pub rows-end : bodySaid (afterRowsOf depth (inner .longest) place) ≡ wholeRun words first count v k
+    unfolding afterRowsOf
+    rows-end = by (decLe depth 0)
+      where
+        by : Dec (depth ≤ 0) → bodySaid (afterRowsOf depth (inner .longest) place) ≡ wholeRun words first count v k
+        by (yes h) = let closed : depth ≡ 0 = omega arith in rw (eq-eqb depth 0 closed) (all-closed closed)
+        by (no h) = let open-still : ¬ (depth ≡ 0) = λ e. omega arith in rw (ne-eqb depth 0 open-still) (never-closed open-still)

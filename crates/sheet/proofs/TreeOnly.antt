@@ -24,7 +24,7 @@ module _ {B F : Type 0} where
   not-closing : (l : Line B F) (ls ls′ : List (Line B F)) → Closing ls′ → ls′ ≡ l ∷ ls → Closing (l ∷ ls)
   not-closing l ls ls′ c e = subst Closing e c
 
-  pub flat-same : (t t′ : Tree B F) (ls ls′ : List (Line B F)) → Closing ls → Closing ls′ → flat t ls ≡ flat t′ ls′ → Same t t′ ls ls′
+  flat-same : (t t′ : Tree B F) (ls ls′ : List (Line B F)) → Closing ls → Closing ls′ → flat t ls ≡ flat t′ ls′ → Same t t′ ls ls′
   unfolding flat
   flat-same done done ls ls′ c c′ e = record { tree = refl; rest = e }
   flat-same done (one b k) ls ls′ c c′ e = absurd (not-closing _ _ ls c e)

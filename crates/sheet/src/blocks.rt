@@ -7,7 +7,7 @@ ghost use Rattle.sheet.specs.Bounds.{limit};
 ghost use Rattle.sheet.specs.Reading.{rowsAt};
 ghost use Rattle.sheet.specs.Answers.{rowSaid};
 ghost use Rattle.sheet.specs.inner.Steps.{partFor, saturated, counted, enterOf, splitOf, ifEndOf, repeatEndOf, stepOf};
-ghost use Rattle.sheet.specs.inner.Steps.{breaksBlock, judgedBy, rowStep, bodySaid, bodyRun};
+ghost use Rattle.sheet.specs.inner.Steps.{breaksBlock, judgedBy, rowStep, bodySaid, afterRowsOf, bodyRun};
 use super::Body;
 use super::Level;
 use super::MAX_DEPTH;
@@ -170,7 +170,18 @@ fn row_step(
     judged(fit, follow(part, depth, inner, outer))
 }
 
-// The rows, each judged as it is followed: the W of what they are.
+// After the rows: W, unless a block was never closed.
+fn after_rows(depth: usize, longest: u16, place: usize) -> Body
+    ensures { λ r. ⌜ r ≡ afterRowsOf depth longest place ⌝ }
+{
+    if depth == 0 {
+        return Body::Longest(longest);
+    }
+    Body::Refused(No::BadBlock(place))
+}
+
+// The rows, each judged as it is followed: the W of what they are. Entry n of the levels, from 1 on, is the level outside the block n deep,
+// as it was when that block was opened.
 pub fn rows_read(
     words: &[u16],
     first: usize,
@@ -181,7 +192,6 @@ pub fn rows_read(
     requires { ⌜ first + count * limit .rowWords ≤ length (now words) ⌝ }
     ensures { λ r. ⌜ bodySaid r ≡ bodyRun variables constants (rowsAt (now (words .entry)) first count) first [] [] ⌝ }
 {
-    // Entry n, from 1 on, is the level outside the block n deep, as it was when that block was opened.
     let mut levels = [OUTERMOST; MAX_DEPTH + 1];
     let mut depth: usize = 0;
     let mut inner = OUTERMOST;
@@ -189,8 +199,7 @@ pub fn rows_read(
     let mut left = count;
     while 0 < left {
         let row = row_at(words, place);
-        let outer = levels[depth];
-        let step = row_step(row, variables, constants, depth, inner, outer);
+        let step = row_step(row, variables, constants, depth, inner, levels[depth]);
         let next = place + ROW_WORDS;
         let fewer = left - 1;
         match step {
@@ -210,8 +219,5 @@ pub fn rows_read(
         place = next;
         left = fewer;
     }
-    if depth == 0 {
-        return Body::Longest(inner.longest);
-    }
-    Body::Refused(No::BadBlock(place))
+    after_rows(depth, inner.longest, place)
 }

@@ -84,7 +84,6 @@ pub fn is_dependent(role: u16) -> bool
     (role == DEPENDENT) | (role == BOTH)
 }
 
-// A row's four words.
 pub struct RowWords {
     pub kind: u16,
     pub d: u16,
@@ -218,7 +217,6 @@ pub fn read_sheet(words: &[u16]) -> Reading
     finish(shape, after, words.len())
 }
 
-// A refusal's number.
 pub fn number_of(why: No) -> u16
     ensures { λ r. ⌜ r ≡ numberOf (refusalOf why) ⌝ }
 {
@@ -233,7 +231,6 @@ pub fn number_of(why: No) -> u16
     }
 }
 
-// A refusal's place.
 pub fn place_of(why: No) -> usize
     ensures { λ r. ⌜ r ≡ placeOf (refusalOf why) ⌝ }
 {

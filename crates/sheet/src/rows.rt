@@ -31,14 +31,14 @@ const FORMS: [Form; KINDS] = [
     Form(Slot::Unused, Slot::Unused, Slot::Unused),
 ];
 
-// A variable that is there.
+// Whether a variable is there.
 fn present(variable: Variable, variables: usize) -> bool
     ensures { λ r. ⌜ r ≡ ltb (variable .0) variables ⌝ }
 {
     variable.0 < variables
 }
 
-// A word that is what its slot asks for.
+// Whether a word is what its slot asks for.
 fn fits(slot: Slot, word: u16, variables: usize, constants: usize) -> bool
     ensures { λ r. ⌜ r ≡ fitsSlot variables constants slot word ⌝ }
 {

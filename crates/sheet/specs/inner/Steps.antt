@@ -15,7 +15,7 @@ use Rattle.sheet.specs.Rows as rows
 use Rattle.sheet.specs.LongestRun.{longestRun}
 use Rattle.sheet.specs.Reading.{countAt, rolesFit, Block, Item, bodyOf}
 use Rattle.sheet.specs.Answers.{refusalOf, shapeRead}
-use Rattle.sheet.specs.declared.No.the-variants.{WordsLeft, TooLong}
+use Rattle.sheet.specs.declared.No.the-variants.{WordsLeft, BadBlock, TooLong}
 use Rattle.sheet.specs.declared.Shape.{Shape}
 use Rattle.sheet.specs.declared.Reading.{Reading}
 use Rattle.sheet.specs.declared.Reading.the-variants as reading
@@ -202,6 +202,10 @@ rowStep v k r depth inner outer = judgedBy (rowFits v k r) (stepOf (partFor (r .
 abbrev pub bodySaid : Body → Answer ℕ
 bodySaid (body.Refused why) = refused (refusalOf why)
 bodySaid (body.Longest longest) = given longest
+
+-- "After the rows: 6 for never closed"
+unfoldable pub afterRowsOf : (depth longest place : ℕ) → Body
+afterRowsOf depth longest place = pick (eqb depth 0) (body.Longest longest) (body.Refused (BadBlock place))
 
 -- W of what the rows are after what has been read, up to one above its bound
 unfoldable pub bodyRun : (variables constants : ℕ) → List Row → (place : ℕ) → List Block → List Item → Answer ℕ

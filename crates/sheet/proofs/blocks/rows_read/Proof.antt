@@ -1,13 +1,14 @@
 -- `sheet::blocks::rows_read` meets its contract. The invariant: the levels stand for blocks and items, from which the rows that are left come
 -- to what all rows do.
 use Prim.Native.Nat.{_<_}
-use mathlib.Core.Path.{_≡_, refl, sym, _∙_}
+use mathlib.Core.Path.{_≡_, refl, sym, ap, _∙_}
 use borrow.Author.Needs.{needs}
 use native.Mathlib.Omega.{arith}
+use Rattle.sheet.specs.inner.Steps.{bodySaid}
 use Rattle.sheet.specs.declared.Step.{Step}
 use Rattle.sheet.specs.declared.Step.the-variants as step
 use Rattle.sheet.proofs.Levels.{Follows}
-use Rattle.sheet.proofs.RowsFollowed.{Going, going-starts, rowHere, step-follows, row-ends, stays, enters, leaves, all-closed, never-closed}
+use Rattle.sheet.proofs.RowsFollowed.{Going, going-starts, rowHere, step-follows, row-ends, stays, enters, leaves, rows-end}
 use Rattle.sheet.proofs.blocks.rows_read.Statement.{statement}
 use Rattle.sheet.proofs.blocks.rows_read.Tie as tie
 
@@ -40,11 +41,11 @@ loop-holds c = going-starts _ _ _ _ _ _ refl (omega arith)
 row-at-requires : tie.Need-row-at-requires Inv-loop μ-loop
 row-at-requires c κs = omega (arith, c .before .loop .inv .there)
 
-mul-outer : tie.Need-mul-outer Inv-loop μ-loop
-mul-outer c = omega (arith, c .before .before .loop .inv .within)
+mul-row-step : tie.Need-mul-row-step Inv-loop μ-loop
+mul-row-step c = omega (arith, c .before .before .loop .inv .within)
 
-array-copy-out-outer : tie.Need-array-copy-out-outer Inv-loop μ-loop
-array-copy-out-outer c = omega (arith, c .before .before .loop .inv .within)
+array-copy-out-row-step : tie.Need-array-copy-out-row-step Inv-loop μ-loop
+array-copy-out-row-step c = omega (arith, c .before .before .loop .inv .within)
 
 row-step-requires : tie.Need-row-step-requires Inv-loop μ-loop
 row-step-requires c κs = search needs
@@ -116,11 +117,11 @@ loop-again-3 c =
     let row = c .before .before .before in
     leaves (head row .loop .inv) (some row) _ (says row (step.Leave _) (c .before .step3 .given .1))
 
-returns-3 : tie.Need-returns-3 Inv-loop μ-loop
-returns-3 c = all-closed (c .before .before .loop .inv) (c .before .loop-test .left) (c .if1 .taken)
+after-rows-requires : tie.Need-after-rows-requires Inv-loop μ-loop
+after-rows-requires c κs = search needs
 
-returns-4 : tie.Need-returns-4 Inv-loop μ-loop
-returns-4 c = never-closed (c .before .before .loop .inv) (c .before .loop-test .left) (c .if1 .left)
+returns-3 : tie.Need-returns-3 Inv-loop μ-loop
+returns-3 c = ap bodySaid (c .after-rows .ensures) ∙ rows-end (c .before .before .loop .inv) (c .before .loop-test .left)
 
 pub rows-read-spec : {M : Type 1} → statement M
 rows-read-spec =
@@ -130,8 +131,8 @@ rows-read-spec =
     μ-loop
     loop-holds
     row-at-requires
-    mul-outer
-    array-copy-out-outer
+    mul-row-step
+    array-copy-out-row-step
     row-step-requires
     add-next
     sub-fewer
@@ -152,5 +153,5 @@ rows-read-spec =
     loop-again-2
     loop-less-3
     loop-again-3
-    returns-3
-    returns-4)
+    after-rows-requires
+    returns-3)
