@@ -16,12 +16,11 @@ use Rattle.sheet.specs.LongestRun.{longestRun}
 use Rattle.sheet.specs.Reading.{Sheet, variablesOf, rowAt, rowsAt}
 use Rattle.sets.specs.Marks.{marked}
 use Rattle.table.specs.TableRows.{Origin}
-use Rattle.table.specs.Adjoint.{tableOf}
 use Rattle.table.specs.Sizes.{tableRows, valuesNeeded, turnsNeeded}
 use Rattle.table.specs.Calls.{tableRoom}
 use Rattle.run.specs.Actions.{Memory}
 use Rattle.run.specs.Machine.{Ending, finished, stoppedAt}
-use Rattle.run.specs.Calls.{Lent, settingOf, startOf, runOf}
+use Rattle.run.specs.Calls.{Lent, sheetRun}
 
 -- ---- where things stand
 
@@ -260,8 +259,7 @@ module _ (A : Arithmetic) (words : List ℕ) (starts seeds : List (A .Carrier)) 
 
   -- the machine over the sheet's table
   abbrev pub endingOf : Sheet → Ending A
-  endingOf sheet =
-      runOf A (tableOf sheet) (settingOf A sheet seeds (length (lent .values)) (length (lent .turns))) (startOf A sheet starts)
+  endingOf sheet = sheetRun A sheet starts seeds (length (lent .values)) (length (lent .turns))
 
   -- refusals before the machine starts: 1 to 11
   pub data StartRefused : Refusal → Type 0 where

@@ -17,12 +17,12 @@ use Rattle.table.specs.declared.Answer.{Answer}
 use Rattle.run.specs.Attempts.{through, halted, stuck}
 use Rattle.run.specs.Actions.{Memory, Setting}
 use Rattle.run.specs.Machine.{Ending, finished}
-use Rattle.run.specs.Calls.{settingOf, startOf, resultOf, lentAfter, ranTo, lentOf, ranOf}
+use Rattle.run.specs.Calls.{settingOf, startOf, runOf, sheetRun, resultOf, lentAfter, ranTo, lentOf, ranOf}
 use Rattle.run.specs.InTheLarge.{tableRun}
 use Rattle.run.specs.inner.Buffers.{Stack, Sound}
 use Rattle.run.specs.inner.RunsRows.{Cells, cellsOf, Handed, EndsLike, RunsRows}
 use Rattle.run.specs.inner.CallSteps.{filled, ResultFits, answerAt, resultAt}
-use Rattle.run.specs.inner.CallAnswers.{Ready, RunRoom, StacksCleared, sheetRun, RanTo}
+use Rattle.run.specs.inner.CallAnswers.{Ready, RunRoom, StacksCleared, RanTo}
 use Rattle.run.specs.declared.Ended.{Ended}
 use Rattle.run.specs.declared.Ended.the-variants as ended
 use Rattle.run.proofs.MachineFollows.{Result, EndsAs, run-follows}
@@ -140,7 +140,7 @@ module _ (A : Arithmetic) where
 
     -- a finished run has copied every original
     finished-copies : (memory : Memory A) → ending ≡ finished memory → length (memory .copied) ≡ variablesOf sheet
-    unfolding sheetRun startOf settingOf tableOf
+    unfolding startOf settingOf tableOf
     finished-copies memory e =
         adjoint-copies A itsSetting refl (marked sheet) start memory (omega (arith, room .startsFit, roles-counted, start-length sheet starts))
         (finished-in-the-large (tableRun A itsSetting (tableOf sheet) start) _ memory (run-follows A (tableOf sheet) itsSetting start) e)
@@ -177,7 +177,7 @@ module _ (A : Arithmetic) where
         → left ≡ resultAt A end roles (after .copied) (after .store) result
         → answer ≡ answerAt end
         → RanTo A sheet buffer starts seeds values turns result answer valuesAfter turnsAfter left
-    unfolding lentAfter sheetRun startOf
+    unfolding lentAfter runOf startOf
     comes-to buffer after end laid empty runs kept keptTurns empty-again written answered =
         let many = kept ∙ ap length (empty .valuesAre) ∙ length-replicate (length values) (A .zero) in
         let manyTurns = keptTurns ∙ ap length (empty .turnsAre) ∙ length-replicate (length turns) 0 in

@@ -22,7 +22,7 @@ use Rattle.run.specs.Calls.{Lent, allAdmitted, readToRun, ranOn, run, le
 use Rattle.run.specs.declared.Rooms.{Rooms}
 use Rattle.run.specs.declared.Fit.{Fit}
 use Rattle.run.specs.inner.CallSteps.{tableFits, stacksFit, roomsFit, fitSaid, readWithRoom, Answers, NoRoom, HasRoom}
-use Rattle.run.specs.inner.CallAnswers.{sheetRun, Written, RanTo}
+use Rattle.run.specs.inner.CallAnswers.{Written, RanTo}
 
 -- what a judgement comes to, by the code's answer
 pub said : {judgement : Answer (Unit {0})} {fit answer : Fit} → fitSaid fit ≡ judgement → fit ≡ answer → judgement ≡ fitSaid answer
@@ -98,7 +98,7 @@ module _ (A : Arithmetic) (words : List ℕ) (starts seeds : List (A .Carrier)) 
         → ((sheet : Sheet) (buffer : List ℕ) → Written words plan table sheet buffer
         → RanTo A sheet buffer starts seeds (lent .values) (lent .turns) (lent .result) answer values turns result)
         → ranOf A answer (lentOf A table values turns result) ≡ run A words starts seeds lent
-    unfolding run ranOn sheetRun
+    unfolding run ranOn
     accepted-run admitted writes runs =
         let made = room .made in
         let is = writes (made .sheet) (made .accepted) in

@@ -72,6 +72,10 @@ module _ (A : Arithmetic) where
   unfolding linesOf runFor stepsOf
   runOf table setting start = runFor A (suc (stepsOf table)) setting (linesOf table) start
 
+  -- the run of a sheet's own table
+  abbrev pub sheetRun : Sheet → (starts seeds : List (A .Carrier)) → (valueRoom turnRoom : ℕ) → Ending A
+  sheetRun sheet starts seeds valueRoom turnRoom = runOf (tableOf sheet) (settingOf sheet seeds valueRoom turnRoom) (startOf sheet starts)
+
   -- "the values copied at row 17, then each independent's final adjoint and 0 for every other variable"
   unfoldable pub independentAdjoints : (roles : List ℕ) → (adjoints : List (A .Carrier)) → List (A .Carrier)
   independentAdjoints [] adjoints = []
@@ -118,9 +122,7 @@ module _ (A : Arithmetic) where
   unfoldable pub ranOn : Answer Sheet → (starts seeds : List (A .Carrier)) → Lent → Ran
   unfolding numberOf placeOf tableOf settingOf startOf runOf ranTo
   ranOn (refused r) starts seeds lent = record { number = numberOf r; place = placeOf r; lent = lent }
-  ranOn (given sheet) starts seeds lent =
-      ranTo sheet lent
-      (runOf (tableOf sheet) (settingOf sheet seeds (length (lent .values)) (length (lent .turns))) (startOf sheet starts))
+  ranOn (given sheet) starts seeds lent = ranTo sheet lent (sheetRun sheet starts seeds (length (lent .values)) (length (lent .turns)))
 
   -- "a run takes a sheet, never a bare table, and uses all"
   unfoldable pub run : (words : List ℕ) → (starts seeds : List (A .Carrier)) → Lent → Ran

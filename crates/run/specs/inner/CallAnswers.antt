@@ -15,8 +15,7 @@ use Rattle.table.specs.Sizes.{tableRows, mostTableRows}
 use Rattle.table.specs.Calls.{overwritten}
 use Rattle.table.specs.declared.Answer.{Answer}
 use Rattle.table.specs.declared.Plan.{Plan}
-use Rattle.run.specs.Machine.{Ending}
-use Rattle.run.specs.Calls.{settingOf, startOf, runOf, ranTo, lentOf, ranOf}
+use Rattle.run.specs.Calls.{sheetRun, ranTo, lentOf, ranOf}
 use Rattle.run.specs.inner.Runnable.{Holds, Jumps}
 
 -- ---- a sheet whose table has been written
@@ -64,15 +63,10 @@ module _ (A : Arithmetic) where
     pub valuesAre : valuesAfter ≡ replicate (length values) (A .zero)
     pub turnsAre : turnsAfter ≡ replicate (length turns) 0
 
-  unfoldable pub sheetRun : Sheet → (starts seeds : List (A .Carrier)) → (valueRoom turnRoom : ℕ) → Ending A
-  unfolding tableOf settingOf startOf runOf
-  sheetRun sheet starts seeds valueRoom turnRoom =
-      runOf A (tableOf sheet) (settingOf A sheet seeds valueRoom turnRoom) (startOf A sheet starts)
-
   -- what is answered and left is what the run of the sheet's table, written over a buffer, comes to
   abbrev pub RanTo : Sheet → (buffer : List ℕ) → (starts seeds before : List (A .Carrier)) → (turnsBefore : List ℕ)
       → (resultBefore : List (A .Carrier)) → (answer : Answer)
       → (after : List (A .Carrier)) → (turnsAfter : List ℕ) → (resultAfter : List (A .Carrier)) → Type 0
   RanTo sheet buffer starts seeds before turnsBefore resultBefore answer after turnsAfter resultAfter =
       ranOf A answer (lentOf A (overwritten (tableWords (tableOf sheet)) buffer) after turnsAfter resultAfter)
-      ≡ ranTo A sheet (lentOf A buffer before turnsBefore resultBefore) (sheetRun sheet starts seeds (length before) (length turnsBefore))
+      ≡ ranTo A sheet (lentOf A buffer before turnsBefore resultBefore) (sheetRun A sheet starts seeds (length before) (length turnsBefore))
