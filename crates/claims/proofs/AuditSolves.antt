@@ -15,7 +15,7 @@ use Rattle.sheet.proofs.NamesPresent.{names-present}
 use Rattle.sets.specs.Marks.{varied, useful, activityAt}
 use Rattle.sets.proofs.SetsLeast.{varied-least, useful-least}
 use Rattle.run.specs.Attempts.{through}
-use Rattle.run.specs.Actions.{Setting, seeded}
+use Rattle.run.specs.Actions.{Setting, counting, seeded}
 use Rattle.run.specs.Calls.{Lent, Ran, settingOf, independentAdjoints, lentAfter, run}
 use Rattle.claims.specs.ExactlyWhen.{Runnable}
 use Rattle.claims.specs.Execution.{Progress, beginning, execution}
@@ -42,7 +42,7 @@ sound words sheet accepted =
 -- an independent's entry is its adjoint, any other's 0
 adjoint-at : (roles adjoints : List ℕ) (x : ℕ) → x < length roles
     → getD (independentAdjoints residues roles adjoints) x 0 ≡ cond (isIndependent (getD roles x 0)) (getD adjoints x 0) 0
-unfolding independentAdjoints
+unfolding counting
 adjoint-at [] adjoints x h = absurd (not-suc-le-zero h)
 adjoint-at (role ∷ roles) adjoints zero h = refl
 adjoint-at (role ∷ roles) adjoints (suc x) h =

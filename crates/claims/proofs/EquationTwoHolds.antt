@@ -21,7 +21,7 @@ use Rattle.sets.specs.Marks.{varied, useful, variedEquations, usefulEquations, 
 use Rattle.sets.proofs.VariableSetLaws.{places-has}
 use Rattle.sets.proofs.EquationsAlong.{forward-along, backward-along}
 use Rattle.run.specs.Attempts.{Attempt, through}
-use Rattle.run.specs.Actions.{seeded}
+use Rattle.run.specs.Actions.{counting, seeded}
 use Rattle.run.specs.Calls.{settingOf}
 use Rattle.run.specs.InTheLarge.{Stop}
 use Rattle.claims.specs.Execution.{Progress, beginning, execution, executed}
@@ -47,7 +47,7 @@ getD-tail [] x = refl
 getD-tail (y ∷ xs) x = refl
 
 seeded-at : (roles seeds : List ℕ) (x : ℕ) → getD (seeded residues roles seeds ++ (0 ∷ 0 ∷ [])) x 0 ≡ seedAt roles seeds x
-unfolding seeded seedAt
+unfolding counting seedAt
 seeded-at [] seeds x = nothing-past x
 seeded-at (role ∷ roles) seeds zero = refl
 seeded-at (role ∷ roles) seeds (suc x) = seeded-at roles (drop 1 seeds) x ∙ ap (λ y. cond (isDependent (getD roles x 0)) y 0) (getD-tail seeds x)

@@ -13,7 +13,7 @@ use Rattle.sets.specs.Transfers.{recordedBy}
 use Rattle.sets.specs.Marks.{marked, varied, useful, required, activityAt}
 use Rattle.table.specs.Sizes.{valuesNeeded, turnsNeeded}
 use Rattle.run.specs.Attempts.{Attempt, through, halted, stuck}
-use Rattle.run.specs.Actions.{seeded}
+use Rattle.run.specs.Actions.{counting, seeded}
 use Rattle.run.specs.Calls.{Lent, settingOf, readToRun, run}
 use Rattle.run.specs.InTheLarge.{Stop}
 use Rattle.claims.specs.ExactlyWhen.{Runnable}
@@ -83,7 +83,7 @@ E-reads : map (λ entry. entry .reads)
     (sweptLog residues (settingOf residues sheetE (1 ∷ 0 ∷ []) 2 0) (activityAt (varied sheetE) (useful sheetE)) (progressE .trace)
     (seeded residues (sheetE .roles) (1 ∷ 0 ∷ []) ++ (0 ∷ 0 ∷ [])))
     ≡ [] ∷ [] ∷ [] ∷ [] ∷ [] ∷ [] ∷ (2 ∷ []) ∷ [] ∷ (2 ∷ []) ∷ [] ∷ [] ∷ [] ∷ [] ∷ [] ∷ [] ∷ [] ∷ (1 ∷ []) ∷ [] ∷ (1 ∷ []) ∷ [] ∷ []
-unfolding sweptLog settingOf activityAt varied useful progressE seeded residue
+unfolding sweptLog settingOf activityAt varied useful progressE counting residue
 E-reads = refl
 
 lentE : Lent residues

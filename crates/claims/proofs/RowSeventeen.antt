@@ -7,7 +7,7 @@ use lib.Seq.{take-at, drop-append-add}
 use native.Mathlib.Nat.{suc-add, zero-add}
 use native.Mathlib.Omega.{arith}
 use Rattle.number.specs.Arithmetic.{Arithmetic}
-use Rattle.run.specs.Actions.{Setting, seeded, turnedRound}
+use Rattle.run.specs.Actions.{Setting, counting, seeded, turnedRound}
 
 module _ (A : Arithmetic) where
   drop-zeros : (n m : ℕ) → drop n (replicate (n + m) (A .zero)) ≡ replicate m (A .zero)
@@ -15,7 +15,7 @@ module _ (A : Arithmetic) where
   drop-zeros (suc n) m = rw (suc-add n m) (drop-zeros n m)
 
   pub seeded-length : (roles : List ℕ) (seeds : List (A .Carrier)) → length (seeded A roles seeds) ≡ length roles
-  unfolding seeded
+  unfolding counting
   seeded-length [] seeds = refl
   seeded-length (role ∷ roles) seeds = ap suc (seeded-length roles (drop 1 seeds))
 

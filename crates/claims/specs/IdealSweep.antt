@@ -11,7 +11,7 @@ use Rattle.sets.specs.Transfers.{Activity}
 use Rattle.sets.specs.Marks.{varied, useful, activityAt}
 use Rattle.table.specs.Adjoint.{derivativeRows}
 use Rattle.run.specs.Attempts.{Attempt, through, _>>=_}
-use Rattle.run.specs.Actions.{Setting, seeded}
+use Rattle.run.specs.Actions.{Setting, counting, seeded}
 use Rattle.run.specs.InTheLarge.{Stop, tableRun}
 use Rattle.claims.specs.Execution.{Executed, Progress, execution}
 
@@ -38,7 +38,7 @@ module _ (A : Arithmetic) where
     pub adjoints : List (A .Carrier)
 
   unfoldable pub ideal : Sheet → Setting A → (starts : List (A .Carrier)) → Attempt (Stop A) Ideal
-  unfolding execution swept seeded varied useful activityAt
+  unfolding execution swept counting varied useful activityAt
   ideal sheet setting starts = do
     progress ← execution A sheet starts
     adjoints ← swept setting (activityAt (varied sheet) (useful sheet)) (progress .trace)

@@ -12,7 +12,7 @@ use Rattle.sets.specs.Marks.{marked}
 use Rattle.table.specs.Adjoint.{adjointTable}
 use Rattle.table.specs.Sizes.{valuesNeeded, turnsNeeded}
 use Rattle.run.specs.Attempts.{Attempt, through, halted, stuck}
-use Rattle.run.specs.Actions.{Memory}
+use Rattle.run.specs.Actions.{Memory, counting}
 use Rattle.run.specs.Machine.{Ending, finished, stoppedAt}
 use Rattle.run.specs.Calls.{Lent, Ran, settingOf, startOf, runOf, independentAdjoints, lentAfter}
 use Rattle.run.specs.InTheLarge.{Stop}
@@ -50,7 +50,7 @@ module _ (A : Arithmetic) where
   -- what the call run answers: 0 with the values of the execution and, at the independents, the adjoints of the ideal sweep; or 12 at
   -- some table row, the result unchanged
   unfoldable pub AnswersAs : Sheet → Lent A → Attempt (Stop A) (Ideal A) → Ran A → Type 0
-  unfolding lentAfter independentAdjoints numberOf placeOf
+  unfolding lentAfter counting numberOf placeOf
   AnswersAs sheet lent (through i) ran =
       ran
       ≡ record {

@@ -14,7 +14,7 @@ use Rattle.number.specs.Arithmetic.{Arithmetic}
 use Rattle.sheet.specs.Rows.{isIndependent}
 use Rattle.run.specs.Calls.{independentAdjoints}
 use Rattle.run.specs.inner.CallSteps.{filled, ResultFits, resultFrom}
-use Rattle.run.proofs.RoleLaws.{adjoints-counting, counting-length, counting-at}
+use Rattle.run.proofs.RoleLaws.{counting-length, counting-at}
 
 module _ {X : Type 0} (front before : List X) where
   -- i places are laid
@@ -74,7 +74,7 @@ module _ (A : Arithmetic) where
     PuttingAdjoints i now = Filling (independentAdjoints A roles adjoints) before i now
 
     put-length : length (independentAdjoints A roles adjoints) ≡ length roles
-    put-length = ap length (adjoints-counting A roles adjoints) ∙ counting-length A isIndependent roles adjoints
+    put-length = counting-length A isIndependent roles adjoints
 
     pub putting-starts : length roles ≤ length before → PuttingAdjoints 0 before
     putting-starts room = filling-starts (independentAdjoints A roles adjoints) before (rw put-length room)
@@ -87,7 +87,7 @@ module _ (A : Arithmetic) where
         → PuttingAdjoints (i + 1) (set now i x)
     putting-goes-on i now x z is h there f =
         filling-goes-on (independentAdjoints A roles adjoints) before i now x z
-        (is ∙ sym (ap (λ l. getD l i z) (adjoints-counting A roles adjoints) ∙ counting-at A isIndependent roles adjoints i z h there))
+        (is ∙ sym (counting-at A isIndependent roles adjoints i z h there))
         (rw put-length h) f
 
     pub putting-ends : (i : ℕ) (now : List (A .Carrier)) → length roles ≤ i → PuttingAdjoints i now

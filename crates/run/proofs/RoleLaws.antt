@@ -7,50 +7,31 @@ use native.Mathlib.Omega.{arith}
 use lib.ListN.{length, getD, drop}
 use lib.Seq.{getD-drop}
 use Rattle.number.specs.Arithmetic.{Arithmetic}
-use Rattle.sheet.specs.Rows.{isDependent, isIndependent}
-use Rattle.run.specs.Actions.{seeded}
-use Rattle.run.specs.Calls.{independentAdjoints}
+use Rattle.run.specs.Actions.{counting}
 
 pub any-default : {X : Type 0} (l : List X) (i : ℕ) (y z : X) → i < length l → getD l i y ≡ getD l i z
 any-default [] i y z h = absurd (omega arith)
 any-default (x ∷ l) zero y z h = refl
 any-default (x ∷ l) (suc i) y z h = any-default l i y z (omega arith)
 
-module _ (A : Arithmetic) where
-  -- the numbers where the role counts, zeros elsewhere
-  unfoldable pub counting : (ℕ → Bool) → (roles : List ℕ) → (numbers : List (A .Carrier)) → List (A .Carrier)
-  counting counts [] numbers = []
-  counting counts (role ∷ roles) numbers = cond (counts role) (getD numbers 0 (A .zero)) (A .zero) ∷ counting counts roles (drop 1 numbers)
+module _ (A : Arithmetic) (counts : ℕ → Bool) where
+  pub counting-length : (roles : List ℕ) (numbers : List (A .Carrier)) → length (counting A counts roles numbers) ≡ length roles
+  unfolding counting
+  counting-length [] numbers = refl
+  counting-length (role ∷ roles) numbers = ap suc (counting-length roles (drop 1 numbers))
 
-  pub seeded-counting : (roles : List ℕ) (seeds : List (A .Carrier)) → seeded A roles seeds ≡ counting isDependent roles seeds
-  unfolding seeded counting
-  seeded-counting [] seeds = refl
-  seeded-counting (role ∷ roles) seeds = rw (seeded-counting roles (drop 1 seeds))
+  counting-at-zero : (roles : List ℕ) (numbers : List (A .Carrier)) (i : ℕ) (z : A .Carrier) → i < length roles
+      → getD (counting A counts roles numbers) i z ≡ cond (counts (getD roles i 0)) (getD numbers i (A .zero)) (A .zero)
+  unfolding counting
+  counting-at-zero [] numbers i z h = absurd (omega arith)
+  counting-at-zero (role ∷ roles) numbers zero z h = refl
+  counting-at-zero (role ∷ roles) numbers (suc i) z h =
+      let next : 1 + i ≡ suc i = omega arith in
+      counting-at-zero roles (drop 1 numbers) i z (omega arith)
+      ∙ ap (λ x. cond (counts (getD roles i 0)) x (A .zero)) (getD-drop 1 numbers i (A .zero) ∙ ap (λ n. getD numbers n (A .zero)) next)
 
-  pub adjoints-counting : (roles : List ℕ) (adjoints : List (A .Carrier))
-      → independentAdjoints A roles adjoints ≡ counting isIndependent roles adjoints
-  unfolding independentAdjoints counting
-  adjoints-counting [] adjoints = refl
-  adjoints-counting (role ∷ roles) adjoints = rw (adjoints-counting roles (drop 1 adjoints))
-
-  module _ (counts : ℕ → Bool) where
-    pub counting-length : (roles : List ℕ) (numbers : List (A .Carrier)) → length (counting counts roles numbers) ≡ length roles
-    unfolding counting
-    counting-length [] numbers = refl
-    counting-length (role ∷ roles) numbers = ap suc (counting-length roles (drop 1 numbers))
-
-    counting-at-zero : (roles : List ℕ) (numbers : List (A .Carrier)) (i : ℕ) (z : A .Carrier) → i < length roles
-        → getD (counting counts roles numbers) i z ≡ cond (counts (getD roles i 0)) (getD numbers i (A .zero)) (A .zero)
-    unfolding counting
-    counting-at-zero [] numbers i z h = absurd (omega arith)
-    counting-at-zero (role ∷ roles) numbers zero z h = refl
-    counting-at-zero (role ∷ roles) numbers (suc i) z h =
-        let next : 1 + i ≡ suc i = omega arith in
-        counting-at-zero roles (drop 1 numbers) i z (omega arith)
-        ∙ ap (λ x. cond (counts (getD roles i 0)) x (A .zero)) (getD-drop 1 numbers i (A .zero) ∙ ap (λ n. getD numbers n (A .zero)) next)
-
-    -- whatever a read beyond the numbers would give
-    pub counting-at : (roles : List ℕ) (numbers : List (A .Carrier)) (i : ℕ) (z : A .Carrier) → i < length roles → i < length numbers
-        → getD (counting counts roles numbers) i z ≡ cond (counts (getD roles i 0)) (getD numbers i z) (A .zero)
-    counting-at roles numbers i z h there =
-        counting-at-zero roles numbers i z h ∙ ap (λ x. cond (counts (getD roles i 0)) x (A .zero)) (any-default numbers i (A .zero) z there)
+  -- whatever a read beyond the numbers would give
+  pub counting-at : (roles : List ℕ) (numbers : List (A .Carrier)) (i : ℕ) (z : A .Carrier) → i < length roles → i < length numbers
+      → getD (counting A counts roles numbers) i z ≡ cond (counts (getD roles i 0)) (getD numbers i z) (A .zero)
+  counting-at roles numbers i z h there =
+      counting-at-zero roles numbers i z h ∙ ap (λ x. cond (counts (getD roles i 0)) x (A .zero)) (any-default numbers i (A .zero) z there)

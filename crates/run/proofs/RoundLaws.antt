@@ -13,17 +13,9 @@ use Rattle.sheet.specs.Rows.{isDependent}
 use Rattle.run.specs.Actions.{seeded, turnedRound, acted}
 use Rattle.run.specs.inner.Buffers.{RoundSizes, TurnsRound}
 use Rattle.run.specs.declared.Went.the-variants as went
-use Rattle.run.proofs.RoleLaws.{seeded-counting, counting-length, counting-at}
+use Rattle.run.proofs.RoleLaws.{counting-length, counting-at}
 
 module _ (A : Arithmetic) where
-  pub seeded-length : (roles : List ℕ) (seeds : List (A .Carrier)) → length (seeded A roles seeds) ≡ length roles
-  seeded-length roles seeds = ap length (seeded-counting A roles seeds) ∙ counting-length A isDependent roles seeds
-
-  seeded-at : (roles : List ℕ) (seeds : List (A .Carrier)) (i : ℕ) (z : A .Carrier) → i < length roles → i < length seeds
-      → getD (seeded A roles seeds) i z ≡ cond (isDependent (getD roles i 0)) (getD seeds i z) (A .zero)
-  seeded-at roles seeds i z h there =
-      ap (λ l. getD l i z) (seeded-counting A roles seeds) ∙ counting-at A isDependent roles seeds i z h there
-
   module _ (roles : List ℕ) (seeds store copied : List (A .Carrier)) where
     -- the buffers after i turns
     pub record Copying (i : ℕ) (storeNow copiedNow : List (A .Carrier)) : Type 0 where
@@ -39,7 +31,7 @@ module _ (A : Arithmetic) where
       copying-store-length {i} h now =
           let enough = sizes .storeFits in
           ap length (now .storeIs)
-          ∙ length-paste store (length roles) (seeded A roles seeds) i (omega arith) (rw (seeded-length roles seeds) h)
+          ∙ length-paste store (length roles) (seeded A roles seeds) i (omega arith) (rw (counting-length A isDependent roles seeds) h)
 
       copying-copied-length : {i : ℕ} {s c : List (A .Carrier)} → i ≤ length roles → Copying i s c → length c ≡ length copied
       copying-copied-length {i} h now =
@@ -68,10 +60,10 @@ module _ (A : Arithmetic) where
           let room = sizes .copiedFits in
           let there : i < length seeds = rw (sizes .seedsFit) h in
           let seed : cond (isDependent (getD roles i 0)) (getD seeds i z) (A .zero) ≡ getD (seeded A roles seeds) i z =
-          sym (seeded-at roles seeds i z h there) in
+          sym (counting-at A isDependent roles seeds i z h there) in
           rw (add-one i, seed, now .storeIs, now .copiedIs, original-kept i i z h)
           (record {
-            storeIs = paste-suc store v (seeded A roles seeds) i z (omega arith) (rw (seeded-length roles seeds) h);
+            storeIs = paste-suc store v (seeded A roles seeds) i z (omega arith) (rw (counting-length A isDependent roles seeds) h);
             copiedIs =
                 ap (λ n. set (paste copied 0 store i) n (getD store i z)) (sym (zero-add i))
                 ∙ paste-suc copied 0 store i z (omega arith) (omega arith);
@@ -83,7 +75,7 @@ module _ (A : Arithmetic) where
           let v = length roles in
           let twice : v + v ≡ 2 * v = omega arith in
           let all : take v (seeded A roles seeds) ≡ seeded A roles seeds =
-          take-all v (seeded A roles seeds) (omega (arith, seeded-length roles seeds)) in
+          take-all v (seeded A roles seeds) (omega (arith, counting-length A isDependent roles seeds)) in
           now .storeIs ∙ rw (all, twice)
 
       copied-done : (s c : List (A .Carrier)) → Copying (length roles) s c → c ≡ take (length roles) store

@@ -10,7 +10,7 @@ use lib.Seq.{length-take-le}
 use lib.Dec.{eqb}
 use Rattle.number.specs.Arithmetic.{Arithmetic}
 use Rattle.sheet.specs.Tree.{done, one, fork, again}
-use Rattle.sheet.specs.Rows.{_≔_}
+use Rattle.sheet.specs.Rows.{_≔_, isDependent}
 use Rattle.table.specs.TableRows.{Action, assign, save, takeBack, saveTurn, clear, turnRound, TableTest, whether, onTurn}
 use Rattle.table.specs.TableRows.{Table, TableRow, saving, itself, ofTurningRound, turnWord}
 use Rattle.sets.specs.Marks.{Marked}
@@ -20,7 +20,7 @@ use Rattle.run.specs.Actions.{Memory, Setting, evaluated, stored, restor
 use Rattle.run.specs.Actions.{Verdict, verdictOn, turnTaken, tested, compared}
 use Rattle.run.specs.InTheLarge.{from, chosen, tableRun}
 use Rattle.run.proofs.AttemptLaws.{went, same-through, is-present, was-replaced, came}
-use Rattle.run.proofs.RoundLaws.{seeded-length}
+use Rattle.run.proofs.RoleLaws.{counting-length}
 
 module _ (A : Arithmetic) (setting : Setting A) (sections : setting .variables ≡ length (setting .roles)) where
   -- room for the originals and their adjoints
@@ -69,7 +69,7 @@ module _ (A : Arithmetic) (setting : Setting A) (sections : setting .variables �
         length-append (originals ++ adjoints) rest,
         length-append originals adjoints,
         length-take-le v (memory .store) (omega arith),
-        seeded-length A (setting .roles) (setting .seeds),
+        counting-length A isDependent (setting .roles) (setting .seeds),
         length-drop (2 * v) (memory .store),
       )
 

@@ -77,14 +77,18 @@ module _ (A : Arithmetic) where
   restored memory d [] = stuck
   restored memory d (x ∷ values) = stored (record { store = memory .store; values = values; turns = memory .turns; copied = memory .copied }) d x
 
+  -- the numbers where the role counts, zeros elsewhere
+  unfoldable pub counting : (counts : ℕ → Bool) → (roles : List ℕ) → (numbers : List (A .Carrier)) → List (A .Carrier)
+  counting counts [] numbers = []
+  counting counts (role ∷ roles) numbers = cond (counts role) (getD numbers 0 (A .zero)) (A .zero) ∷ counting counts roles (drop 1 numbers)
+
   -- "sets every adjoint to 0 and then each dependent's adjoint to its seed"
-  unfoldable pub seeded : (roles : List ℕ) → (seeds : List (A .Carrier)) → List (A .Carrier)
-  seeded [] seeds = []
-  seeded (role ∷ roles) seeds = cond (isDependent role) (getD seeds 0 (A .zero)) (A .zero) ∷ seeded roles (drop 1 seeds)
+  abbrev pub seeded : (roles : List ℕ) → (seeds : List (A .Carrier)) → List (A .Carrier)
+  seeded roles seeds = counting isDependent roles seeds
 
   -- "It copies out the V original values, sets every adjoint to 0 and then each dependent's adjoint to its seed."
   unfoldable pub turnedRound : Setting → Memory → Memory
-  unfolding seeded
+  unfolding counting
   turnedRound setting memory =
       let originals = take (setting .variables) (memory .store) in
       record {

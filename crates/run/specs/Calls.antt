@@ -1,8 +1,7 @@
 -- What a run answers and what every lent buffer then holds, for both arithmetics from one definition.
 use Prim.Native.Nat.{ℕ, suc, _+_, _*_}
-use mathlib.Core.Bool.{cond}
 use mathlib.Core.List.{List, [], _∷_, _++_}
-use lib.ListN.{length, getD, drop, replicate}
+use lib.ListN.{length, drop, replicate}
 use lib.Dec.{leb, eqb}
 use Rattle.number.specs.Arithmetic.{Arithmetic}
 use Rattle.sheet.specs.Refusals.{Answer, refused, given, _>>=_, numberOf, placeOf, smallValueStack, smallTurnStack, wrongStarts, wrongSeeds, wrongResult, notFiniteGiven, notFiniteResult}
@@ -14,7 +13,7 @@ use Rattle.table.specs.Adjoint.{tableOf}
 use Rattle.table.specs.Sizes.{valuesNeeded, turnsNeeded}
 use Rattle.table.specs.Calls.{readFor, overwritten}
 use Rattle.table.specs.declared.Answer as declared
-use Rattle.run.specs.Actions.{Memory, Setting}
+use Rattle.run.specs.Actions.{Memory, Setting, counting}
 use Rattle.run.specs.Machine.{State, Ending, finished, stoppedAt, gotStuck, outOfFuel, runFor, stepsOf}
 
 module _ (A : Arithmetic) where
@@ -77,13 +76,11 @@ module _ (A : Arithmetic) where
   sheetRun sheet starts seeds valueRoom turnRoom = runOf (tableOf sheet) (settingOf sheet seeds valueRoom turnRoom) (startOf sheet starts)
 
   -- "the values copied at row 17, then each independent's final adjoint and 0 for every other variable"
-  unfoldable pub independentAdjoints : (roles : List ℕ) → (adjoints : List (A .Carrier)) → List (A .Carrier)
-  independentAdjoints [] adjoints = []
-  independentAdjoints (role ∷ roles) adjoints =
-      cond (isIndependent role) (getD adjoints 0 (A .zero)) (A .zero) ∷ independentAdjoints roles (drop 1 adjoints)
+  abbrev pub independentAdjoints : (roles : List ℕ) → (adjoints : List (A .Carrier)) → List (A .Carrier)
+  independentAdjoints roles adjoints = counting A isIndependent roles adjoints
 
   unfoldable pub resultOf : Sheet → Memory A → List (A .Carrier)
-  unfolding independentAdjoints
+  unfolding counting
   resultOf sheet memory = memory .copied ++ independentAdjoints (sheet .roles) (drop (variablesOf sheet) (memory .store))
 
   -- ---- the answer
