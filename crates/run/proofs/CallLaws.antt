@@ -13,6 +13,7 @@ use Rattle.sheet.proofs.NamesPresent.{counts}
 use Rattle.sets.specs.Marks.{marked}
 use Rattle.table.specs.TableRows.{linesOf, tableVariables}
 use Rattle.table.specs.Adjoint.{tableOf}
+use Rattle.table.specs.Calls.{overwritten}
 use Rattle.table.specs.declared.Answer.{Answer}
 use Rattle.run.specs.Attempts.{through, halted, stuck}
 use Rattle.run.specs.Actions.{Memory, Setting}
@@ -21,7 +22,7 @@ use Rattle.run.specs.Calls.{settingOf, startOf, runOf, sheetRun, resultO
 use Rattle.run.specs.InTheLarge.{tableRun}
 use Rattle.run.specs.inner.Buffers.{Stack, Sound}
 use Rattle.run.specs.inner.RunsRows.{Cells, cellsOf, Handed, EndsLike, RunsRows}
-use Rattle.run.specs.inner.CallSteps.{filled, ResultFits, answerAt, resultAt}
+use Rattle.run.specs.inner.CallSteps.{ResultFits, answerAt, resultAt}
 use Rattle.run.specs.inner.CallAnswers.{Ready, RunRoom, StacksCleared, RanTo}
 use Rattle.run.specs.declared.Ended.{Ended}
 use Rattle.run.specs.declared.Ended.the-variants as ended
@@ -45,8 +46,8 @@ empty-stack zero n =
 
 module _ (A : Arithmetic) where
   starts-then-zeros : (sheet : Sheet) (starts : List (A .Carrier)) → length starts ≡ variablesOf sheet
-      → filled starts (replicate (tableVariables (variablesOf sheet)) (A .zero)) ≡ startOf A sheet starts .memory .store
-  unfolding startOf
+      → overwritten starts (replicate (tableVariables (variablesOf sheet)) (A .zero)) ≡ startOf A sheet starts .memory .store
+  unfolding startOf overwritten
   starts-then-zeros sheet starts n =
       let v = variablesOf sheet in
       let split : 2 * v + 2 ≡ v + (v + 2) = omega arith in
@@ -110,10 +111,10 @@ module _ (A : Arithmetic) where
     roles-counted = ap length (ready .rolesAre)
 
     -- the store of zeros with the start values laid into it
-    starts-laid : {store : List (A .Carrier)} → store ≡ filled starts before → store ≡ start .store
+    starts-laid : {store : List (A .Carrier)} → store ≡ overwritten starts before → store ≡ start .store
     starts-laid is =
         let places : length before ≡ tableVariables (variablesOf sheet) = room .storeFits ∙ ap tableVariables roles-counted in
-        is ∙ ap (filled starts) (room .zeros ∙ ap (λ n. replicate n (A .zero)) places) ∙ starts-then-zeros sheet starts (room .startsFit ∙ roles-counted)
+        is ∙ ap (overwritten starts) (room .zeros ∙ ap (λ n. replicate n (A .zero)) places) ∙ starts-then-zeros sheet starts (room .startsFit ∙ roles-counted)
 
     -- what the runner is handed
     handed : {store cleared : List (A .Carrier)} {clearedTurns : List ℕ} → store ≡ start .store → StacksCleared A values turns cleared clearedTurns
@@ -168,7 +169,7 @@ module _ (A : Arithmetic) where
     -- from each step of a call's run to what it comes to
     pub comes-to : (buffer : List ℕ) {store cleared : List (A .Carrier)} {clearedTurns : List ℕ} (after : Cells A) (end : Ended)
         {answer : Answer} {valuesAfter : List (A .Carrier)} {turnsAfter : List ℕ} {left : List (A .Carrier)}
-        → store ≡ filled starts before
+        → store ≡ overwritten starts before
         → StacksCleared A values turns cleared clearedTurns
         → RunsRows A table rows beyond roles constants seeds enoughSteps (cellsOf A store cleared clearedTurns copied) after end
         → length (after .values) ≡ length cleared

@@ -12,8 +12,9 @@ use borrow.Rule.Slice.PartAt.{part-to-end}
 use borrow.Rule.Slice.PartMut.{putMid, postOf}
 use Rattle.number.specs.Arithmetic.{Arithmetic}
 use Rattle.sheet.specs.Rows.{isIndependent}
-use Rattle.run.specs.Calls.{independentAdjoints}
-use Rattle.run.specs.inner.CallSteps.{filled, ResultFits, resultFrom}
+use Rattle.table.specs.Calls.{overwritten}
+use Rattle.run.specs.Calls.{independentAdjoints, resultFrom}
+use Rattle.run.specs.inner.CallSteps.{ResultFits}
 use Rattle.run.proofs.RoleLaws.{counting-length, counting-at}
 
 module _ {X : Type 0} (front before : List X) where
@@ -39,7 +40,8 @@ module _ {X : Type 0} (front before : List X) where
             (ap (λ n. set (paste before 0 front i) n (getD front i z)) (sym (zero-add i)) ∙ paste-suc before 0 front i z (omega arith) h);
       }
 
-  pub filling-ends : (i : ℕ) (now : List X) → length front ≤ i → Filling i now → now ≡ filled front before
+  pub filling-ends : (i : ℕ) (now : List X) → length front ≤ i → Filling i now → now ≡ overwritten front before
+  unfolding overwritten
   filling-ends i now h f =
       let all : i ≡ length front = omega (arith, f .within) in
       f .is ∙ rw (all, take-length front, zero-add (length front))
@@ -61,6 +63,7 @@ module _ {X : Type 0} (zero : X) (before : List X) where
       (omega arith) f
 
   pub clearing-ends : (i : ℕ) (now : List X) → length now ≤ i → Clearing i now → now ≡ replicate (length before) zero
+  unfolding overwritten
   clearing-ends i now h f =
       let zeros = replicate (length before) zero in
       let long = f .long in
@@ -91,18 +94,19 @@ module _ (A : Arithmetic) where
         (rw put-length h) f
 
     pub putting-ends : (i : ℕ) (now : List (A .Carrier)) → length roles ≤ i → PuttingAdjoints i now
-        → now ≡ filled (independentAdjoints A roles adjoints) before
+        → now ≡ overwritten (independentAdjoints A roles adjoints) before
     putting-ends i now h f = filling-ends (independentAdjoints A roles adjoints) before i now (rw put-length h) f
 
   -- ---- a result in its two halves
 
   module _ (roles : List ℕ) (copied store result : List (A .Carrier)) (fits : ResultFits roles copied store result) where
     -- the first half laid, and the second half's place with the adjoints laid into it
-    pub result-written : (first second : List (A .Carrier)) → first ≡ filled copied result
+    pub result-written : (first second : List (A .Carrier)) → first ≡ overwritten copied result
         → second
-        ≡ filled (independentAdjoints A roles (take (length store - length roles) (drop (length roles) store)))
+        ≡ overwritten (independentAdjoints A roles (take (length store - length roles) (drop (length roles) store)))
         (take (length first - length roles) (drop (length roles) first))
         → putMid (length roles) (length first - length roles) first second ≡ resultFrom A roles copied store
+    unfolding overwritten
     result-written first second is then =
         let v = length roles in
         let own = fits .copiedFits in

@@ -79,9 +79,12 @@ module _ (A : Arithmetic) where
   abbrev pub independentAdjoints : (roles : List ℕ) → (adjoints : List (A .Carrier)) → List (A .Carrier)
   independentAdjoints roles adjoints = counting A isIndependent roles adjoints
 
+  abbrev pub resultFrom : (roles : List ℕ) → (copied store : List (A .Carrier)) → List (A .Carrier)
+  resultFrom roles copied store = copied ++ independentAdjoints roles (drop (length roles) store)
+
   unfoldable pub resultOf : Sheet → Memory A → List (A .Carrier)
   unfolding counting
-  resultOf sheet memory = memory .copied ++ independentAdjoints (sheet .roles) (drop (variablesOf sheet) (memory .store))
+  resultOf sheet memory = resultFrom (sheet .roles) (memory .copied) (memory .store)
 
   -- ---- the answer
 

@@ -6,8 +6,9 @@ ghost use lib.ListN.{length, replicate};
 ghost use Rattle.number.specs.Doubles.{doubles};
 ghost use Rattle.number.specs.Residues.{residues};
 ghost use Rattle.sheet.specs.Rows.{isIndependent};
-ghost use Rattle.run.specs.Calls.{independentAdjoints};
-ghost use Rattle.run.specs.inner.CallSteps.{filled, ResultFits, resultFrom};
+ghost use Rattle.table.specs.Calls.{overwritten};
+ghost use Rattle.run.specs.Calls.{independentAdjoints, resultFrom};
+ghost use Rattle.run.specs.inner.CallSteps.{ResultFits};
 use number::double;
 use sheet::is_independent;
 
@@ -49,7 +50,7 @@ pub fn clear_turns(cells: &mut [u16])
 
 pub fn copy_doubles(from: &[f64], into: &mut [f64])
     requires { ⌜ length (now from) ≤ length (now into) ⌝ }
-    ensures { λ r. ⌜ now (into .exit) ≡ filled (now (from .entry)) (now (into .entry)) ⌝ }
+    ensures { λ r. ⌜ now (into .exit) ≡ overwritten (now (from .entry)) (now (into .entry)) ⌝ }
 {
     let mut i: usize = 0;
     while i < from.len() {
@@ -60,7 +61,7 @@ pub fn copy_doubles(from: &[f64], into: &mut [f64])
 
 pub fn copy_residues(from: &[u32], into: &mut [u32])
     requires { ⌜ length (now from) ≤ length (now into) ⌝ }
-    ensures { λ r. ⌜ now (into .exit) ≡ filled (now (from .entry)) (now (into .entry)) ⌝ }
+    ensures { λ r. ⌜ now (into .exit) ≡ overwritten (now (from .entry)) (now (into .entry)) ⌝ }
 {
     let mut i: usize = 0;
     while i < from.len() {
@@ -87,7 +88,7 @@ fn residue_or_zero(role: u16, adjoint: u32) -> u32
 
 fn put_double_adjoints(roles: &[u16], adjoints: &[f64], into: &mut [f64])
     requires { ⌜ length (now roles) ≤ length (now adjoints) ⌝ ∗ ⌜ length (now roles) ≤ length (now into) ⌝ }
-    ensures { λ r. ⌜ now (into .exit) ≡ filled (independentAdjoints doubles (now (roles .entry)) (now (adjoints .entry))) (now (into .entry)) ⌝ }
+    ensures { λ r. ⌜ now (into .exit) ≡ overwritten (independentAdjoints doubles (now (roles .entry)) (now (adjoints .entry))) (now (into .entry)) ⌝ }
 {
     let mut i: usize = 0;
     while i < roles.len() {
@@ -98,7 +99,7 @@ fn put_double_adjoints(roles: &[u16], adjoints: &[f64], into: &mut [f64])
 
 fn put_residue_adjoints(roles: &[u16], adjoints: &[u32], into: &mut [u32])
     requires { ⌜ length (now roles) ≤ length (now adjoints) ⌝ ∗ ⌜ length (now roles) ≤ length (now into) ⌝ }
-    ensures { λ r. ⌜ now (into .exit) ≡ filled (independentAdjoints residues (now (roles .entry)) (now (adjoints .entry))) (now (into .entry)) ⌝ }
+    ensures { λ r. ⌜ now (into .exit) ≡ overwritten (independentAdjoints residues (now (roles .entry)) (now (adjoints .entry))) (now (into .entry)) ⌝ }
 {
     let mut i: usize = 0;
     while i < roles.len() {

@@ -70,8 +70,8 @@ readFor words room = do
   given sheet
 
 -- "the table buffer starts with the table and keeps its other words"
-unfoldable pub overwritten : (table buffer : List ℕ) → List ℕ
-overwritten table buffer = table ++ drop (length table) buffer
+unfoldable pub overwritten : {X : Type 0} → (front buffer : List X) → List X
+overwritten front buffer = front ++ drop (length front) buffer
 
 -- "Refusals 1 to 11 change no buffer."
 unfoldable pub tableIn : Answer Sheet → (buffer : List ℕ) → List ℕ

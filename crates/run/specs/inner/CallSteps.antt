@@ -1,8 +1,8 @@
 -- The steps of a call: refusals 1 to 11 one by one, an answer's number and place, and what is laid into and read out of whole buffers.
 use Prim.Native.Nat.{ℕ, _*_, _≤_}
 use mathlib.Core.Path.{_≡_}
-use mathlib.Core.List.{List, _++_}
-use lib.ListN.{length, drop}
+use mathlib.Core.List.{List}
+use lib.ListN.{length}
 use lib.Dec.{leb, eqb}
 use Rattle.number.specs.Arithmetic.{Arithmetic}
 use Rattle.number.specs.Doubles.{doubles}
@@ -15,7 +15,7 @@ use Rattle.table.specs.Calls.{tableRoom, readFor}
 use Rattle.table.specs.inner.Plans.{PlanMade}
 use Rattle.table.specs.declared.Answer as answered
 use Rattle.table.specs.declared.Plan.{Plan}
-use Rattle.run.specs.Calls.{independentAdjoints, stuckNumber}
+use Rattle.run.specs.Calls.{resultFrom, stuckNumber}
 use Rattle.run.specs.declared.Rooms.{Rooms}
 use Rattle.run.specs.declared.Judged.{Judged}
 use Rattle.run.specs.declared.Judged.the-variants as judged
@@ -113,22 +113,14 @@ answerAt ended.Stuck = record { number = stuckNumber doubles; place = 0 }
 -- ---- buffers
 
 module _ {X : Type 0} where
-  -- a buffer that starts with the front and keeps the rest
-  abbrev pub filled : (front buffer : List X) → List X
-  filled front buffer = front ++ drop (length front) buffer
-
   pub record ResultFits (roles : List ℕ) (copied store result : List X) : Type 0 where
     pub copiedFits : length copied ≡ length roles
     pub storeFits : 2 * length roles ≤ length store
     pub resultFits : length result ≡ 2 * length roles
 
 module _ (A : Arithmetic) where
-  -- "the values copied at row 17, then each independent's final adjoint and 0 for every other variable"
-  abbrev pub resultFrom : (roles : List ℕ) → (copied store : List (A .Carrier)) → List (A .Carrier)
-  resultFrom roles copied store = copied ++ independentAdjoints A roles (drop (length roles) store)
-
   -- what a run leaves of the result: it is written where the run has finished
   unfoldable pub resultAt : Ended → (roles : List ℕ) → (copied store result : List (A .Carrier)) → List (A .Carrier)
-  resultAt ended.Finished roles copied store result = resultFrom roles copied store
+  resultAt ended.Finished roles copied store result = resultFrom A roles copied store
   resultAt (ended.Stopped row) roles copied store result = result
   resultAt ended.Stuck roles copied store result = result
