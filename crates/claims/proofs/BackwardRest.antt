@@ -1,7 +1,7 @@
 -- What stands after a backward part may be exchanged for what does the same: so that the last turn of a repeat is a turn like any other.
 use Prim.Native.Nat.{ℕ, zero, suc, _+_}
 use mathlib.Core.Path.{_≡_, refl}
-use mathlib.Core.Bool.{Bool, true, false}
+use mathlib.Core.Bool.{Bool, true, false, cond}
 use Rattle.number.specs.Arithmetic.{Arithmetic}
 use Rattle.sheet.specs.Tree.{Tree, done, one, fork, again, rows}
 use Rattle.sheet.specs.Rows.{Assignment, _≔_, Test}
@@ -12,8 +12,8 @@ use Rattle.table.specs.TableRows.{Table, ofRow, takeBack, takingBack, onTurn}
 use Rattle.table.specs.Adjoint.{putIf, derivativeRows, backwardOf, backwardPart}
 use Rattle.run.specs.Attempts.{present}
 use Rattle.run.specs.Actions.{Setting, acted, tested}
-use Rattle.run.specs.InTheLarge.{from, chosen, tableRun}
-use Rattle.run.specs.RowReads.{chosenLog, tableLog}
+use Rattle.run.specs.InTheLarge.{from, tableRun}
+use Rattle.run.specs.RowReads.{tableLog}
 use Rattle.claims.proofs.Accounts.{account, Same, quiet, in-turn-same}
 use Rattle.claims.proofs.DerivativesAlike.{derivative-rows-same}
 use Rattle.claims.proofs.Forward.{body}
@@ -37,8 +37,8 @@ module _ (A : Arithmetic) (setting : Setting A) where
       (λ w.
       in-turn-same A
       (record {
-        log = chosenLog A (w .first) (tableLog A setting a (w .memory)) (tableLog A setting b (w .memory));
-        outcome = chosen A (w .first) (tableRun A setting a (w .memory)) (tableRun A setting b (w .memory));
+        log = cond (w .first) (tableLog A setting a (w .memory)) (tableLog A setting b (w .memory));
+        outcome = cond (w .first) (tableRun A setting a (w .memory)) (tableRun A setting b (w .memory));
       })
       _ _ same)
 

@@ -1,7 +1,7 @@
 -- An execution of a body whose names are all there is never stuck: it goes through, or the arithmetic stops it.
 use Prim.Native.Nat.{ℕ, zero, suc, _+_, _<_}
 use mathlib.Core.Path.{_≡_, refl, _∙_}
-use mathlib.Core.Bool.{Bool, true, false}
+use mathlib.Core.Bool.{Bool, true, false, cond}
 use mathlib.Core.List.{List, []}
 use mathlib.Core.Option.{some}
 use lib.ListN.{length, getD}
@@ -12,7 +12,7 @@ use Rattle.sheet.specs.Rows.{Assignment, _≔_, Source, copy, fixed, sum, diffe
 use Rattle.sheet.specs.Names.{SourcePresent, AssignmentPresent, TestPresent, Present}
 use Rattle.run.specs.Attempts.{Attempt, through, _>>=_, whole, look}
 use Rattle.run.specs.Actions.{evaluated, compared}
-use Rattle.run.specs.InTheLarge.{Stop, chosen}
+use Rattle.run.specs.InTheLarge.{Stop}
 use Rattle.claims.specs.Execution.{Progress, performed, turned, executed}
 use Rattle.run.proofs.AttemptLaws.{Ready, gives, ready-then, stops, whole-ready}
 use Rattle.claims.proofs.Runs.{runs}
@@ -60,17 +60,17 @@ module _ (A : Arithmetic) (constants : List ℕ) (v : ℕ) where
   executed-ready (fork f a b k) p now n named =
       let way = compared-ready f (now .store) n (named .0) in
       rw (way .1)
-      (ready-then (chosen A (way .0) (executed A constants a (suc p) now) (executed A constants b (suc (suc p + rows a)) now)) _
+      (ready-then (cond (way .0) (executed A constants a (suc p) now) (executed A constants b (suc (suc p + rows a)) now)) _
       (either (way .0) (executed-ready a (suc p) now n (named .1)) (executed-ready b (suc (suc p + rows a)) now n (named .2)))
       (λ m e.
       executed-ready k (suc (suc (suc p + rows a) + rows b)) (turned A (way .0) m) (size (way .0) m e) (named .3)))
     where
-      either : (first : Bool) {x y : Attempt (Stop A) (Progress A)} → Ready x → Ready y → Ready (chosen A first x y)
+      either : (first : Bool) {x y : Attempt (Stop A) (Progress A)} → Ready x → Ready y → Ready (cond first x y)
       either true x y = x
       either false x y = y
 
       size : (first : Bool) (m : Progress A)
-          → chosen A first (executed A constants a (suc p) now) (executed A constants b (suc (suc p + rows a)) now) ≡ through m
+          → cond first (executed A constants a (suc p) now) (executed A constants b (suc (suc p + rows a)) now) ≡ through m
           → length (m .store) ≡ v
       size true m e = runs-keep A constants (runs A constants a (suc p) now m e) ∙ n
       size false m e = runs-keep A constants (runs A constants b (suc (suc p + rows a)) now m e) ∙ n

@@ -18,7 +18,7 @@ use Rattle.table.specs.Adjoint.{put, putIf, forwardRow, forwardPart}
 use Rattle.table.specs.Sizes.{valuesNeeded, turnsNeeded}
 use Rattle.run.specs.Attempts.{Attempt, through, halted, stuck, _>>=_, present, replaced}
 use Rattle.run.specs.Actions.{Memory, Setting, evaluated, acted, compared, verdictOn, stored}
-use Rattle.run.specs.InTheLarge.{Stop, from, chosen, tableRun}
+use Rattle.run.specs.InTheLarge.{Stop, from, tableRun}
 use Rattle.claims.specs.Execution.{Progress, onward, performed, turned, executed}
 use Rattle.claims.specs.SavedRows.{onto, savedValues}
 use Rattle.run.proofs.AttemptLaws.{bind-assoc, bind-same}
@@ -206,8 +206,8 @@ module _ (known : ℕ → Assignment → Activity) (saved : ℕ → Assignment �
           → ((m : Progress A) → a ≡ through m → rest (memory (turned A true m)) ≡ (next (turned A true m) >>= after))
           → ((m : Progress A) → b ≡ through m → rest (memory (turned A false m)) ≡ (next (turned A false m) >>= after))
           → (present {Why = Stop A} (verdictOn A (memory now) o)
-          >>= λ verdict. chosen A (verdict .first) (first (verdict .memory)) (second (verdict .memory)) >>= rest)
-          ≡ (present o >>= (λ way. chosen A way a b >>= λ m. next (turned A way m)) >>= after)
+          >>= λ verdict. cond (verdict .first) (first (verdict .memory)) (second (verdict .memory)) >>= rest)
+          ≡ (present o >>= (λ way. cond way a b >>= λ m. next (turned A way m)) >>= after)
       fork-executes none now first second a b rest next after e f g h = refl
       fork-executes (some true) now first second a b rest next after e f g h =
           in-turn (first (memory now)) a (λ m. memory (turned A true m)) rest _ after e g

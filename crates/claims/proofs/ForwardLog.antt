@@ -1,7 +1,7 @@
 -- The forward part of a table notes nothing: none of its rows is of a derivative rule.
 use Prim.Native.Nat.{ℕ, zero, suc, _+_, _≤_}
 use mathlib.Core.Path.{_≡_, refl, sym, ap, _∙_}
-use mathlib.Core.Bool.{Bool, true, false}
+use mathlib.Core.Bool.{Bool, true, false, cond}
 use mathlib.Core.List.{List, [], _++_}
 use lib.ListN.{length}
 use Rattle.number.specs.Arithmetic.{Arithmetic}
@@ -14,8 +14,8 @@ use Rattle.table.specs.Adjoint.{Body, put, putIf, targetOf, forwardRow, forward
 use Rattle.table.specs.Sizes.{valuesNeeded, turnsNeeded}
 use Rattle.run.specs.Attempts.{Attempt, through, halted, stuck, _>>=_, present}
 use Rattle.run.specs.Actions.{Memory, Setting, acted, tested}
-use Rattle.run.specs.InTheLarge.{Stop, from, chosen, tableRun}
-use Rattle.run.specs.RowReads.{Entry, isDerivative, notedBy, onThrough, chosenLog, tableLog}
+use Rattle.run.specs.InTheLarge.{Stop, from, tableRun}
+use Rattle.run.specs.RowReads.{Entry, isDerivative, notedBy, onThrough, tableLog}
 use Rattle.claims.specs.Execution.{Progress, executed}
 use Rattle.claims.specs.SavedRows.{savedValues}
 use Rattle.claims.proofs.Forward.{body, memoryWith, forward-executes}
@@ -33,7 +33,7 @@ module _ (A : Arithmetic) where
   nothing-after (halted why) log h = refl
   nothing-after stuck log h = refl
 
-  chosen-nothing : (first : Bool) (a b : List (Entry A)) → a ≡ [] → b ≡ [] → chosenLog A first a b ≡ []
+  chosen-nothing : (first : Bool) (a b : List (Entry A)) → a ≡ [] → b ≡ [] → cond first a b ≡ []
   chosen-nothing true a b p q = p
   chosen-nothing false a b p q = q
 
@@ -76,7 +76,7 @@ module _ (A : Arithmetic) where
     fork-silent f a b part p q silent rest x =
         in-turn-silent (present {Why = Stop A} (tested A f x)) _ [] _ _ refl
         (λ w.
-        in-turn-silent (chosen A (w .first) (tableRun A setting a (w .memory)) (tableRun A setting b (w .memory))) _ _ _ _
+        in-turn-silent (cond (w .first) (tableRun A setting a (w .memory)) (tableRun A setting b (w .memory))) _ _ _ _
         (chosen-nothing (w .first) _ _ (p (w .memory)) (q (w .memory))) (silent rest))
 
     repeat-silent : (n : ℕ) (a : Table) (part : Table → Table) → NotesNothing a → Silent part → Silent (λ rest. again n a (part rest))

@@ -13,7 +13,7 @@ use Rattle.table.specs.TableRows.{Action, assign, save, takeBack, saveTurn, cle
 use Rattle.run.specs.Attempts.{Attempt, through, halted, stuck, _>>=_, present, look, pushed}
 use Rattle.run.specs.Actions.{Memory, Setting, saved, turnedRound, acted, tested}
 use Rattle.run.specs.Machine.{State, Step, goesOn, ended, stops, sticks, afterAction, stepAt, step, ifItGoesOn, stateAfter}
-use Rattle.run.specs.InTheLarge.{Stop, from, chosen, tableRun}
+use Rattle.run.specs.InTheLarge.{Stop, from, tableRun}
 
 -- ---- the same, unless the first is a thing that means stuck
 
@@ -114,7 +114,7 @@ module _ (A : Arithmetic) where
 
     -- the same in the large
     chosen-alike : (first : Bool) (x x′ y y′ : Attempt (Stop A) (Memory A)) → Alike x x′ → Alike y y′
-        → Alike (chosen A first x y) (chosen A first x′ y′)
+        → Alike (cond first x y) (cond first x′ y′)
     chosen-alike true x x′ y y′ same other = same
     chosen-alike false x x′ y y′ same other = other
 
@@ -128,7 +128,7 @@ module _ (A : Arithmetic) where
         (λ next. tree-alike k next)
     tree-alike (fork f a b k) memory =
         alike-then (present (tested A f memory)) (present (tested A f memory)) _ _ (λ unstuck. refl)
-        (λ v. alike-then (chosen A (v .first) (tableRun A setting a (v .memory)) (tableRun A setting b (v .memory))) _ _ _
+        (λ v. alike-then (cond (v .first) (tableRun A setting a (v .memory)) (tableRun A setting b (v .memory))) _ _ _
         (chosen-alike (v .first) _ _ _ _ (tree-alike a (v .memory)) (tree-alike b (v .memory))) (λ next. tree-alike k next))
     tree-alike (again zero a k) memory =
         alike-then (tableRun A setting a memory) (tableRun A roomier a memory) _ _ (tree-alike a memory) (λ next. tree-alike k next)

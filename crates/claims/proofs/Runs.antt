@@ -1,7 +1,7 @@
 -- An execution that went through, as a derivation: what the claims go by.
 use Prim.Native.Nat.{ℕ, zero, suc, _+_, _<_}
 use mathlib.Core.Path.{_≡_, subst}
-use mathlib.Core.Bool.{Bool, true, false}
+use mathlib.Core.Bool.{Bool, true, false, cond}
 use mathlib.Core.List.{List}
 use mathlib.Core.Option.{some}
 use lib.ListN.{length, set}
@@ -11,7 +11,7 @@ use Rattle.sheet.specs.Rows.{Assignment, _≔_, Source, Test}
 use Rattle.table.specs.TableRows.{ofRow, itself}
 use Rattle.run.specs.Attempts.{through, present, replaced}
 use Rattle.run.specs.Actions.{evaluated, compared}
-use Rattle.run.specs.InTheLarge.{from, chosen}
+use Rattle.run.specs.InTheLarge.{from}
 use Rattle.claims.specs.Execution.{Progress, onward, performed, turned, executed}
 use Rattle.run.proofs.AttemptLaws.{came, is-present, same-through, was-replaced, went}
 
@@ -55,7 +55,7 @@ module _ (A : Arithmetic) where
 
     -- by the branch that was taken
     fork-runs : (f : Test) (a b k : Tree Assignment Test) (p : ℕ) (s m e : Progress A) (first : Bool) → compared A f (s .store) ≡ some first
-        → chosen A first (executed A constants a (suc p) s) (executed A constants b (suc (suc p + rows a)) s) ≡ through m
+        → cond first (executed A constants a (suc p) s) (executed A constants b (suc (suc p + rows a)) s) ≡ through m
         → (executed A constants a (suc p) s ≡ through m → Runs a (suc p) s m)
         → (executed A constants b (suc (suc p + rows a)) s ≡ through m → Runs b (suc (suc p + rows a)) s m)
         → Runs k (suc (suc (suc p + rows a) + rows b)) (turned A first m) e → Runs (fork f a b k) p s e
@@ -72,7 +72,7 @@ module _ (A : Arithmetic) where
         let c = went (present (compared A f (s .store))) _ e h in
         let first = executed A constants a (suc p) s in
         let second = executed A constants b (suc (suc p + rows a)) s in
-        let d = went (chosen A (c .0) first second) _ e (c .2) in
+        let d = went (cond (c .0) first second) _ e (c .2) in
         fork-runs f a b k p s (d .0) e (c .0) (is-present _ _ (c .1)) (d .1) (λ q. runs a (suc p) s (d .0) q)
         (λ q. runs b (suc (suc p + rows a)) s (d .0) q) (runs k (suc (suc (suc p + rows a) + rows b)) (turned A (c .0) (d .0)) e (d .2))
     runs (again zero a k) p s e h =

@@ -1,6 +1,6 @@
 -- Executing a sheet by itself, without sets and without a table: its values, and what was executed.
 use Prim.Native.Nat.{ℕ, zero, suc, _+_}
-use mathlib.Core.Bool.{Bool}
+use mathlib.Core.Bool.{Bool, cond}
 use mathlib.Core.List.{List, [], _∷_}
 use Rattle.number.specs.Arithmetic.{Arithmetic}
 use Rattle.sheet.specs.Tree.{Tree, done, one, fork, again, rows, RowNumber}
@@ -9,7 +9,7 @@ use Rattle.sheet.specs.Reading.{Sheet}
 use Rattle.table.specs.TableRows.{ofRow, itself}
 use Rattle.run.specs.Attempts.{Attempt, through, _>>=_, present, replaced}
 use Rattle.run.specs.Actions.{evaluated, compared}
-use Rattle.run.specs.InTheLarge.{Stop, from, chosen}
+use Rattle.run.specs.InTheLarge.{Stop, from}
 
 module _ (A : Arithmetic) where
   -- one executed assignment, with the values just before it
@@ -53,7 +53,7 @@ module _ (A : Arithmetic) where
     let split = suc p + rows a
     let end = suc split + rows b
     first ← present (compared A f (now .store))
-    next ← chosen A first (executed constants a (suc p) now) (executed constants b (suc split) now)
+    next ← cond first (executed constants a (suc p) now) (executed constants b (suc split) now)
     executed constants k (suc end) (turned first next)
   executed constants (again zero a k) p now = do
     next ← executed constants a (suc p) now

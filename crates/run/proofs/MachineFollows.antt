@@ -2,7 +2,7 @@
 -- read, and its fuel suffices.
 use Prim.Native.Nat.{ℕ, zero, suc, _+_, _*_, _-_, _≤_, max}
 use mathlib.Core.Path.{_≡_, refl, sym, ap, subst, _∙_}
-use mathlib.Core.Bool.{Bool, true, false}
+use mathlib.Core.Bool.{Bool, true, false, cond}
 use mathlib.Core.List.{List, [], _∷_, _++_, append-nil, append-assoc}
 use mathlib.Core.Option.{Option, none, some}
 use lib.ListN.{drop}
@@ -18,8 +18,8 @@ use Rattle.run.specs.Machine.{Mark, itsElse, itsEnd, oneMore, seek, Repe
 use Rattle.run.specs.Machine.{jump, afterAction, branchTo, afterTest, stepAt, step, ifItGoesOn, stateAfter, stepsOf}
 use Rattle.run.specs.Machine.{Ending, finished, stoppedAt, gotStuck, outOfFuel, runFor}
 use Rattle.run.specs.Calls.{runOf}
-use Rattle.run.specs.InTheLarge.{Stop, from, chosen, tableRun}
-use Rattle.run.specs.RowReads.{Entry, noted, notedAt, onNext, machineLog, onThrough, chosenLog, tableLog}
+use Rattle.run.specs.InTheLarge.{Stop, from, tableRun}
+use Rattle.run.specs.RowReads.{Entry, noted, notedAt, onNext, machineLog, onThrough, tableLog}
 
 -- ---- passing over a tree's lines
 
@@ -292,11 +292,11 @@ module _ (A : Arithmetic) where
       behind = flat a (elseLine ∷ flat b (endIf ∷ rest))
 
       abbrev picked : Bool → Memory A → Result
-      picked taken memory = chosen A taken (tableRun A setting a memory) (tableRun A setting b memory)
+      picked taken memory = cond taken (tableRun A setting a memory) (tableRun A setting b memory)
 
       abbrev pickedLog : Bool → Memory A → List (Entry A)
       pickedLog taken memory =
-          chosenLog A taken (tableLog A setting a memory) (tableLog A setting b memory) ++ onThrough A (picked taken memory) (tableLog A setting k)
+          cond taken (tableLog A setting a memory) (tableLog A setting b memory) ++ onThrough A (picked taken memory) (tableLog A setting k)
 
       abbrev ReachesEnd : Memory A → Result → List (Entry A) → Type 0
       ReachesEnd before result log =

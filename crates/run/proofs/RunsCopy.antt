@@ -1,7 +1,7 @@
 -- A run of an adjoint table that finishes has passed row 17: as many values as there are variables have been copied out.
 use Prim.Native.Nat.{ℕ, zero, suc, _*_, _≤_}
 use mathlib.Core.Path.{_≡_, refl, sym, ap, _∙_}
-use mathlib.Core.Bool.{Bool, true, false}
+use mathlib.Core.Bool.{Bool, true, false, cond}
 use mathlib.Core.List.{List, [], _∷_, _++_}
 use mathlib.Core.Option.{Option, none, some}
 use native.Mathlib.Omega.{arith}
@@ -18,7 +18,7 @@ use Rattle.table.specs.Adjoint.{Body, put, putIf, targetOf, forwardRow, forward
 use Rattle.run.specs.Attempts.{through, _>>=_, present, replaced, pushed, look}
 use Rattle.run.specs.Actions.{Memory, Setting, evaluated, stored, restored, acted, turnedRound, seeded}
 use Rattle.run.specs.Actions.{Verdict, verdictOn, turnTaken, tested, compared}
-use Rattle.run.specs.InTheLarge.{from, chosen, tableRun}
+use Rattle.run.specs.InTheLarge.{from, tableRun}
 use Rattle.run.proofs.AttemptLaws.{went, same-through, is-present, was-replaced, came}
 use Rattle.run.proofs.RoleLaws.{counting-length}
 
@@ -166,7 +166,7 @@ module _ (A : Arithmetic) (setting : Setting A) (sections : setting .variables �
       }
 
   branch-kept : (a b : Table) → Kept a → Kept b → (taken : Bool) (memory after : Memory A) → Roomy memory
-      → chosen A taken (tableRun A setting a memory) (tableRun A setting b memory) ≡ through after → Keeps memory after
+      → cond taken (tableRun A setting a memory) (tableRun A setting b memory) ≡ through after → Keeps memory after
   branch-kept a b first second true memory after enough e = first .keeps memory after enough e
   branch-kept a b first second false memory after enough e = second .keeps memory after enough e
 
@@ -180,7 +180,7 @@ module _ (A : Arithmetic) (setting : Setting A) (sections : setting .variables �
             let verdict = c .0 in
             let told = keeps-tested f memory verdict (is-present _ _ (c .1)) in
             let next = verdict .memory in
-            let d = went (chosen A (verdict .first) (tableRun A setting a next) (tableRun A setting b next)) _ after (c .2) in
+            let d = went (cond (verdict .first) (tableRun A setting a next) (tableRun A setting b next)) _ after (c .2) in
             let branch = branch-kept a b first second (verdict .first) next (d .0) (rw (told .room) enough) (d .1) in
             record { next = d .0; kept = keeps-then told branch; runs = d .2 };
       }

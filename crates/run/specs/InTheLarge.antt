@@ -1,6 +1,6 @@
 -- A table's rows in the large, block by block: what the machine's steps come to.
 use Prim.Native.Nat.{zero, suc}
-use mathlib.Core.Bool.{Bool, true, false}
+use mathlib.Core.Bool.{cond}
 use Rattle.number.specs.Arithmetic.{Arithmetic}
 use Rattle.sheet.specs.Tree.{done, one, fork, again}
 use Rattle.table.specs.TableRows.{Origin, Table}
@@ -18,10 +18,6 @@ module _ (A : Arithmetic) where
   from origin (halted why) = halted (record { origin = origin; why = why })
   from origin stuck = stuck
 
-  abbrev pub chosen : {X : Type 0} → Bool → Attempt Stop X → Attempt Stop X → Attempt Stop X
-  chosen true first second = first
-  chosen false first second = second
-
   unfoldable pub tableRun : Setting A → Table → Memory A → Attempt Stop (Memory A)
   unfolding acted tested
   tableRun setting done memory = through memory
@@ -30,7 +26,7 @@ module _ (A : Arithmetic) where
     tableRun setting k next
   tableRun setting (fork f a b k) memory = do
     verdict ← present (tested A f memory)
-    next ← chosen (verdict .first) (tableRun setting a (verdict .memory)) (tableRun setting b (verdict .memory))
+    next ← cond (verdict .first) (tableRun setting a (verdict .memory)) (tableRun setting b (verdict .memory))
     tableRun setting k next
   tableRun setting (again zero a k) memory = do
     next ← tableRun setting a memory

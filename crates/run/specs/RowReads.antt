@@ -12,7 +12,7 @@ use Rattle.table.specs.TableRows.{Table, TableRow, TableLine, Action, assign, s
 use Rattle.run.specs.Attempts.{Attempt, through, halted, stuck, present}
 use Rattle.run.specs.Actions.{Memory, Setting, acted, tested}
 use Rattle.run.specs.Machine.{State, Step, goesOn, ended, stops, sticks, step}
-use Rattle.run.specs.InTheLarge.{Stop, from, chosen, tableRun}
+use Rattle.run.specs.InTheLarge.{Stop, from, tableRun}
 
 -- the rows of a derivative rule, as against saving, taking back and the sheet's own rows
 abbrev pub isDerivative : Operation → Bool
@@ -97,10 +97,6 @@ module _ (A : Arithmetic) where
   onThrough (halted why) log = []
   onThrough stuck log = []
 
-  abbrev pub chosenLog : Bool → List Entry → List Entry → List Entry
-  chosenLog true first second = first
-  chosenLog false first second = second
-
   unfoldable pub tableLog : Setting A → Table → Memory A → List Entry
   unfolding readsOf acted tested tableRun
   tableLog setting done memory = []
@@ -110,8 +106,8 @@ module _ (A : Arithmetic) where
   tableLog setting (fork f a b k) memory =
       onThrough {W = Stop A} (present (tested A f memory))
       (λ verdict.
-      chosenLog (verdict .first) (tableLog setting a (verdict .memory)) (tableLog setting b (verdict .memory))
-      ++ onThrough (chosen A (verdict .first) (tableRun A setting a (verdict .memory)) (tableRun A setting b (verdict .memory)))
+      cond (verdict .first) (tableLog setting a (verdict .memory)) (tableLog setting b (verdict .memory))
+      ++ onThrough (cond (verdict .first) (tableRun A setting a (verdict .memory)) (tableRun A setting b (verdict .memory)))
       (λ next. tableLog setting k next))
   tableLog setting (again zero a k) memory = tableLog setting a memory ++ onThrough (tableRun A setting a memory) (λ next. tableLog setting k next)
   tableLog setting (again (suc m) a k) memory =
