@@ -12,7 +12,7 @@ use Rattle.table.specs.TableRows.{Table, ofRow, takeBack, takingBack, onTurn}
 use Rattle.table.specs.Adjoint.{putIf, derivativeRows, backwardOf, backwardPart}
 use Rattle.run.specs.Attempts.{present}
 use Rattle.run.specs.Actions.{Setting, acted, tested}
-use Rattle.run.specs.InTheLarge.{from, tableRun}
+use Rattle.run.specs.InTheLarge.{stoppingAt, tableRun}
 use Rattle.run.specs.RowReads.{tableLog}
 use Rattle.claims.proofs.Accounts.{account, Same, quiet, in-turn-same}
 use Rattle.claims.proofs.DerivativesAlike.{derivative-rows-same}
@@ -60,7 +60,7 @@ module _ (A : Arithmetic) (setting : Setting A) where
         by-choice : (choice : Bool)
             → account A setting (putIf choice (record { index = p }) takingBack (takeBack d) (derivatives rest)) x
             ≡ account A setting (putIf choice (record { index = p }) takingBack (takeBack d) (derivatives other)) x
-        by-choice true = in-turn-same A (quiet A (from A (ofRow (record { index = p }) takingBack) (acted A setting (takeBack d) x))) _ _ inside
+        by-choice true = in-turn-same A (quiet A (stoppingAt A (ofRow (record { index = p }) takingBack) (acted A setting (takeBack d) x))) _ _ inside
         by-choice false = inside x
 
     pub back-same : (t : Tree Assignment Test) (p : ℕ) → Present v k t → (rest other : Table) → Same A setting rest other

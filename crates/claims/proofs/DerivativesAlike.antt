@@ -20,7 +20,7 @@ use Rattle.table.specs.TableRows.{Table, TableRow, Action, assign, clear, adjoi
 use Rattle.table.specs.Adjoint.{put, putIf, partsOf, derivativeRows}
 use Rattle.run.specs.Attempts.{Attempt, through, _>>=_}
 use Rattle.run.specs.Actions.{Memory, Setting, acted, withStore}
-use Rattle.run.specs.InTheLarge.{Stop, from, tableRun}
+use Rattle.run.specs.InTheLarge.{Stop, stoppingAt, tableRun}
 use Rattle.run.specs.RowReads.{Entry, isDerivative, readsOf, entryIf, notedBy, noted, tableLog}
 use Rattle.claims.specs.IdealSweep.{derivedBy}
 use Rattle.claims.specs.ReadLog.{derivedLog}
@@ -164,7 +164,7 @@ module _ (A : Arithmetic) (setting : Setting A) where
     row-before : (memory : Memory A) (rest : Table) (result : Attempt (A .Why) (Memory A))
         → acted A setting (r .action) (withStore A memory store) ≡ result
         → account A setting (puts (r ∷ rs) rest) (withStore A memory store)
-        ≡ inTurn A (record { log = entries A (r .origin) reads; outcome = from A (r .origin) result }) (account A setting (puts rs rest))
+        ≡ inTurn A (record { log = entries A (r .origin) reads; outcome = stoppingAt A (r .origin) result }) (account A setting (puts rs rest))
     unfolding puts tableRun tableLog
     row-before memory rest result e = rw (e, noted-entries A v (r .origin) (r .action) (withStore A memory store), h) refl
 
@@ -256,7 +256,7 @@ module _ (A : Arithmetic) (setting : Setting A) where
   unfolding puts tableRun tableLog
   puts-same [] rest other h x = h x
   puts-same (r ∷ rs) rest other h x =
-      in-turn-same A (record { log = noted A v r x; outcome = from A (r .origin) (acted A setting (r .action) x) }) _ _ (puts-same rs rest other h)
+      in-turn-same A (record { log = noted A v r x; outcome = stoppingAt A (r .origin) (acted A setting (r .action) x) }) _ _ (puts-same rs rest other h)
 
   pub derivative-rows-same : (k d : ℕ) (source : Source) (row : RowNumber) (known : Activity) → d < v → SourcePresent v k source
       → (rest other : Table) → Same A setting rest other

@@ -18,7 +18,7 @@ use Rattle.table.specs.Adjoint.{put, putIf, forwardRow, forwardPart}
 use Rattle.table.specs.Sizes.{valuesNeeded, turnsNeeded}
 use Rattle.run.specs.Attempts.{Attempt, through, halted, stuck, _>>=_, present, replaced}
 use Rattle.run.specs.Actions.{Memory, Setting, evaluated, acted, compared, verdictOn, stored}
-use Rattle.run.specs.InTheLarge.{Stop, from, tableRun}
+use Rattle.run.specs.InTheLarge.{Stop, stoppingAt, tableRun}
 use Rattle.claims.specs.Execution.{Progress, onward, performed, turned, executed}
 use Rattle.claims.specs.SavedRows.{onto, savedValues}
 use Rattle.run.proofs.AttemptLaws.{bind-assoc, bind-same}
@@ -132,8 +132,8 @@ module _ (known : ℕ → Assignment → Activity) (saved : ℕ → Assignment �
           before = record { store = now .store ++ tail; values = values; turns = map turnWord (now .turns); copied = copied }
 
           by-value : (m : Attempt (A .Why) (A .Carrier))
-              → (from A (ofRow (record { index = p }) itself) (m >>= λ x. stored A before d x) >>= λ next. tableRun A setting rest next)
-              ≡ (from A (ofRow (record { index = p }) itself) m
+              → (stoppingAt A (ofRow (record { index = p }) itself) (m >>= λ x. stored A before d x) >>= λ next. tableRun A setting rest next)
+              ≡ (stoppingAt A (ofRow (record { index = p }) itself) m
               >>= (λ x. replaced (now .store) d x >>= λ store. through (onward A p (d ≔ source) now store))
               >>= λ m. tableRun A setting rest (memory m))
           by-value (halted why) = refl

@@ -14,7 +14,7 @@ use Rattle.table.specs.Adjoint.{Body, put, putIf, targetOf, forwardRow, forward
 use Rattle.table.specs.Sizes.{valuesNeeded, turnsNeeded}
 use Rattle.run.specs.Attempts.{Attempt, through, halted, stuck, _>>=_, present}
 use Rattle.run.specs.Actions.{Memory, Setting, acted, tested}
-use Rattle.run.specs.InTheLarge.{Stop, from, tableRun}
+use Rattle.run.specs.InTheLarge.{Stop, stoppingAt, tableRun}
 use Rattle.run.specs.RowReads.{Entry, isDerivative, notedBy, onThrough, tableLog}
 use Rattle.claims.specs.Execution.{Progress, executed}
 use Rattle.claims.specs.SavedRows.{savedValues}
@@ -60,13 +60,13 @@ module _ (A : Arithmetic) where
 
     turn-silent : (row : RowNumber) (first : Bool) → NotesNothing (put row turning (saveTurn first) done)
     unfolding tableLog
-    turn-silent row first x = nothing-after (from A (ofRow row turning) (acted A setting (saveTurn first) x)) _ (λ y. refl)
+    turn-silent row first x = nothing-after (stoppingAt A (ofRow row turning) (acted A setting (saveTurn first) x)) _ (λ y. refl)
 
     put-silent : (test : Bool) (row : RowNumber) (operation : Operation) (action : Action) (part : Table → Table) → isDerivative operation ≡ false
         → Silent part → Silent (λ rest. putIf test row operation action (part rest))
     unfolding tableLog tableRun
     put-silent true row operation action part e silent rest x =
-        in-turn-silent (from A (ofRow row operation) (acted A setting action x)) _ (notedBy A (setting .variables) (ofRow row operation) action x) _ _
+        in-turn-silent (stoppingAt A (ofRow row operation) (acted A setting action x)) _ (notedBy A (setting .variables) (ofRow row operation) action x) _ _
         (rw e refl) (silent rest)
     put-silent false row operation action part e silent rest x = silent rest x
 

@@ -13,7 +13,7 @@ use Rattle.table.specs.TableRows.{Action, assign, save, takeBack, saveTurn, cle
 use Rattle.run.specs.Attempts.{Attempt, through, halted, stuck, _>>=_, present, look, pushed}
 use Rattle.run.specs.Actions.{Memory, Setting, saved, turnedRound, acted, tested}
 use Rattle.run.specs.Machine.{State, Step, goesOn, ended, stops, sticks, afterAction, stepAt, step, ifItGoesOn, stateAfter}
-use Rattle.run.specs.InTheLarge.{Stop, from, tableRun}
+use Rattle.run.specs.InTheLarge.{Stop, stoppingAt, tableRun}
 
 -- ---- the same, unless the first is a thing that means stuck
 
@@ -122,8 +122,8 @@ module _ (A : Arithmetic) where
     unfolding tableRun
     tree-alike done memory = λ unstuck. refl
     tree-alike (one row k) memory =
-        alike-then (from A (row .origin) (acted A setting (row .action) memory)) (from A (row .origin) (acted A roomier (row .action) memory)) _ _
-        (same-under (from A (row .origin)) stuck (acted A setting (row .action) memory) (acted A roomier (row .action) memory)
+        alike-then (stoppingAt A (row .origin) (acted A setting (row .action) memory)) (stoppingAt A (row .origin) (acted A roomier (row .action) memory)) _ _
+        (same-under (stoppingAt A (row .origin)) stuck (acted A setting (row .action) memory) (acted A roomier (row .action) memory)
         (acted-alike (row .action) memory))
         (λ next. tree-alike k next)
     tree-alike (fork f a b k) memory =

@@ -11,7 +11,7 @@ use Rattle.sheet.specs.Rows.{Assignment, _≔_, Source, Test}
 use Rattle.table.specs.TableRows.{ofRow, itself}
 use Rattle.run.specs.Attempts.{through, present, replaced}
 use Rattle.run.specs.Actions.{evaluated, compared}
-use Rattle.run.specs.InTheLarge.{from}
+use Rattle.run.specs.InTheLarge.{stoppingAt}
 use Rattle.claims.specs.Execution.{Progress, onward, performed, turned, executed}
 use Rattle.run.proofs.AttemptLaws.{came, is-present, same-through, was-replaced, went}
 
@@ -28,7 +28,7 @@ module _ (A : Arithmetic) where
         → Performed p d source now next
     unfolding performed
     was-performed p d source now next e =
-        let first = went (from A (ofRow (record { index = p }) itself) (evaluated A constants source (now .store))) _ next e in
+        let first = went (stoppingAt A (ofRow (record { index = p }) itself) (evaluated A constants source (now .store))) _ next e in
         let second = went (replaced (now .store) d (first .0)) _ next (first .2) in
         let store = was-replaced (now .store) (second .0) d (first .0) (second .1) in
         record {

@@ -9,7 +9,7 @@ use Rattle.sheet.specs.Reading.{Sheet}
 use Rattle.table.specs.TableRows.{ofRow, itself}
 use Rattle.run.specs.Attempts.{Attempt, through, _>>=_, present, replaced}
 use Rattle.run.specs.Actions.{evaluated, compared}
-use Rattle.run.specs.InTheLarge.{Stop, from}
+use Rattle.run.specs.InTheLarge.{Stop, stoppingAt}
 
 module _ (A : Arithmetic) where
   -- one executed assignment, with the values just before it
@@ -36,7 +36,7 @@ module _ (A : Arithmetic) where
   unfoldable pub performed : (constants : List ℕ) → (row : ℕ) → Assignment → Progress → Attempt (Stop A) Progress
   unfolding evaluated
   performed constants p (d ≔ source) now = do
-    x ← from A (ofRow (record { index = p }) itself) (evaluated A constants source (now .store))
+    x ← stoppingAt A (ofRow (record { index = p }) itself) (evaluated A constants source (now .store))
     store ← replaced (now .store) d x
     through (onward p (d ≔ source) now store)
 

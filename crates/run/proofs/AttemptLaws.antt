@@ -10,7 +10,7 @@ use native.Mathlib.Omega.{arith}
 use Rattle.number.specs.Arithmetic.{Arithmetic, Outcome, stop, value}
 use Rattle.table.specs.TableRows.{Origin}
 use Rattle.run.specs.Attempts.{Attempt, _>>=_, halted, present, replaced, stuck, through, whole}
-use Rattle.run.specs.InTheLarge.{from}
+use Rattle.run.specs.InTheLarge.{stoppingAt}
 
 pub bind-assoc : {W X Y Z : Type 0} (m : Attempt W X) (f : X → Attempt W Y) (g : Y → Attempt W Z) → (m >>= f >>= g) ≡ (m >>= λ x. f x >>= g)
 bind-assoc (through x) f g = refl
@@ -36,7 +36,7 @@ is-present none x e = let z : _≡_ {A = ℕ} 0 1 = cc in absurd (omega arith)
 is-present (some y) x e = cc
 
 module _ (A : Arithmetic) where
-  pub came : {X : Type 0} (origin : Origin) (m : Attempt (A .Why) X) (x : X) → from A origin m ≡ through x → m ≡ through x
+  pub came : {X : Type 0} (origin : Origin) (m : Attempt (A .Why) X) (x : X) → stoppingAt A origin m ≡ through x → m ≡ through x
   came origin (through y) x e = cc
   came origin (halted why) x e = let z : _≡_ {A = ℕ} 0 1 = cc in absurd (omega arith)
   came origin stuck x e = let z : _≡_ {A = ℕ} 0 1 = cc in absurd (omega arith)

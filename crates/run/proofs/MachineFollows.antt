@@ -14,11 +14,11 @@ use Rattle.sheet.specs.Tree.{Tree, done, one, fork, again, Line, basic, ifLine,
 use Rattle.table.specs.TableRows.{Origin, TableRow, TableTest, TableLine, Table, linesOf}
 use Rattle.run.specs.Attempts.{Attempt, through, halted, stuck, _>>=_, present}
 use Rattle.run.specs.Actions.{Memory, Setting, Verdict, acted, tested}
-use Rattle.run.specs.Machine.{Mark, itsElse, itsEnd, oneMore, seek, Repeat, State, Step, goesOn, ended, stops, sticks}
+use Rattle.run.specs.Machine.{Sought, itsElse, itsEnd, oneMore, seek, Repeat, State, Step, goesOn, ended, stops, sticks}
 use Rattle.run.specs.Machine.{jump, afterAction, branchTo, afterTest, stepAt, step, ifItGoesOn, stateAfter, stepsOf}
 use Rattle.run.specs.Machine.{Ending, finished, stoppedAt, gotStuck, outOfFuel, runFor}
 use Rattle.run.specs.Calls.{runOf}
-use Rattle.run.specs.InTheLarge.{Stop, from, tableRun}
+use Rattle.run.specs.InTheLarge.{Stop, stoppingAt, tableRun}
 use Rattle.run.specs.RowReads.{Entry, noted, notedAt, onNext, machineLog, onThrough, tableLog}
 
 -- ---- passing over a tree's lines
@@ -80,19 +80,19 @@ module _ {B F : Type 0} where
       let h : rows t ≡ rows t + 0 = omega arith in
       drop-drop p (rows t) lines ∙ ap (drop (rows t)) e ∙ ap (λ n. drop n (flat t rest)) h ∙ past-flat t rest 0
 
-  -- no mark of another block stops a search: it passes over a tree, however deep it is
-  seek-flat : (mark : Mark) (n : ℕ) (t : Tree B F) (rest : List (Line B F)) → seek mark n (flat t rest) ≡ further (rows t) (seek mark n rest)
+  -- no line of another block stops a search: it passes over a tree, however deep it is
+  seek-flat : (sought : Sought) (n : ℕ) (t : Tree B F) (rest : List (Line B F)) → seek sought n (flat t rest) ≡ further (rows t) (seek sought n rest)
   unfolding seek flat rows
-  seek-flat mark n done rest = sym (further-none (seek mark n rest))
-  seek-flat mark n (one b k) rest = ap oneMore (seek-flat mark n k rest) ∙ further-row (rows k) (seek mark n rest)
-  seek-flat mark n (fork f a b k) rest =
-      ap oneMore (seek-flat mark (suc n) a _
-      ∙ ap (λ o. further (rows a) (oneMore o)) (seek-flat mark (suc n) b _
-      ∙ ap (λ o. further (rows b) (oneMore o)) (seek-flat mark n k rest)))
-      ∙ further-fork (rows a) (rows b) (rows k) (seek mark n rest)
-  seek-flat mark n (again m a k) rest =
-      ap oneMore (seek-flat mark n a _ ∙ ap (λ o. further (rows a) (oneMore o)) (seek-flat mark n k rest))
-      ∙ further-repeat (rows a) (rows k) (seek mark n rest)
+  seek-flat sought n done rest = sym (further-none (seek sought n rest))
+  seek-flat sought n (one b k) rest = ap oneMore (seek-flat sought n k rest) ∙ further-row (rows k) (seek sought n rest)
+  seek-flat sought n (fork f a b k) rest =
+      ap oneMore (seek-flat sought (suc n) a _
+      ∙ ap (λ o. further (rows a) (oneMore o)) (seek-flat sought (suc n) b _
+      ∙ ap (λ o. further (rows b) (oneMore o)) (seek-flat sought n k rest)))
+      ∙ further-fork (rows a) (rows b) (rows k) (seek sought n rest)
+  seek-flat sought n (again m a k) rest =
+      ap oneMore (seek-flat sought n a _ ∙ ap (λ o. further (rows a) (oneMore o)) (seek-flat sought n k rest))
+      ∙ further-repeat (rows a) (rows k) (seek sought n rest)
 
   pub seek-else : (t : Tree B F) (rest : List (Line B F)) → seek itsElse 0 (flat t (elseLine ∷ rest)) ≡ some (rows t + 1)
   unfolding seek further
@@ -247,17 +247,17 @@ module _ (A : Arithmetic) where
     -- ---- a tree's lines, line by line
 
     action-lands : (p : ℕ) (repeats : List Repeat) (memory : Memory A) (origin : Origin) (x : Attempt (A .Why) (Memory A))
-        → LandsAt (suc p) repeats (from A origin x) (afterAction A (atRow p repeats memory) origin x)
+        → LandsAt (suc p) repeats (stoppingAt A origin x) (afterAction A (atRow p repeats memory) origin x)
     action-lands p repeats memory origin (through next) = refl
     action-lands p repeats memory origin (halted why) = (record { index = p }, refl)
     action-lands p repeats memory origin stuck = refl
 
     row-follows : (p : ℕ) (repeats : List Repeat) (memory : Memory A) (row : TableRow) (rest : List TableLine) → drop p lines ≡ basic row ∷ rest
-        → Reaches (atRow p repeats memory) 1 (suc p) repeats (from A (row .origin) (acted A setting (row .action) memory))
+        → Reaches (atRow p repeats memory) 1 (suc p) repeats (stoppingAt A (row .origin) (acted A setting (row .action) memory))
         (noted A (setting .variables) row memory)
     unfolding stepAt
     row-follows p repeats memory row rest e =
-        one-step (from A (row .origin) (acted A setting (row .action) memory)) e
+        one-step (stoppingAt A (row .origin) (acted A setting (row .action) memory)) e
         (action-lands p repeats memory (row .origin) (acted A setting (row .action) memory))
 
     -- a repeat's turns, once its row has been passed: by the turns still to come
@@ -277,7 +277,7 @@ module _ (A : Arithmetic) where
         (body (record { start = p; left = suc m } ∷ repeats) memory)
         (λ next. after-step (past-tree lines (suc p) a _ e) refl refl (turns-follow p repeats a k rest e body after m next)))
 
-    -- past a mark that was found
+    -- past a line that was found
     jumps : (s : State A) (memory : Memory A) (o : Option ℕ) (n : ℕ) {q : ℕ} → o ≡ some n → s .at + suc n ≡ q
         → jump A s memory (oneMore o) ≡ goesOn (atRow q (s .repeats) memory)
     jumps s memory o n e h = ap (λ x. jump A s memory (oneMore x)) e ∙ ap (λ q. goesOn (atRow q (s .repeats) memory)) h
@@ -341,7 +341,7 @@ module _ (A : Arithmetic) where
         }
     reaches (one row k) p rest repeats memory e =
         within-more (omega arith) (omega arith)
-        (then-reaches (from A (row .origin) (acted A setting (row .action) memory)) (tableRun A setting k) (tableLog A setting k)
+        (then-reaches (stoppingAt A (row .origin) (acted A setting (row .action) memory)) (tableRun A setting k) (tableLog A setting k)
         (row-follows p repeats memory row _ e) (λ next. reaches k (suc p) rest repeats next (past-line lines p _ _ e)))
     reaches (fork f a b k) p rest repeats memory e =
         let atA = past-line lines p _ _ e in

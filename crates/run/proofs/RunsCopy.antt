@@ -18,7 +18,7 @@ use Rattle.table.specs.Adjoint.{Body, put, putIf, targetOf, forwardRow, forward
 use Rattle.run.specs.Attempts.{through, _>>=_, present, replaced, pushed, look}
 use Rattle.run.specs.Actions.{Memory, Setting, evaluated, stored, restored, acted, turnedRound, seeded}
 use Rattle.run.specs.Actions.{Verdict, verdictOn, turnTaken, tested, compared}
-use Rattle.run.specs.InTheLarge.{from, tableRun}
+use Rattle.run.specs.InTheLarge.{stoppingAt, tableRun}
 use Rattle.run.proofs.AttemptLaws.{went, same-through, is-present, was-replaced, came}
 use Rattle.run.proofs.RoleLaws.{counting-length}
 
@@ -161,7 +161,7 @@ module _ (A : Arithmetic) (setting : Setting A) (sections : setting .variables �
         to =
             λ memory after enough e.
             let x = acted A setting (row .action) memory in
-            let c = went (from A (row .origin) x) _ after e in
+            let c = went (stoppingAt A (row .origin) x) _ after e in
             record { next = c .0; kept = keeps-acted (row .action) memory (c .0) enough (came A (row .origin) x (c .0) (c .1)); runs = c .2 };
       }
 

@@ -13,16 +13,16 @@ module _ (A : Arithmetic) where
     pub origin : Origin
     pub why : A .Why
 
-  abbrev pub from : {X : Type 0} → Origin → Attempt (A .Why) X → Attempt Stop X
-  from origin (through x) = through x
-  from origin (halted why) = halted (record { origin = origin; why = why })
-  from origin stuck = stuck
+  abbrev pub stoppingAt : {X : Type 0} → Origin → Attempt (A .Why) X → Attempt Stop X
+  stoppingAt origin (through x) = through x
+  stoppingAt origin (halted why) = halted (record { origin = origin; why = why })
+  stoppingAt origin stuck = stuck
 
   unfoldable pub tableRun : Setting A → Table → Memory A → Attempt Stop (Memory A)
   unfolding acted tested
   tableRun setting done memory = through memory
   tableRun setting (one row k) memory = do
-    next ← from (row .origin) (acted A setting (row .action) memory)
+    next ← stoppingAt (row .origin) (acted A setting (row .action) memory)
     tableRun setting k next
   tableRun setting (fork f a b k) memory = do
     verdict ← present (tested A f memory)

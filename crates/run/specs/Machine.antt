@@ -12,26 +12,26 @@ use Rattle.run.specs.Actions.{Memory, Setting, Try, Verdict, acted, test
 
 -- ---- from an "if" past its "else", and from an "else" past its "end if"
 
-pub data Mark : Type 0 where
-  itsElse : Mark
-  itsEnd : Mark
+pub data Sought : Type 0 where
+  itsElse : Sought
+  itsEnd : Sought
 
 abbrev pub oneMore : Option ℕ → Option ℕ
 oneMore none = none
 oneMore (some n) = some (suc n)
 
--- how many of these lines lie up to and with the mark, inside so many further "if" blocks
+-- how many of these lines lie up to and with the one sought, inside so many further "if" blocks
 module _ {B F : Type 0} where
-  unfoldable pub seek : Mark → ℕ → List (Line B F) → Option ℕ
-  seek mark n [] = none
-  seek mark n (basic b ∷ lines) = oneMore (seek mark n lines)
-  seek mark n (repeat m ∷ lines) = oneMore (seek mark n lines)
-  seek mark n (endRepeat ∷ lines) = oneMore (seek mark n lines)
-  seek mark n (ifLine f ∷ lines) = oneMore (seek mark (suc n) lines)
-  seek mark (suc n) (elseLine ∷ lines) = oneMore (seek mark (suc n) lines)
+  unfoldable pub seek : Sought → ℕ → List (Line B F) → Option ℕ
+  seek sought n [] = none
+  seek sought n (basic b ∷ lines) = oneMore (seek sought n lines)
+  seek sought n (repeat m ∷ lines) = oneMore (seek sought n lines)
+  seek sought n (endRepeat ∷ lines) = oneMore (seek sought n lines)
+  seek sought n (ifLine f ∷ lines) = oneMore (seek sought (suc n) lines)
+  seek sought (suc n) (elseLine ∷ lines) = oneMore (seek sought (suc n) lines)
   seek itsElse zero (elseLine ∷ lines) = some 1
   seek itsEnd zero (elseLine ∷ lines) = none
-  seek mark (suc n) (endIf ∷ lines) = oneMore (seek mark n lines)
+  seek sought (suc n) (endIf ∷ lines) = oneMore (seek sought n lines)
   seek itsElse zero (endIf ∷ lines) = none
   seek itsEnd zero (endIf ∷ lines) = some 1
 

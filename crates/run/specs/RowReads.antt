@@ -12,7 +12,7 @@ use Rattle.table.specs.TableRows.{Table, TableRow, TableLine, Action, assign, s
 use Rattle.run.specs.Attempts.{Attempt, through, halted, stuck, present}
 use Rattle.run.specs.Actions.{Memory, Setting, acted, tested}
 use Rattle.run.specs.Machine.{State, Step, goesOn, ended, stops, sticks, step}
-use Rattle.run.specs.InTheLarge.{Stop, from, tableRun}
+use Rattle.run.specs.InTheLarge.{Stop, stoppingAt, tableRun}
 
 -- the rows of a derivative rule, as against saving, taking back and the sheet's own rows
 abbrev pub isDerivative : Operation → Bool
@@ -102,7 +102,7 @@ module _ (A : Arithmetic) where
   tableLog setting done memory = []
   tableLog setting (one row k) memory =
       noted (setting .variables) row memory
-      ++ onThrough (from A (row .origin) (acted A setting (row .action) memory)) (λ next. tableLog setting k next)
+      ++ onThrough (stoppingAt A (row .origin) (acted A setting (row .action) memory)) (λ next. tableLog setting k next)
   tableLog setting (fork f a b k) memory =
       onThrough {W = Stop A} (present (tested A f memory))
       (λ verdict.
