@@ -13,10 +13,10 @@ use Rattle.number.specs.Arithmetic.{Arithmetic, Outcome}
 use Rattle.sheet.specs.Rows.{_≔_, Source, copy, fixed, sum, difference, product, negation}
 use Rattle.sets.specs.VariableSets.{VariableSet, has}
 use Rattle.table.specs.TableRows.{Action, assign, save, takeBack, saveTurn, clear, turnRound, tableVariables}
-use Rattle.run.specs.Attempts.{through, halted, _>>=_, whole, look}
+use Rattle.run.specs.Attempts.{through, halted, _>>=_, fromOutcome, look}
 use Rattle.run.specs.Actions.{Memory, Setting, evaluated, acted, stored, withStore}
 use Rattle.run.specs.RowReads.{originalAt, readsOf}
-use Rattle.run.proofs.AttemptLaws.{Ready, gives, stops, whole-ready}
+use Rattle.run.proofs.AttemptLaws.{Ready, gives, stops, from-outcome-ready}
 use Rattle.claims.proofs.Stores.{is-below, same-default, at-known, at-first-part, at-second-part, set-second-part}
 
 -- ---- rows that work on the adjoints
@@ -76,11 +76,11 @@ module _ (A : Arithmetic) where
       readable-known i (inr h) = at-known (originals ++ adjoints) i (omega (arith, h .1, store-size originals adjoints n m))
 
       both-ready : (f : A .Carrier → A .Carrier → Outcome (A .Carrier) (A .Why)) (a b : ℕ) → Readable v needed a → Readable v needed b
-          → Ready (look (originals ++ adjoints) a >>= λ x. look (originals ++ adjoints) b >>= λ y. whole (f x y))
+          → Ready (look (originals ++ adjoints) a >>= λ x. look (originals ++ adjoints) b >>= λ y. fromOutcome (f x y))
       both-ready f a b p q =
           let x = readable-known a p in
           let y = readable-known b q in
-          rw (x .1, y .1) (whole-ready (f (x .0) (y .0)))
+          rw (x .1, y .1) (from-outcome-ready (f (x .0) (y .0)))
 
       evaluated-ready : (constants : List ℕ) (source : Source) → SourceReadable v needed source
           → Ready (evaluated A constants source (originals ++ adjoints))
@@ -90,7 +90,7 @@ module _ (A : Arithmetic) where
       evaluated-ready constants (sum a b) p = both-ready (A .sum) a b (p .0) (p .1)
       evaluated-ready constants (difference a b) p = both-ready (A .difference) a b (p .0) (p .1)
       evaluated-ready constants (product a b) p = both-ready (A .product) a b (p .0) (p .1)
-      evaluated-ready constants (negation a) p = let x = readable-known a p in rw (x .1) (whole-ready (A .negation (x .0)))
+      evaluated-ready constants (negation a) p = let x = readable-known a p in rw (x .1) (from-outcome-ready (A .negation (x .0)))
 
       -- a number put among the adjoints
       stored-adjoint : (memory : Memory A) (d : ℕ) (x : A .Carrier) → v ≤ d → d < tableVariables v

@@ -10,11 +10,11 @@ use Rattle.number.specs.Arithmetic.{Arithmetic, Outcome}
 use Rattle.sheet.specs.Tree.{Tree, done, one, fork, again, rows}
 use Rattle.sheet.specs.Rows.{Assignment, _≔_, Source, copy, fixed, sum, difference, product, negation, Test, less}
 use Rattle.sheet.specs.Names.{SourcePresent, AssignmentPresent, TestPresent, Present}
-use Rattle.run.specs.Attempts.{Attempt, through, _>>=_, whole, look}
+use Rattle.run.specs.Attempts.{Attempt, through, _>>=_, fromOutcome, look}
 use Rattle.run.specs.Actions.{evaluated, compared}
 use Rattle.run.specs.InTheLarge.{Stop}
 use Rattle.claims.specs.Execution.{Progress, performed, turned, executed}
-use Rattle.run.proofs.AttemptLaws.{Ready, gives, ready-then, stops, whole-ready}
+use Rattle.run.proofs.AttemptLaws.{Ready, gives, ready-then, stops, from-outcome-ready}
 use Rattle.claims.proofs.Runs.{runs}
 use Rattle.claims.proofs.RunsKeepSizes.{performed-keeps, runs-keep}
 use Rattle.claims.proofs.Stores.{known-at}
@@ -22,8 +22,8 @@ use Rattle.claims.proofs.Originals.{replaced-alone}
 
 module _ (A : Arithmetic) (constants : List ℕ) (v : ℕ) where
   both-ready : (f : A .Carrier → A .Carrier → Outcome (A .Carrier) (A .Why)) (a b : ℕ) (store : List (A .Carrier)) → length store ≡ v
-      → a < v → b < v → Ready (look store a >>= λ x. look store b >>= λ y. whole (f x y))
-  both-ready f a b store n p q = rw (known-at store a (A .zero) (omega arith), known-at store b (A .zero) (omega arith)) (whole-ready (f _ _))
+      → a < v → b < v → Ready (look store a >>= λ x. look store b >>= λ y. fromOutcome (f x y))
+  both-ready f a b store n p q = rw (known-at store a (A .zero) (omega arith), known-at store b (A .zero) (omega arith)) (from-outcome-ready (f _ _))
 
   evaluated-ready : (source : Source) (store : List (A .Carrier)) → length store ≡ v → SourcePresent v (length constants) source
       → Ready (evaluated A constants source store)
@@ -33,7 +33,7 @@ module _ (A : Arithmetic) (constants : List ℕ) (v : ℕ) where
   evaluated-ready (sum a b) store n p = both-ready (A .sum) a b store n (p .0) (p .1)
   evaluated-ready (difference a b) store n p = both-ready (A .difference) a b store n (p .0) (p .1)
   evaluated-ready (product a b) store n p = both-ready (A .product) a b store n (p .0) (p .1)
-  evaluated-ready (negation a) store n p = rw (known-at store a (A .zero) (omega arith)) (whole-ready (A .negation _))
+  evaluated-ready (negation a) store n p = rw (known-at store a (A .zero) (omega arith)) (from-outcome-ready (A .negation _))
 
   performed-ready : (p : ℕ) (b : Assignment) (now : Progress A) → length (now .store) ≡ v → AssignmentPresent v (length constants) b
       → Ready (performed A constants p b now)

@@ -9,7 +9,7 @@ use lib.ListN.{length, set}
 use native.Mathlib.Omega.{arith}
 use Rattle.number.specs.Arithmetic.{Arithmetic, Outcome, stop, value}
 use Rattle.table.specs.TableRows.{Origin}
-use Rattle.run.specs.Attempts.{Attempt, _>>=_, halted, present, replaced, stuck, through, whole}
+use Rattle.run.specs.Attempts.{Attempt, _>>=_, halted, present, replaced, stuck, through, fromOutcome}
 use Rattle.run.specs.InTheLarge.{stoppingAt}
 
 pub bind-assoc : {W X Y Z : Type 0} (m : Attempt W X) (f : X → Attempt W Y) (g : Y → Attempt W Z) → (m >>= f >>= g) ≡ (m >>= λ x. f x >>= g)
@@ -55,9 +55,9 @@ pub data Ready {W X : Type 0} (m : Attempt W X) : Type 0 where
   gives : (x : X) → m ≡ through x → Ready m
   stops : (why : W) → m ≡ halted why → Ready m
 
-pub whole-ready : {W X : Type 0} (o : Outcome X W) → Ready (whole o)
-whole-ready (value x) = gives x refl
-whole-ready (stop why) = stops why refl
+pub from-outcome-ready : {W X : Type 0} (o : Outcome X W) → Ready (fromOutcome o)
+from-outcome-ready (value x) = gives x refl
+from-outcome-ready (stop why) = stops why refl
 
 -- one thing after another that isn't stuck
 pub ready-then : {W X Y : Type 0} (m : Attempt W X) (next : X → Attempt W Y) → Ready m → ((x : X) → m ≡ through x → Ready (next x)) → Ready (m >>= next)

@@ -9,7 +9,7 @@ use Rattle.number.specs.Arithmetic.{Arithmetic}
 use Rattle.number.specs.Constants.{signed}
 use Rattle.sheet.specs.Rows.{_≔_, Source, copy, fixed, sum, difference, product, negation, Test, less, isDependent}
 use Rattle.table.specs.TableRows.{Action, assign, save, takeBack, saveTurn, clear, turnRound, TableTest, whether, onTurn, turnWord}
-use Rattle.run.specs.Attempts.{Attempt, through, stuck, _>>=_, whole, look, replaced, pushed}
+use Rattle.run.specs.Attempts.{Attempt, through, stuck, _>>=_, fromOutcome, look, replaced, pushed}
 
 module _ (A : Arithmetic) where
   -- what a run works on: the 2V + 2 variables, both stacks, top first, and the values that row 17 copies out
@@ -41,18 +41,18 @@ module _ (A : Arithmetic) where
   evaluated constants (sum a b) store = do
     x ← look store a
     y ← look store b
-    whole (A .sum x y)
+    fromOutcome (A .sum x y)
   evaluated constants (difference a b) store = do
     x ← look store a
     y ← look store b
-    whole (A .difference x y)
+    fromOutcome (A .difference x y)
   evaluated constants (product a b) store = do
     x ← look store a
     y ← look store b
-    whole (A .product x y)
+    fromOutcome (A .product x y)
   evaluated constants (negation a) store = do
     x ← look store a
-    whole (A .negation x)
+    fromOutcome (A .negation x)
 
   abbrev pub withStore : Memory → List (A .Carrier) → Memory
   withStore memory store = record { store = store; values = memory .values; turns = memory .turns; copied = memory .copied }

@@ -19,9 +19,9 @@ module _ {Why : Type 0} where
   halted why >>= next = halted why
   stuck >>= next = stuck
 
-  abbrev pub whole : {X : Type 0} → Outcome X Why → Attempt Why X
-  whole (value x) = through x
-  whole (stop why) = halted why
+  abbrev pub fromOutcome : {X : Type 0} → Outcome X Why → Attempt Why X
+  fromOutcome (value x) = through x
+  fromOutcome (stop why) = halted why
 
   abbrev pub present : {X : Type 0} → Option X → Attempt Why X
   present none = stuck

@@ -6,7 +6,7 @@ ghost use Rattle.number.specs.Doubles.{doubles};
 ghost use Rattle.sheet.specs.Rows.{copy, sum, difference, product, negation, isDependent};
 ghost use Rattle.table.specs.TableRows.{save, takeBack};
 ghost use Rattle.run.specs.inner.RowAnswers.{readDouble, pairOfDoubles, whetherDid};
-ghost use Rattle.run.specs.Attempts.{whole};
+ghost use Rattle.run.specs.Attempts.{fromOutcome};
 ghost use Rattle.run.specs.inner.Buffers.{Operands, Evaluates, EvaluatesFixed, Assigns, Clears, MovesValues, Compares, TurnsRound};
 ghost use Rattle.run.specs.inner.RowWords.{sourceSaid, EvaluatesSaid};
 ghost use Rattle.run.specs.inner.RowSteps.{ActsBy, StraightRow, BlockRow};
@@ -45,7 +45,7 @@ use sheet::Variable;
 use sheet::is_dependent;
 
 fn read_of(outcome: Outcome) -> DoubleRead
-    ensures { λ r. ⌜ readDouble r ≡ whole (outcomeOf outcome) ⌝ }
+    ensures { λ r. ⌜ readDouble r ≡ fromOutcome (outcomeOf outcome) ⌝ }
 {
     match outcome {
         Outcome::Value(x) => DoubleRead::Is(x),

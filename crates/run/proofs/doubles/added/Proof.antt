@@ -1,7 +1,7 @@
 -- `run::doubles::added` meets its contract.
 use mathlib.Core.Path.{ap, _∙_}
 use Rattle.number.specs.Doubles.{doubles}
-use Rattle.run.specs.Attempts.{whole}
+use Rattle.run.specs.Attempts.{fromOutcome}
 use Rattle.run.specs.Actions.{evaluated}
 use Rattle.run.proofs.RowLaws.{combines}
 use borrow.Author.Needs.{needs}
@@ -27,13 +27,13 @@ returns : tie.Need-returns
 unfolding evaluated
 returns c constants =
     c .read-of .ensures
-    ∙ ap whole (c .before .sum .ensures)
+    ∙ ap fromOutcome (c .before .sum .ensures)
     ∙ combines (rw (c .before .before .before .x .given .1) at (c .before .before .before .before .before .operands .ensures))
-    (λ x y. whole (doubles .sum x y))
+    (λ x y. fromOutcome (doubles .sum x y))
 
 returns-2 : tie.Need-returns-2
 unfolding evaluated
-returns-2 c constants = combines (rw (c .enum-told .given .1) at (c .before .before .operands .ensures)) (λ x y. whole (doubles .sum x y))
+returns-2 c constants = combines (rw (c .enum-told .given .1) at (c .before .before .operands .ensures)) (λ x y. fromOutcome (doubles .sum x y))
 
 pub added-spec : {M : Type 1} → statement M
 added-spec = tie.close (tie.spec operands-requires enum-known-x sum-requires read-of-requires enum-told returns returns-2)

@@ -1,7 +1,7 @@
 -- `run::doubles::multiplied` meets its contract.
 use mathlib.Core.Path.{ap, _∙_}
 use Rattle.number.specs.Doubles.{doubles}
-use Rattle.run.specs.Attempts.{whole}
+use Rattle.run.specs.Attempts.{fromOutcome}
 use Rattle.run.specs.Actions.{evaluated}
 use Rattle.run.proofs.RowLaws.{combines}
 use borrow.Author.Needs.{needs}
@@ -27,13 +27,13 @@ returns : tie.Need-returns
 unfolding evaluated
 returns c constants =
     c .read-of .ensures
-    ∙ ap whole (c .before .product .ensures)
+    ∙ ap fromOutcome (c .before .product .ensures)
     ∙ combines (rw (c .before .before .before .x .given .1) at (c .before .before .before .before .before .operands .ensures))
-    (λ x y. whole (doubles .product x y))
+    (λ x y. fromOutcome (doubles .product x y))
 
 returns-2 : tie.Need-returns-2
 unfolding evaluated
-returns-2 c constants = combines (rw (c .enum-told .given .1) at (c .before .before .operands .ensures)) (λ x y. whole (doubles .product x y))
+returns-2 c constants = combines (rw (c .enum-told .given .1) at (c .before .before .operands .ensures)) (λ x y. fromOutcome (doubles .product x y))
 
 pub multiplied-spec : {M : Type 1} → statement M
 multiplied-spec = tie.close (tie.spec operands-requires enum-known-x product-requires read-of-requires enum-told returns returns-2)

@@ -2,7 +2,7 @@
 use mathlib.Core.Path.{ap, _∙_}
 use lib.Ieee.{nan}
 use Rattle.run.specs.Actions.{evaluated}
-use Rattle.run.specs.Attempts.{whole}
+use Rattle.run.specs.Attempts.{fromOutcome}
 use Rattle.run.proofs.PlaceLaws.{look-there, look-missing}
 use borrow.Author.Needs.{needs}
 use Rattle.run.proofs.doubles.negated.Statement.{statement}
@@ -25,7 +25,7 @@ unfolding evaluated
 returns c constants =
     let args = c .before .before .before .before .before .args in
     rw (look-there (args .vals .now) (args .a .0) nan (c .before .before .before .if1 .taken))
-    (c .read-of .ensures ∙ ap whole (c .before .negation .ensures))
+    (c .read-of .ensures ∙ ap fromOutcome (c .before .negation .ensures))
 
 returns-2 : tie.Need-returns-2
 unfolding evaluated

@@ -1,7 +1,7 @@
 -- `run::residues::negated` meets its contract: the opposite of what stands at the place, if it is there.
 use mathlib.Core.Path.{ap}
 use Rattle.run.specs.Actions.{evaluated}
-use Rattle.run.specs.Attempts.{whole}
+use Rattle.run.specs.Attempts.{fromOutcome}
 use Rattle.run.proofs.PlaceLaws.{look-there, look-missing}
 use borrow.Author.Needs.{needs}
 use Rattle.run.proofs.residues.negated.Statement.{statement}
@@ -20,7 +20,7 @@ returns : tie.Need-returns
 unfolding evaluated
 returns c constants =
     let args = c .before .before .before .before .args in
-    rw (look-there (args .vals .now) (args .a .0) 0 (c .before .before .if1 .taken)) (ap whole (c .negation .ensures))
+    rw (look-there (args .vals .now) (args .a .0) 0 (c .before .before .if1 .taken)) (ap fromOutcome (c .negation .ensures))
 
 returns-2 : tie.Need-returns-2
 unfolding evaluated
