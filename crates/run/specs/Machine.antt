@@ -1,4 +1,5 @@
--- The row machine: one step a row, and a run as the steps in turn.
+-- The row machine: one step a row, and a run as the steps in turn. 01: "each single row's step is shown to give the state of that row's written
+-- meaning, and a run is those steps in turn".
 use Prim.Native.Nat.{ℕ, zero, suc, _+_, _*_, max}
 use mathlib.Core.Bool.{Bool, true, false}
 use mathlib.Core.List.{List, [], _∷_}
@@ -102,6 +103,7 @@ module _ (A : Arithmetic) where
 
   pub data Ending : Type 0 where
     finished : Memory A → Ending
+    -- "the first result that isn't finite ends the run"
     stoppedAt : RowNumber → Origin → A .Why → Ending
     gotStuck : Ending
     outOfFuel : Ending
