@@ -14,13 +14,13 @@ use Rattle.sheet.proofs.RefusalsApart.{same-refusal, from-1-to-12}
 use Rattle.sheet.proofs.Settled.{refused-exactly, given-exactly, named-exactly, done-exactly, numbers-within}
 use Rattle.table.specs.TableRows.{tableWords}
 use Rattle.table.specs.Adjoint.{tableOf}
-use Rattle.table.specs.Calls.{Checked, sizesIn, check, readFor, overwritten, tableIn, Written, write}
+use Rattle.table.specs.Calls.{Checked, noSizes, sizesIn, check, readFor, overwritten, tableIn, Written, write}
 use Rattle.table.proofs.TableLength.{table-length}
 use Rattle.run.specs.Actions.{Memory}
 use Rattle.run.specs.Machine.{Ending, finished, stoppedAt, gotStuck, outOfFuel}
 use Rattle.run.specs.Calls.{Lent, Ran, resultOf, stuckNumber, lentAfter, ranTo, ranOn, run}
 use Rattle.claims.specs.ExactlyWhen.{ReadingRefuses, Read, WritingRefuses, Writable, Runnable, endingOf, StartRefused, RunRefuses, Stops, beforeStart, resultNotFinite, Finishes}
-use Rattle.claims.specs.CallsExactly.{Names, ReadExactly, noSizes, CheckExactly, StartsWith, WriteExactly, LeftBehind, RunExactly}
+use Rattle.claims.specs.CallsExactly.{Names, ReadExactly, CheckExactly, StartsWith, WriteExactly, LeftBehind, RunExactly}
 use Rattle.claims.proofs.ReadingExactlyWhen.{reading-settled, reading-numbers}
 use Rattle.claims.proofs.StartExactlyWhen.{writing-settled, writing-numbers, start-settled, started, start-numbers}
 use Rattle.claims.proofs.RunsAnswer.{zero-or-twelve}

@@ -8,7 +8,6 @@ use lib.ListN.{length, take, drop, replicate}
 use Rattle.number.specs.Arithmetic.{Arithmetic}
 use Rattle.sheet.specs.Refusals.{Refusal, Answer, refused, given, numberOf, placeOf, numberIn, placeIn}
 use Rattle.sheet.specs.Tree.{RowNumber}
-use Rattle.sheet.specs.LongestRun.{longestRun}
 use Rattle.sheet.specs.Reading.{Sheet}
 use Rattle.sheet.specs.Answers.{said, shapeOf}
 use Rattle.sheet.specs.declared.Shape.{Shape}
@@ -16,10 +15,10 @@ use Rattle.sheet.specs.declared.Reading.{Reading}
 use Rattle.sheet.specs.declared.Reading.the-variants.{Accepted}
 use Rattle.table.specs.TableRows.{tableWords}
 use Rattle.table.specs.Adjoint.{tableOf}
-use Rattle.table.specs.Calls.{Sizes, Checked, Written}
+use Rattle.table.specs.Calls.{Checked, noSizes, sizesOf, Written}
 use Rattle.run.specs.Actions.{Memory}
 use Rattle.run.specs.Calls.{Lent, Ran, resultOf}
-use Rattle.claims.specs.ExactlyWhen.{ReadingRefuses, Read, rowsNeeded, valuesFor, turnsFor, WritingRefuses, Writable, RunRefuses, Stops, Finishes}
+use Rattle.claims.specs.ExactlyWhen.{ReadingRefuses, Read, WritingRefuses, Writable, RunRefuses, Stops, Finishes}
 
 -- an answer's number and place are a refusal's
 abbrev pub Names : (number place : ℕ) → Refusal → Type 0
@@ -45,12 +44,6 @@ pub record ReaderExactly (words : List ℕ) (answer : Reading) : Type 0 where
   pub numbers : numberIn (said answer) ≤ 7
 
 -- ---- check: "Checking a sheet uses 1 to 7 and answers W, R, S and T, all 0 when refused."
-
-abbrev pub sizesOf : Sheet → Sizes
-sizesOf sheet = record { longest = longestRun (sheet .body); rows = rowsNeeded sheet; values = valuesFor sheet; turns = turnsFor sheet }
-
-abbrev pub noSizes : Sizes
-noSizes = record { longest = 0; rows = 0; values = 0; turns = 0 }
 
 pub record CheckExactly (words : List ℕ) (answer : Checked) : Type 0 where
   pub refuses : (r : Refusal) → Names (answer .number) (answer .place) r ↔ ReadingRefuses words r

@@ -14,9 +14,8 @@ use Rattle.sheet.specs.Tree.{Tree, basic, ifLine, elseLine, endIf, repeat, endR
 use Rattle.sheet.specs.Rows.{Assignment, Test, SheetLine, Row, Slot, variable, constant, turns, unused, Kind, kindOf, treeRows}
 use Rattle.sheet.specs.LongestRun.{longestRun}
 use Rattle.sheet.specs.Reading.{Sheet, variablesOf, rowAt, rowsAt}
-use Rattle.sets.specs.Marks.{marked}
 use Rattle.table.specs.TableRows.{Origin}
-use Rattle.table.specs.Sizes.{tableRows, valuesNeeded, turnsNeeded}
+use Rattle.table.specs.Sizes.{rowsNeeded, valuesFor, turnsFor}
 use Rattle.table.specs.Calls.{tableRoom}
 use Rattle.run.specs.Actions.{Memory}
 use Rattle.run.specs.Machine.{Ending, finished, stoppedAt}
@@ -211,16 +210,6 @@ module _ (words : List ℕ) where
     pub short : longestRun (sheet .body) ≤ limit .longestRun
 
 -- ---- writing
-
--- R, S and T of a sheet
-abbrev pub rowsNeeded : Sheet → ℕ
-rowsNeeded sheet = tableRows (variablesOf sheet) (marked sheet)
-
-abbrev pub valuesFor : Sheet → ℕ
-valuesFor sheet = valuesNeeded (marked sheet)
-
-abbrev pub turnsFor : Sheet → ℕ
-turnsFor sheet = turnsNeeded (marked sheet)
 
 module _ (words : List ℕ) (buffer : List ℕ) where
   -- "Writing a table uses 1 to 8"

@@ -10,7 +10,7 @@ use Rattle.sheet.specs.Reading.{Sheet, variablesOf, unless}
 use Rattle.sets.specs.Marks.{marked}
 use Rattle.table.specs.TableRows.{Table, linesOf, tableWords}
 use Rattle.table.specs.Adjoint.{tableOf}
-use Rattle.table.specs.Sizes.{valuesNeeded, turnsNeeded}
+use Rattle.table.specs.Sizes.{valuesNeeded, turnsNeeded, valuesFor, turnsFor}
 use Rattle.table.specs.Calls.{readFor, overwritten}
 use Rattle.table.specs.declared.Answer as declared
 use Rattle.run.specs.Actions.{Memory, Setting, counting}
@@ -35,10 +35,9 @@ module _ (A : Arithmetic) where
   unfolding readFor marked valuesNeeded turnsNeeded allAdmitted
   readToRun words starts seeds lent = do
     sheet ← readFor words (length (lent .table))
-    let body = marked sheet
     let v = variablesOf sheet
-    _ ← unless (leb (valuesNeeded body) (length (lent .values))) smallValueStack
-    _ ← unless (leb (turnsNeeded body) (length (lent .turns))) smallTurnStack
+    _ ← unless (leb (valuesFor sheet) (length (lent .values))) smallValueStack
+    _ ← unless (leb (turnsFor sheet) (length (lent .turns))) smallTurnStack
     _ ← unless (eqb (length starts) v) wrongStarts
     _ ← unless (eqb (length seeds) v) wrongSeeds
     _ ← unless (eqb (length (lent .result)) (2 * v)) wrongResult

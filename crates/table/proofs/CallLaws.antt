@@ -17,7 +17,7 @@ use Rattle.table.specs.declared.Planned.the-variants as planned
 use Rattle.table.specs.TableRows.{tableWords}
 use Rattle.table.specs.Adjoint.{tableOf}
 use Rattle.table.specs.Sizes.{tableRows}
-use Rattle.table.specs.Calls.{Checked, sizesIn, check, tableRoom, readFor, overwritten, tableIn, Written, write}
+use Rattle.table.specs.Calls.{Checked, noSizes, sizesIn, check, tableRoom, readFor, overwritten, tableIn, Written, write}
 use Rattle.table.specs.inner.Plans.{PlanMade, PlanSays}
 
 -- ---- by the case of the plan
@@ -34,7 +34,7 @@ module _ (words : List ℕ) where
   -- ---- check
 
   pub check-refused : (why : Refusal) (number place : ℕ) → read words ≡ refused why → number ≡ numberOf why → place ≡ placeOf why
-      → _≡_ {A = Checked} (record { number = number; place = place; sizes = record { longest = 0; rows = 0; values = 0; turns = 0 } }) (check words)
+      → _≡_ {A = Checked} (record { number = number; place = place; sizes = noSizes }) (check words)
   unfolding check numberIn placeIn sizesIn
   check-refused why number place e n p = rw (e, n, p)
 

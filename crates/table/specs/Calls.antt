@@ -5,14 +5,14 @@ use lib.ListN.{length, drop}
 use lib.Dec.{leb}
 use Rattle.sheet.specs.Bounds.{limit}
 use Rattle.sheet.specs.Refusals.{Answer, refused, given, _>>=_, numberIn, placeIn, smallTable}
-use Rattle.sheet.specs.Reading.{Sheet, variablesOf, read, unless}
+use Rattle.sheet.specs.Reading.{Sheet, read, unless}
 use Rattle.sheet.specs.LongestRun.{longestRun}
 use Rattle.sets.specs.Marks.{marked}
 use Rattle.table.specs.declared.Checked as declared
 use Rattle.table.specs.declared.Answer as answered
 use Rattle.table.specs.TableRows.{tableWords}
 use Rattle.table.specs.Adjoint.{tableOf}
-use Rattle.table.specs.Sizes.{tableRows, valuesNeeded, turnsNeeded}
+use Rattle.table.specs.Sizes.{tableRows, valuesNeeded, turnsNeeded, rowsNeeded, valuesFor, turnsFor}
 
 -- ---- check
 
@@ -23,18 +23,17 @@ pub record Sizes : Type 0 where
   pub values : ℕ
   pub turns : ℕ
 
+abbrev pub sizesOf : Sheet → Sizes
+sizesOf sheet = record { longest = longestRun (sheet .body); rows = rowsNeeded sheet; values = valuesFor sheet; turns = turnsFor sheet }
+
+abbrev pub noSizes : Sizes
+noSizes = record { longest = 0; rows = 0; values = 0; turns = 0 }
+
 -- "answers W, R, S and T, all 0 when refused"
 unfoldable pub sizesIn : Answer Sheet → Sizes
 unfolding longestRun marked tableRows valuesNeeded turnsNeeded
-sizesIn (refused r) = record { longest = 0; rows = 0; values = 0; turns = 0 }
-sizesIn (given sheet) =
-    let body = marked sheet in
-    record {
-      longest = longestRun (sheet .body);
-      rows = tableRows (variablesOf sheet) body;
-      values = valuesNeeded body;
-      turns = turnsNeeded body;
-    }
+sizesIn (refused r) = noSizes
+sizesIn (given sheet) = sizesOf sheet
 
 pub record Checked : Type 0 where
   pub number : ℕ
@@ -66,7 +65,7 @@ unfoldable pub readFor : List ℕ → (room : ℕ) → Answer Sheet
 unfolding read marked tableRows
 readFor words room = do
   sheet ← read words
-  _ ← unless (leb (tableRoom (tableRows (variablesOf sheet) (marked sheet))) room) smallTable
+  _ ← unless (leb (tableRoom (rowsNeeded sheet)) room) smallTable
   given sheet
 
 -- "the table buffer starts with the table and keeps its other words"

@@ -3,6 +3,8 @@ use Prim.Native.Nat.{ℕ, suc, _+_, _*_, max}
 use mathlib.Core.Bool.{cond}
 use Rattle.sheet.specs.Bounds.{limit}
 use Rattle.sheet.specs.Tree.{done, one, fork, again, rows}
+use Rattle.sheet.specs.Reading.{Sheet, variablesOf}
+use Rattle.sets.specs.Marks.{marked}
 use Rattle.table.specs.Adjoint.{Body, adjointTable}
 
 -- "Hence R is at most 9 × 512 + 1": two rows forward and seven backward for each of a sheet's, and row 17
@@ -30,3 +32,14 @@ turnsNeeded done = 0
 turnsNeeded (one m k) = turnsNeeded k
 turnsNeeded (fork f a b k) = 1 + max (turnsNeeded a) (turnsNeeded b) + turnsNeeded k
 turnsNeeded (again n a k) = suc n * turnsNeeded a + turnsNeeded k
+
+-- ---- of a sheet
+
+abbrev pub rowsNeeded : Sheet → ℕ
+rowsNeeded sheet = tableRows (variablesOf sheet) (marked sheet)
+
+abbrev pub valuesFor : Sheet → ℕ
+valuesFor sheet = valuesNeeded (marked sheet)
+
+abbrev pub turnsFor : Sheet → ℕ
+turnsFor sheet = turnsNeeded (marked sheet)
