@@ -19,11 +19,12 @@ use Rattle.table.specs.TableRows.{linesOf, tableVariables}
 use Rattle.table.specs.Adjoint.{tableOf}
 use Rattle.table.specs.Sizes.{tableRows}
 use Rattle.table.specs.declared.Plan.{Plan}
+use Rattle.table.proofs.PlanLaws.{planned-few}
 use Rattle.run.specs.inner.Runnable.{Holds}
 use Rattle.run.specs.inner.JumpsFound.{JumpsOf}
 use Rattle.run.specs.inner.CallSteps.{HasRoom}
 use Rattle.run.specs.inner.CallAnswers.{Written, SheetRoom, Ready, RunRoom}
-use Rattle.run.proofs.TableHeld.{table-holds, table-rows-within}
+use Rattle.run.proofs.TableHeld.{table-holds}
 
 -- the first of so many zeros are zeros
 take-zeros : {X : Type 0} (n m : ℕ) (zero : X) → n ≤ m → take n (replicate m zero) ≡ replicate n zero
@@ -71,7 +72,7 @@ sheet-room {words} {plan} starts seeds result room =
       fewConstants = parts .fewConstants;
       first = parts .first;
       within = parts .constantsWithin;
-      fewRows = omega (arith, made .planned .rows, table-rows-within words (made .sheet) (made .accepted));
+      fewRows = planned-few made;
       startsFit = room .startsFit;
       seedsFit = room .seedsFit;
       resultFits = room .resultFits;

@@ -1,22 +1,15 @@
--- A buffer that starts with a table's words holds its rows, of which an accepted sheet's table has at most 9 × 512 + 1.
-use Prim.Native.Nat.{ℕ, zero, suc, _+_, _*_, _≤_}
-use mathlib.Core.Path.{_≡_, sym, ap, subst, _∙_}
+-- A buffer that starts with a table's words holds its rows.
+use Prim.Native.Nat.{ℕ, zero, suc, _+_, _*_}
+use mathlib.Core.Path.{_≡_, ap, _∙_}
 use mathlib.Core.List.{List, [], _∷_, _++_, map}
 use lib.ListN.{length, drop, length-append}
 use native.Mathlib.Omega.{arith}
 use Rattle.sheet.specs.Bounds.{limit}
-use Rattle.sheet.specs.Refusals.{given}
-use Rattle.sheet.specs.Tree.{rows}
-use Rattle.sheet.specs.Reading.{Sheet, variablesOf, read, rowAt}
+use Rattle.sheet.specs.Reading.{rowAt}
 use Rattle.sheet.proofs.RowsCounted.{lines-counted}
-use Rattle.sheet.proofs.ReadingParts.{same-given}
-use Rattle.sheet.proofs.ReaderLaws.{shaped}
-use Rattle.sets.specs.Marks.{marked, markBy, varied, useful, required}
 use Rattle.table.specs.TableRows.{Table, TableLine, tableRowOf, linesOf, wordsOf, tableWords}
-use Rattle.table.specs.Sizes.{tableRows, mostTableRows}
 use Rattle.table.specs.Calls.{overwritten}
 use Rattle.table.proofs.TableLength.{table-words}
-use Rattle.table.proofs.TableBounds.{table-rows-bound, marked-rows}
 use Rattle.run.specs.inner.Runnable.{placeOfRow, Holds}
 
 row-behind : (word : ℕ) (words : List ℕ) (place : ℕ) → rowAt (word ∷ words) (suc place) ≡ rowAt words place
@@ -60,14 +53,3 @@ unfolding overwritten linesOf
 table-holds table before =
     let behind = drop (length (tableWords table)) before in
     record { within = omega (arith, table-words table, lines-counted table, length-append (tableWords table) behind); held = table-row table behind }
-
-sheet-rows-within : (words : List ℕ) (sheet : Sheet) → read words ≡ given sheet → rows (sheet .body) ≤ limit .rows
-sheet-rows-within words sheet e =
-    let is = shaped words sheet e in
-    subst (λ s. rows (s .body) ≤ limit .rows) (same-given (sym (is .is) ∙ e)) (omega (arith, is .rowsOfTree, is .rowsWithin))
-
-pub table-rows-within : (words : List ℕ) (sheet : Sheet) → read words ≡ given sheet → tableRows (variablesOf sheet) (marked sheet) ≤ mostTableRows
-unfolding marked
-table-rows-within words sheet e =
-    let body = marked-rows (markBy (varied sheet) (useful sheet) (required sheet)) (sheet .body) 0 in
-    omega (arith, table-rows-bound (variablesOf sheet) (marked sheet), body, sheet-rows-within words sheet e)

@@ -18,12 +18,11 @@ use Rattle.table.specs.inner.MarkedRows.{rowsIn, Readable, Handed, hande
 use Rattle.table.specs.declared.needs.Stack.{Stack}
 use Rattle.table.specs.inner.Needs.{needOver}
 use Rattle.table.specs.inner.Plans.{SheetNoted, PlanMade}
-use Rattle.table.proofs.TableBounds.{table-rows-bound, marked-rows}
-use Rattle.table.proofs.WalkTree.{rows-of-tree, tree-says, tree-walks}
+use Rattle.table.proofs.WalkTree.{tree-says, tree-walks}
 use Rattle.table.proofs.WholeTable.{whole-is-table, rows-counted, buffer-overwritten}
 use Rattle.table.proofs.CountTree.{counted-is-table-rows}
 use Rattle.table.proofs.NeedsTree.{neededOn, need-is-needed}
-use Rattle.table.proofs.SheetLaid.{Lies, sheet-lies}
+use Rattle.table.proofs.SheetLaid.{Lies, sheet-lies, table-rows-within}
 
 -- the marks that the sets give
 abbrev marksOf : Sheet → ℕ → Assignment → Marked
@@ -83,21 +82,10 @@ module _ {words : List ℕ} {sheet : Sheet} {shape : Shape} (lies : Lies words s
         (subst (Room buffer 1) whole-right (room-right count buffer right long))
         (subst (λ rs. Wrote (set buffer 0 count) 1 rs after next) whole-right wrote)
 
-  pub rows-few : tableRows (variablesOf sheet) (marked sheet) ≤ mostTableRows
-  unfolding marked
-  rows-few =
-      omega (
-        arith,
-        table-rows-bound (variablesOf sheet) (marked sheet),
-        marked-rows (marksOf sheet) (sheet .body) 0,
-        rows-of-tree words (shape .«first_row») (shape .rows) (sheet .body) (lies .says),
-        lies .fewRows,
-      )
-
 -- a plan that was made says where its sheet lies
 pub planned-lies : {words : List ℕ} {plan : Plan} {marks came goes : List ℕ} (made : PlanMade words plan marks came goes)
     → Lies words (made .sheet) (plan .shape)
 planned-lies {words} made = subst (Lies words (made .sheet)) (sym (made .planned .shape)) (sheet-lies words (made .sheet) (made .accepted))
 
 pub planned-few : {words : List ℕ} {plan : Plan} {marks came goes : List ℕ} → PlanMade words plan marks came goes → plan .rows ≤ mostTableRows
-planned-few made = omega (arith, made .planned .rows, rows-few (planned-lies made))
+planned-few {words} made = omega (arith, made .planned .rows, table-rows-within words (made .sheet) (made .accepted))

@@ -1,4 +1,4 @@
--- Where an accepted sheet's rows lie in its words, and what the passes over them ask.
+-- Where an accepted sheet's rows lie in its words, what the passes over them ask, and how large its table gets at most.
 use Prim.Native.Nat.{ℕ, suc, _+_, _*_, _≤_, _<_}
 use native.Mathlib.Omega.{arith}
 use mathlib.Core.Path.{_≡_, refl, sym, ap, subst, _∙_}
@@ -18,7 +18,15 @@ use Rattle.sheet.proofs.ReadingExact.{reading-exact}
 use Rattle.sheet.proofs.NamesPresent.{counts}
 use Rattle.sheet.proofs.TreeInWords.{body-stands}
 use Rattle.sheet.proofs.ReaderLaws.{Shaped, accepted-shape}
+use Rattle.sets.specs.Marks.{varied, useful, required, markBy, marked}
+use Rattle.table.specs.TableRows.{tableWords}
+use Rattle.table.specs.Adjoint.{tableOf}
+use Rattle.table.specs.Sizes.{mostTableRows, rowsNeeded}
+use Rattle.table.specs.Calls.{tableRoom}
 use Rattle.table.specs.inner.MarkedRows.{rowNumbered, Small}
+use Rattle.table.proofs.TableLength.{table-length}
+use Rattle.table.proofs.TableBounds.{table-rows-bound, marked-rows}
+use Rattle.table.proofs.WalkTree.{rows-of-tree}
 use Rattle.table.proofs.RowsSmall.{rows-small}
 
 pub record Lies (words : List ℕ) (sheet : Sheet) (shape : Shape) : Type 0 where
@@ -62,6 +70,22 @@ sheet-lies words sheet e =
       small = λ p below. rows-small _ _ (shaped .variablesWithin) (shaped .constantsWithin) words first _ _ [] [] (sheet .body) body p _ below refl;
       short = parts .short;
     }
+
+-- "Hence R is at most 9 × 512 + 1 = 4,609, and the table 18,437 words."
+pub table-rows-within : (words : List ℕ) (sheet : Sheet) → read words ≡ given sheet → rowsNeeded sheet ≤ mostTableRows
+unfolding marked
+table-rows-within words sheet e =
+    let lies = sheet-lies words sheet e in
+    omega (
+      arith,
+      table-rows-bound (variablesOf sheet) (marked sheet),
+      marked-rows (markBy (varied sheet) (useful sheet) (required sheet)) (sheet .body) 0,
+      rows-of-tree words _ _ (sheet .body) (lies .says),
+      lies .fewRows,
+    )
+
+pub table-words-within : (words : List ℕ) (sheet : Sheet) → read words ≡ given sheet → length (tableWords (tableOf sheet)) ≤ tableRoom mostTableRows
+table-words-within words sheet e = omega (arith, table-length sheet, table-rows-within words sheet e)
 
 -- by what the reader promises of an accepted sheet
 pub record SomeSheet (words : List ℕ) (shape : Shape) : Type 0 where
