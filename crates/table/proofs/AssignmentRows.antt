@@ -10,8 +10,7 @@ use Rattle.sheet.specs.Rows.{Row, kindOf, rowOf, rowOfAssignment}
 use Rattle.sheet.specs.inner.RowLines.{lineOfRow}
 use Rattle.table.specs.TableRows.{Table, Action, Operation, linesOf, tableRowOf, rowOfAction}
 use Rattle.table.specs.Adjoint.{put, putIf, partsOf, derivativeRows, backwardOf}
-use Rattle.sets.specs.MarkBytes.{bitOf}
-use Rattle.table.specs.inner.MarkedRows.{rowWith, rowIf, rowsIn, anyRow, knownBy, sourceOf, scaledRows, partRows, derivativesOf, assignmentBack}
+use Rattle.table.specs.inner.MarkedRows.{rowWith, rowIf, rowsIn, knownBy, savedBy, anyRow, sourceOf, scaledRows, partRows, derivativesOf, assignmentBack}
 
 pub rows-of-put : (row : RowNumber) (operation : Operation) (action : Action) (rest : Table)
     → rowsIn (put row operation action rest) ≡ rowOfAction action ∷ rowsIn rest
@@ -46,16 +45,16 @@ module _ (v : ℕ) (r : Row) (mark : ℕ) where
   unfolding partRows sourceOf lineOfRow kindOf partsOf
   constant-rows e = rw (kind-is r 2 e) rows-of-done
 
-  module _ {first : Bool} (varied-a : first ≡ bitOf mark 1) where
+  module _ {first : Bool} (varied-a : first ≡ knownBy mark .variedA) where
     pub copy-rows : r .kind ≡ 1 → partRows v r mark ≡ rowIf first (rowWith 3 (v + r .a) (v + r .a) (2 * v))
     unfolding partRows sourceOf lineOfRow kindOf partsOf rowOfAction rowOfAssignment
-    copy-rows e = rw (varied-a, kind-is r 1 e) (last-if (bitOf mark 1) _ _ _)
+    copy-rows e = rw (varied-a, kind-is r 1 e) (last-if (knownBy mark .variedA) _ _ _)
 
     pub negation-rows : r .kind ≡ 6 → partRows v r mark ≡ rowIf first (rowWith 4 (v + r .a) (v + r .a) (2 * v))
     unfolding partRows sourceOf lineOfRow kindOf partsOf rowOfAction rowOfAssignment
-    negation-rows e = rw (varied-a, kind-is r 6 e) (last-if (bitOf mark 1) _ _ _)
+    negation-rows e = rw (varied-a, kind-is r 6 e) (last-if (knownBy mark .variedA) _ _ _)
 
-    module _ {second : Bool} (varied-b : second ≡ bitOf mark 2) where
+    module _ {second : Bool} (varied-b : second ≡ knownBy mark .variedB) where
       -- a sum and a difference add into ā, and into b̄ do as they do themselves
       pub two-rows : (3 ≤ r .kind) × (r .kind ≤ 4)
           → partRows v r mark ≡ rowIf first (rowWith 3 (v + r .a) (v + r .a) (2 * v)) ++ rowIf second (rowWith (r .kind) (v + r .b) (v + r .b) (2 * v))
@@ -64,28 +63,28 @@ module _ (v : ℕ) (r : Row) (mark : ℕ) where
         where
           by : Dec (r .kind ≡ 3)
               → partRows v r mark ≡ rowIf first (rowWith 3 (v + r .a) (v + r .a) (2 * v)) ++ rowIf second (rowWith (r .kind) (v + r .b) (v + r .b) (2 * v))
-          by (yes e) = rw (varied-a, varied-b, kind-is r 3 e, rows-of-put-if (bitOf mark 1), last-if (bitOf mark 2))
+          by (yes e) = rw (varied-a, varied-b, kind-is r 3 e, rows-of-put-if (knownBy mark .variedA), last-if (knownBy mark .variedB))
           by (no n) =
               let e : r .kind ≡ 4 = omega arith in
-              rw (varied-a, varied-b, kind-is r 4 e, rows-of-put-if (bitOf mark 1), last-if (bitOf mark 2))
+              rw (varied-a, varied-b, kind-is r 4 e, rows-of-put-if (knownBy mark .variedA), last-if (knownBy mark .variedB))
 
       pub product-rows : r .kind ≡ 5 → partRows v r mark ≡ scaledRows v first (r .b) (r .a) ++ scaledRows v second (r .a) (r .b)
       unfolding partRows sourceOf lineOfRow kindOf partsOf rowOfAction rowOfAssignment
       product-rows e =
-          rw (varied-a, varied-b, kind-is r 5 e, rows-of-put-if (bitOf mark 1), rows-of-put-if (bitOf mark 1), rows-of-put-if (bitOf mark 2))
-          (rw (last-if (bitOf mark 2)) (simp append-assoc))
+          rw (varied-a, varied-b, kind-is r 5 e, rows-of-put-if (knownBy mark .variedA), rows-of-put-if (knownBy mark .variedA), rows-of-put-if (knownBy mark .variedB))
+          (rw (last-if (knownBy mark .variedB)) (simp append-assoc))
 
 -- ---- what stands around them
 
 module _ (v : ℕ) (r : Row) (mark : ℕ) where
-  pub active-rows : bitOf mark 4 ≡ true → derivativesOf v r mark ≡ rowWith 1 (2 * v) (v + r .d) 0 ∷ rowWith 16 (v + r .d) 0 0 ∷ partRows v r mark
+  pub active-rows : knownBy mark .active ≡ true → derivativesOf v r mark ≡ rowWith 1 (2 * v) (v + r .d) 0 ∷ rowWith 16 (v + r .d) 0 0 ∷ partRows v r mark
   unfolding derivativesOf derivativeRows partRows rowsIn linesOf tableRowOf flat rowOf rowOfAction rowOfAssignment
   active-rows e = ap (λ active. rowsIn (derivativeRows v active (r .d) (sourceOf r) anyRow (knownBy mark) done)) e
 
-  pub inactive-rows : bitOf mark 4 ≡ false → derivativesOf v r mark ≡ rowWith 16 (v + r .d) 0 0 ∷ []
+  pub inactive-rows : knownBy mark .active ≡ false → derivativesOf v r mark ≡ rowWith 16 (v + r .d) 0 0 ∷ []
   unfolding derivativesOf derivativeRows rowsIn linesOf tableRowOf flat rowOf rowOfAction
   inactive-rows e = ap (λ active. rowsIn (derivativeRows v active (r .d) (sourceOf r) anyRow (knownBy mark) done)) e
 
-  pub assignment-rows : {saved : Bool} → saved ≡ bitOf mark 8 → assignmentBack v r mark ≡ rowIf saved (rowWith 13 (r .d) 0 0) ++ derivativesOf v r mark
+  pub assignment-rows : {saved : Bool} → saved ≡ savedBy mark → assignmentBack v r mark ≡ rowIf saved (rowWith 13 (r .d) 0 0) ++ derivativesOf v r mark
   unfolding assignmentBack backwardOf derivativesOf rowOfAction
-  assignment-rows e = rw e (rows-of-put-if (bitOf mark 8) _ _ _ _)
+  assignment-rows e = rw e (rows-of-put-if (savedBy mark) _ _ _ _)

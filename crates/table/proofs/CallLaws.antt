@@ -6,7 +6,7 @@ use mathlib.Core.List.{List}
 use lib.ListN.{length}
 use lib.Dec.{leb}
 use borrow.Author.Tests.{le-leb, lt-leb}
-use Rattle.sheet.specs.Refusals.{Refusal, refused, given, numberOf, placeOf, numberIn, placeIn}
+use Rattle.sheet.specs.Refusals.{Refusal, refused, given, numberOf, placeOf, numberIn, placeIn, smallTable}
 use Rattle.sheet.specs.Reading.{Sheet, variablesOf, read}
 use Rattle.sheet.specs.Answers.{refusalOf, shapeOf}
 use Rattle.sheet.specs.declared.No.{No}
@@ -65,7 +65,7 @@ module _ (words : List ℕ) where
       sheet = made .sheet
 
       pub write-small : length buffer < tableRoom (plan .rows)
-          → _≡_ {A = Written} (record { number = 8; place = 0; table = buffer }) (write words buffer)
+          → _≡_ {A = Written} (record { number = numberOf smallTable; place = 0; table = buffer }) (write words buffer)
       unfolding write readFor numberIn placeIn tableIn numberOf placeOf
       write-small short =
           let rows = ap tableRoom (made .planned .rows) in

@@ -10,8 +10,7 @@ use Rattle.sheet.specs.Rows.{Row, SheetLine, less, kindOf, rowOf, sheetRowOf, _
 use Rattle.sheet.specs.inner.RowLines.{lineOfRow}
 use Rattle.table.specs.TableRows.{tableRowOf, rowOfAction, rowOfTableTest}
 use Rattle.table.specs.Adjoint.{forwardRow}
-use Rattle.sets.specs.MarkBytes.{bitOf}
-use Rattle.table.specs.inner.MarkedRows.{rowWith, rowIf, Assigns, Says, sourceOf, assignmentBack, forwardOfLine, backwardOfLine}
+use Rattle.table.specs.inner.MarkedRows.{rowWith, rowIf, savedBy, Assigns, Says, sourceOf, assignmentBack, forwardOfLine, backwardOfLine}
 use Rattle.table.proofs.AssignmentRows.{kind-is, rows-of-put, rows-of-put-if, rows-of-done}
 
 -- ---- the line that a row says
@@ -96,9 +95,9 @@ nothing-saved : (r : Row) (saved : Bool) → 7 ≤ r .kind → (r .kind ≡ 8 �
 nothing-saved r saved h not-else not-end =
     block-line r h (λ l. savedFirst saved l ≡ []) (λ e. refl) (λ e. absurd (not-else e)) (λ e. absurd (not-end e)) (λ e. refl) refl
 
-forward-split : (mark : ℕ) (l : SheetLine) → forwardOfLine mark l ≡ savedFirst (bitOf mark 8) l ++ (sheetRowOf l ∷ [])
+forward-split : (mark : ℕ) (l : SheetLine) → forwardOfLine mark l ≡ savedFirst (savedBy mark) l ++ (sheetRowOf l ∷ [])
 unfolding forwardOfLine forwardRow rowOfAction tableRowOf sheetRowOf rowOf
-forward-split mark (basic (d ≔ source)) = rw (rows-of-put-if (bitOf mark 8), rows-of-put, rows-of-done)
+forward-split mark (basic (d ≔ source)) = rw (rows-of-put-if (savedBy mark), rows-of-put, rows-of-done)
 forward-split mark (ifLine f) = refl
 forward-split mark elseLine = refl
 forward-split mark endIf = refl
@@ -106,12 +105,12 @@ forward-split mark (repeat m) = refl
 forward-split mark endRepeat = refl
 
 module _ (mark : ℕ) {r : Row} (says : Says r) where
-  forward-said : {l : SheetLine} → lineOfRow r ≡ l → forwardOfLine mark (lineOfRow r) ≡ savedFirst (bitOf mark 8) l ++ (r ∷ [])
+  forward-said : {l : SheetLine} → lineOfRow r ≡ l → forwardOfLine mark (lineOfRow r) ≡ savedFirst (savedBy mark) l ++ (r ∷ [])
   forward-said e =
-      forward-split mark (lineOfRow r) ∙ ap (λ x. savedFirst (bitOf mark 8) (lineOfRow r) ++ (x ∷ [])) (says .back)
-      ∙ ap (λ l. savedFirst (bitOf mark 8) l ++ (r ∷ [])) e
+      forward-split mark (lineOfRow r) ∙ ap (λ x. savedFirst (savedBy mark) (lineOfRow r) ++ (x ∷ [])) (says .back)
+      ∙ ap (λ l. savedFirst (savedBy mark) l ++ (r ∷ [])) e
 
-  pub assignment-forward : {saved : Bool} → saved ≡ bitOf mark 8 → r .kind < 7
+  pub assignment-forward : {saved : Bool} → saved ≡ savedBy mark → r .kind < 7
       → forwardOfLine mark (lineOfRow r) ≡ rowIf saved (rowWith 12 (r .d) 0 0) ++ (r ∷ [])
   assignment-forward e h = rw e (forward-said (assignment-line r (says-assigns says h)))
 
@@ -122,7 +121,7 @@ module _ (mark : ℕ) {r : Row} (says : Says r) where
   end-if-forward e = forward-said (end-if-line r e)
 
   pub plain-forward : 7 ≤ r .kind → (r .kind ≡ 8 → ⊥) → (r .kind ≡ 9 → ⊥) → forwardOfLine mark (lineOfRow r) ≡ r ∷ []
-  plain-forward h not-else not-end = forward-said refl ∙ ap (λ rs. rs ++ (r ∷ [])) (nothing-saved r (bitOf mark 8) h not-else not-end)
+  plain-forward h not-else not-end = forward-said refl ∙ ap (λ rs. rs ++ (r ∷ [])) (nothing-saved r (savedBy mark) h not-else not-end)
 
 -- ---- its rows backward
 

@@ -7,8 +7,7 @@ use lib.ListN.{length, length-append, getD}
 use native.Mathlib.Omega.{arith}
 use Rattle.sheet.specs.Rows.{Row}
 use Rattle.sheet.specs.inner.RowLines.{lineOfRow}
-use Rattle.sets.specs.MarkBytes.{bitOf}
-use Rattle.table.specs.inner.MarkedRows.{rowIf, rowNumbered, Says, partRows, derivativesOf, assignmentBack, forwardOfLine, backwardOfLine, bothParts, countRows}
+use Rattle.table.specs.inner.MarkedRows.{rowIf, knownBy, savedBy, rowNumbered, Says, partRows, derivativesOf, assignmentBack, forwardOfLine, backwardOfLine, bothParts, countRows}
 use Rattle.table.proofs.AssignmentRows.{constant-rows, copy-rows, negation-rows, two-rows, product-rows, active-rows, inactive-rows, assignment-rows}
 use Rattle.table.proofs.LineRows.{says-assigns, block-line, assignment-forward, assignment-backward, else-forward, end-if-forward, plain-forward}
 
@@ -20,14 +19,14 @@ module _ (v : ℕ) (r : Row) (mark : ℕ) where
   pub constant-count : r .kind ≡ 2 → length (partRows v r mark) ≡ 0
   constant-count e = ap length (constant-rows v r mark e)
 
-  module _ {first : Bool} (varied-a : first ≡ bitOf mark 1) where
+  module _ {first : Bool} (varied-a : first ≡ knownBy mark .variedA) where
     pub copy-count : r .kind ≡ 1 → length (partRows v r mark) ≡ cond first 1 0
     copy-count e = ap length (copy-rows v r mark varied-a e) ∙ one-if first _
 
     pub negation-count : r .kind ≡ 6 → length (partRows v r mark) ≡ cond first 1 0
     negation-count e = ap length (negation-rows v r mark varied-a e) ∙ one-if first _
 
-    module _ {second : Bool} (varied-b : second ≡ bitOf mark 2) where
+    module _ {second : Bool} (varied-b : second ≡ knownBy mark .variedB) where
       pub product-count : r .kind ≡ 5 → length (partRows v r mark) ≡ 2 * cond first 1 0 + 2 * cond second 1 0
       product-count e = ap length (product-rows v r mark varied-a varied-b e) ∙ simp (length-append, one-if) (omega arith)
 
@@ -35,14 +34,14 @@ module _ (v : ℕ) (r : Row) (mark : ℕ) where
       two-count h = ap length (two-rows v r mark varied-a varied-b h) ∙ simp (length-append, one-if)
 
   -- an assignment's rows backward: the take back if it is saved, two more where it is active
-  module _ {saved : Bool} (is-saved : saved ≡ bitOf mark 8) where
+  module _ {saved : Bool} (is-saved : saved ≡ savedBy mark) where
     taken-count : length (assignmentBack v r mark) ≡ cond saved 1 0 + length (derivativesOf v r mark)
     taken-count = ap length (assignment-rows v r mark is-saved) ∙ simp (length-append, one-if)
 
-    pub active-count : bitOf mark 4 ≡ true → length (assignmentBack v r mark) ≡ cond saved 1 0 + (2 + length (partRows v r mark))
+    pub active-count : knownBy mark .active ≡ true → length (assignmentBack v r mark) ≡ cond saved 1 0 + (2 + length (partRows v r mark))
     active-count e = omega (arith, taken-count, ap length (active-rows v r mark e))
 
-    pub inactive-count : bitOf mark 4 ≡ false → length (assignmentBack v r mark) ≡ cond saved 1 0 + 1
+    pub inactive-count : knownBy mark .active ≡ false → length (assignmentBack v r mark) ≡ cond saved 1 0 + 1
     inactive-count e = omega (arith, taken-count, ap length (inactive-rows v r mark e))
 
 -- ---- both parts
@@ -57,7 +56,7 @@ unfolding backwardOfLine
 one-back v mark r h = block-line r h (λ l. length (backwardOfLine v mark 0 l) ≡ 1) (λ e. refl) (λ e. refl) (λ e. refl) (λ e. refl) refl
 
 module _ (v mark : ℕ) {r : Row} (says : Says r) where
-  pub assignment-both : {saved : Bool} → saved ≡ bitOf mark 8 → r .kind < 7
+  pub assignment-both : {saved : Bool} → saved ≡ savedBy mark → r .kind < 7
       → length (bothParts v mark (lineOfRow r)) ≡ cond saved 1 0 + 1 + length (assignmentBack v r mark)
   assignment-both {saved} e h =
       let forward : length (forwardOfLine mark (lineOfRow r)) ≡ cond saved 1 0 + 1 =

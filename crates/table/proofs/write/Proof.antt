@@ -1,6 +1,7 @@
 -- `table::write` meets its contract, by the case of the plan and by the buffer's room.
 use native.Mathlib.Omega.{arith}
 use borrow.Author.Needs.{needs}
+use Rattle.sheet.specs.Refusals.{numberOf}
 use Rattle.table.specs.inner.Plans.{PlanMade}
 use Rattle.table.proofs.CallLaws.{when-refused, when-made, write-refused, write-small, write-made}
 use Rattle.table.proofs.PlanLaws.{planned-few}
@@ -35,6 +36,7 @@ add-room : tie.Need-add-room
 add-room c = record { fits = omega (arith, planned-few (plan-made (c .before .before))) }
 
 returns : tie.Need-returns
+unfolding numberOf
 returns c = write-small _ _ (plan-made (c .before .before .before)) (c .if1 .taken)
 
 write-planned-requires : tie.Need-write-planned-requires

@@ -5,7 +5,7 @@ use mathlib.Core.Bool.{cond}
 use borrow.Author.Needs.{needs}
 use native.Mathlib.Omega.{arith}
 use Rattle.sheet.specs.Answers.{rowSaid}
-use Rattle.sets.specs.MarkBytes.{bitOf}
+use Rattle.table.specs.inner.MarkedRows.{knownBy}
 use Rattle.table.proofs.RowCounts.{constant-count, copy-count, negation-count, product-count, two-count}
 use Rattle.table.proofs.count.parts_count.Statement.{statement}
 use Rattle.table.proofs.count.parts_count.Tie as tie
@@ -13,10 +13,10 @@ use Rattle.table.proofs.count.parts_count.Tie as tie
 abbrev start : tie.After-one2 → tie.Start
 start c = c .before .before .before .before
 
-first : (c : tie.After-one2) → c .before .before .before .bit .result ≡ bitOf (start c .args .mark) 1
+first : (c : tie.After-one2) → c .before .before .before .bit .result ≡ knownBy (start c .args .mark) .variedA
 first c = c .before .before .before .bit .ensures
 
-second : (c : tie.After-one2) → c .before .before .bit2 .result ≡ bitOf (start c .args .mark) 2
+second : (c : tie.After-one2) → c .before .before .bit2 .result ≡ knownBy (start c .args .mark) .variedB
 second c = c .before .before .bit2 .ensures
 
 -- both operands as numbers of rows

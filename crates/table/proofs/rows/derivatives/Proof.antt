@@ -2,7 +2,7 @@
 use borrow.Author.Needs.{needs}
 use mathlib.Core.Path.{_≡_, sym, _∙_}
 use mathlib.Core.Bool.{true, false}
-use Rattle.sets.specs.MarkBytes.{bitOf}
+use Rattle.table.specs.inner.MarkedRows.{knownBy}
 use Rattle.table.proofs.WritingLaws.{wrote-then, room-first, room-after}
 use Rattle.table.proofs.AssignmentRows.{active-rows, inactive-rows}
 use Rattle.table.proofs.rows.derivatives.Statement.{statement}
@@ -11,10 +11,10 @@ use Rattle.table.proofs.rows.derivatives.Tie as tie
 abbrev start : tie.After-bit → tie.Start
 start c = c .before .before .before
 
-is-active : (c : tie.Then1) → bitOf (start (c .before) .args .mark) 4 ≡ true
+is-active : (c : tie.Then1) → knownBy (start (c .before) .args .mark) .active ≡ true
 is-active c = sym (c .before .bit .ensures) ∙ c .if1 .taken
 
-is-inactive : (c : tie.Else1) → bitOf (start (c .before) .args .mark) 4 ≡ false
+is-inactive : (c : tie.Else1) → knownBy (start (c .before) .args .mark) .active ≡ false
 is-inactive c = sym (c .before .bit .ensures) ∙ c .if1 .left
 
 add-adjoint : tie.Need-add-adjoint
