@@ -9,7 +9,7 @@ use Rattle.table.specs.declared.Checked.{Checked}
 use Rattle.table.specs.declared.Answer.{Answer}
 use Rattle.run.specs.Calls.{Lent, run, ranOf}
 use Rattle.claims.specs.CallsExactly.{CheckExactly, WriteExactly, RunExactly}
-use Rattle.claims.specs.Demands.{DemandOne}
+use Rattle.claims.specs.Demands.{FirstDemand}
 use Rattle.claims.proofs.ExactlyWhenHolds.{check-exactly, write-exactly, run-exactly}
 
 -- the contract of `check`
@@ -27,5 +27,5 @@ pub run-call : (A : Arithmetic) (words : List ℕ) (starts seeds : List (A .Carr
 run-call A words starts seeds before after answer contract =
     subst (RunExactly A words starts seeds before) (sym contract) (run-exactly A words starts seeds before)
 
-pub demand-one : (A : Arithmetic) → DemandOne A
+pub demand-one : FirstDemand
 demand-one A = record { checks = check-call; writes = write-call; runs = run-call A }

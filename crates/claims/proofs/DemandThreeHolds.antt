@@ -24,7 +24,7 @@ use Rattle.claims.specs.Execution.{Progress, beginning, execution}
 use Rattle.claims.specs.IdealSweep.{ideal}
 use Rattle.claims.specs.SavedRows.{savedValues, recordedIn}
 use Rattle.claims.specs.WholeRun.{Matches}
-use Rattle.claims.specs.Demands.{lines, afterSteps, NeverStuck, SavedAtTurning, ReplaysInReverse, DemandThree}
+use Rattle.claims.specs.Demands.{lines, afterSteps, NeverStuck, SavedAtTurning, ReplaysInReverse, DemandThree, ThirdDemand}
 use Rattle.claims.proofs.MachineLogs.{table-log}
 use Rattle.claims.proofs.Heights.{Within, table-never-sticks, table-heights}
 use Rattle.claims.proofs.RunInTheLarge.{knownIn, marksOf, turningOf, memoryAt, Prepared, forward-part, forward-notes, ran, keeps-size, turning-notes}
@@ -144,12 +144,15 @@ module _ (A : Arithmetic) (words : List ℕ) (sheet : Sheet) (accepted : read wo
         ∙ ap (λ (x : Attempt _ _). onThrough A x (λ m. tableLog A setting turning (memory m))) executes
         ∙ turning-notes A seeds prepared e executes
 
-  pub demand-three : (valueRoom turnRoom : ℕ) → valuesNeeded (marked sheet) ≤ valueRoom → turnsNeeded (marked sheet) ≤ turnRoom
+  all-of-it : (valueRoom turnRoom : ℕ) → valuesNeeded (marked sheet) ≤ valueRoom → turnsNeeded (marked sheet) ≤ turnRoom
       → DemandThree A sheet starts seeds valueRoom turnRoom
-  demand-three valueRoom turnRoom values turns =
+  all-of-it valueRoom turnRoom values turns =
       record {
         never = never-stuck valueRoom turnRoom values turns;
         saves = saved-at-turning valueRoom turnRoom values turns;
         replays = replays-in-reverse valueRoom turnRoom values turns;
         ends = matches valueRoom turnRoom values turns;
       }
+
+pub demand-three : ThirdDemand
+demand-three = all-of-it

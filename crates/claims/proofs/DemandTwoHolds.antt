@@ -18,7 +18,7 @@ use Rattle.run.specs.Calls.{Lent, Ran, startOf, runOf, independentAdjoints, res
 use Rattle.claims.specs.ExactlyWhen.{Runnable, endingOf}
 use Rattle.claims.specs.SavedRows.{every, allSavedTable}
 use Rattle.claims.specs.WholeRun.{runSaving, SameOutcome, bothEnd, bothStop}
-use Rattle.claims.specs.Demands.{LeastSets, AllSavedRoom, allSavedRun, SameAsAllSaved, AnswersLike, sameResult, sameStop, DemandTwo, RunMeets, AuditMeets}
+use Rattle.claims.specs.Demands.{LeastSets, AllSavedRoom, allSavedRun, SameAsAllSaved, AnswersLike, sameResult, sameStop, RunMeets, AuditMeets, SecondDemand}
 use Rattle.claims.proofs.StartExactlyWhen.{accepted-to-run, started}
 use Rattle.claims.proofs.WholeRunMatches.{noFurther, own-room, own-run}
 use Rattle.claims.proofs.RunsAnswer.{saved-rows-same}
@@ -74,7 +74,7 @@ module _ (A : Arithmetic) (words : List ℕ) (sheet : Sheet) (starts seeds : Lis
         (same-as-all-saved (accepted-to-run A words starts seeds before sheet ready) (ready .lengths .startValues) _ _ valueRoom turnRoom
         (stacks .values) (stacks .turns) all)
 
-pub demand-two : (A : Arithmetic) (words : List ℕ) (sheet : Sheet) → read words ≡ given sheet → DemandTwo A words sheet
+pub demand-two : SecondDemand
 demand-two A words sheet accepted =
     record {
       sets = least-sets words sheet accepted;

@@ -8,8 +8,9 @@ use lib.ListN.{length, getD, take, drop}
 use Rattle.number.specs.Arithmetic.{Arithmetic}
 use Rattle.number.specs.Residues.{modulus, residues}
 use Rattle.sheet.specs.Tree.{Tree, done, one, fork, again, basic, RowNumber}
+use Rattle.sheet.specs.Refusals.{given}
 use Rattle.sheet.specs.Rows.{Assignment, Test, isIndependent}
-use Rattle.sheet.specs.Reading.{Sheet, variablesOf}
+use Rattle.sheet.specs.Reading.{Sheet, variablesOf, read}
 use Rattle.sets.specs.Equations.{Least}
 use Rattle.sets.specs.Marks.{marked, varied, useful, required, variedEquations, usefulEquations, requiredEquations, activityAt}
 use Rattle.table.specs.TableRows.{TableLine, TableRow, Origin, ofTurningRound, turnRound, turnWord, linesOf, tableWords}
@@ -180,3 +181,20 @@ module _ (A : Arithmetic) (sheet : Sheet) (starts seeds : List (A .Carrier)) (va
     pub saves : (progress : Progress A) → execution A sheet starts ≡ through progress → SavedAtTurning progress
     pub replays : (progress : Progress A) → execution A sheet starts ≡ through progress → ReplaysInReverse progress
     pub ends : Matches A (variablesOf sheet) (ideal A sheet setting starts) (runOf A (tableOf sheet) setting (startOf A sheet starts))
+
+-- ---- the three, whole: over any arithmetic, and under which hypotheses
+
+abbrev pub FirstDemand : Type 1
+FirstDemand = (A : Arithmetic) → DemandOne A
+
+-- of every accepted sheet
+abbrev pub SecondDemand : Type 1
+SecondDemand = (A : Arithmetic) (words : List ℕ) (sheet : Sheet) → read words ≡ given sheet → DemandTwo A words sheet
+
+-- "For every accepted sheet, any start values and seeds, stacks of the sizes 01 computes": one start value for each variable, and stacks of at
+-- least S and T
+abbrev pub ThirdDemand : Type 1
+ThirdDemand =
+    (A : Arithmetic) (words : List ℕ) (sheet : Sheet) → read words ≡ given sheet → (starts seeds : List (A .Carrier))
+    → length starts ≡ variablesOf sheet → (valueRoom turnRoom : ℕ) → valuesNeeded (marked sheet) ≤ valueRoom
+    → turnsNeeded (marked sheet) ≤ turnRoom → DemandThree A sheet starts seeds valueRoom turnRoom
