@@ -16,9 +16,9 @@ use Rattle.run.specs.Actions.{Memory}
 use Rattle.run.specs.Machine.{Ending, stepsOf}
 use Rattle.run.specs.Calls.{Lent, Ran, startOf, runOf, independentAdjoints, resultOf, lentAfter, ranTo, run, ranOf}
 use Rattle.claims.specs.ExactlyWhen.{Runnable, endingOf}
-use Rattle.claims.specs.SavedRows.{every, allSavedTable}
-use Rattle.claims.specs.WholeRun.{runSaving, SameOutcome, bothEnd, bothStop}
-use Rattle.claims.specs.Demands.{LeastSets, AllSavedRoom, allSavedRun, SameAsAllSaved, AnswersLike, sameResult, sameStop, RunMeets, AuditMeets, SecondDemand}
+use Rattle.claims.specs.SavedRows.{every}
+use Rattle.claims.specs.WholeRun.{runSaving, Room, SameOutcome, bothEnd, bothStop}
+use Rattle.claims.specs.Demands.{LeastSets, SameAsAllSaved, AnswersLike, sameResult, sameStop, RunMeets, AuditMeets, SecondDemand}
 use Rattle.claims.proofs.StartExactlyWhen.{accepted-to-run, started}
 use Rattle.claims.proofs.WholeRunMatches.{noFurther, own-room, own-run}
 use Rattle.claims.proofs.RunsAnswer.{saved-rows-same}
@@ -36,12 +36,11 @@ least-sets words sheet accepted =
 
 module _ (A : Arithmetic) (words : List ℕ) (sheet : Sheet) (starts seeds : List (A .Carrier)) where
   pub same-as-all-saved : read words ≡ given sheet → length starts ≡ variablesOf sheet → SameAsAllSaved A sheet starts seeds
-  unfolding runSaving allSavedTable
   same-as-all-saved accepted n values turns allValues allTurns v t all =
-      subst (λ ending. SameOutcome A (variablesOf sheet) ending (allSavedRun A sheet starts seeds allValues allTurns))
+      subst (λ ending. SameOutcome A (variablesOf sheet) ending (runSaving A every sheet starts seeds allValues allTurns))
       (own-run A sheet starts seeds values turns)
       (saved-rows-same A words sheet accepted noFurther every starts seeds n values turns allValues allTurns
-      (own-room A sheet values turns v t) (record { values = all .values; turns = all .turns }))
+      (own-room A sheet values turns v t) all)
 
   same-result : (first second : Memory A) → first .copied ≡ second .copied
       → drop (variablesOf sheet) (first .store) ≡ drop (variablesOf sheet) (second .store)
@@ -66,8 +65,8 @@ module _ (A : Arithmetic) (words : List ℕ) (sheet : Sheet) (starts seeds : Lis
         (sameStop row (ap (λ r. r .number) says) (ap (λ r. r .place) says)
         (stop-names-its-row A _ (linesOf (tableOf sheet)) (suc (stepsOf (tableOf sheet))) (startOf A sheet starts) row (stop .origin) (stop .why) e))
 
-    pub answers-like-all-saved : (valueRoom turnRoom : ℕ) → AllSavedRoom A sheet starts seeds valueRoom turnRoom
-        → AnswersLike A sheet starts seeds before answer (allSavedRun A sheet starts seeds valueRoom turnRoom)
+    pub answers-like-all-saved : (valueRoom turnRoom : ℕ) → Room A every sheet valueRoom turnRoom
+        → AnswersLike A sheet starts seeds before answer (runSaving A every sheet starts seeds valueRoom turnRoom)
     answers-like-all-saved valueRoom turnRoom all =
         let stacks = ready .lengths .stacks in
         answers-like _

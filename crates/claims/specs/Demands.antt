@@ -30,8 +30,8 @@ use Rattle.claims.specs.Execution.{Progress, execution}
 use Rattle.claims.specs.IdealSweep.{ideal}
 use Rattle.claims.specs.ReadLog.{sweptLog}
 use Rattle.claims.specs.EquationTwo.{Instance, valueNo, EquationTwo, Solvable}
-use Rattle.claims.specs.SavedRows.{alsoSaving, every, allSavedTable, savedValues, recordedIn}
-use Rattle.claims.specs.WholeRun.{Matches, SameOutcome}
+use Rattle.claims.specs.SavedRows.{every, savedValues, recordedIn}
+use Rattle.claims.specs.WholeRun.{runSaving, Room, Matches, SameOutcome}
 
 -- ---- demand 1
 
@@ -78,22 +78,14 @@ pub record StoppedThere (A : Arithmetic) (setting : Setting A) (lines : List Tab
   pub refuses : acted A setting (line .action) (state .memory) ≡ halted why
 
 module _ (A : Arithmetic) (sheet : Sheet) (starts seeds : List (A .Carrier)) where
-  -- stacks of at least the sizes that the all-saved table needs
-  pub record AllSavedRoom (valueRoom turnRoom : ℕ) : Type 0 where
-    pub values : valuesNeeded (alsoSaving every (marked sheet)) ≤ valueRoom
-    pub turns : turnsNeeded (alsoSaving every (marked sheet)) ≤ turnRoom
-
-  abbrev pub allSavedRun : (valueRoom turnRoom : ℕ) → Ending A
-  allSavedRun valueRoom turnRoom = runOf A (allSavedTable sheet) (settingOf A sheet seeds valueRoom turnRoom) (startOf A sheet starts)
-
   -- "run in doubles it gives bit for bit what the all-saved table gives, or stops at the same arithmetic row": stated over any arithmetic, for
   -- stacks of at least the sizes that each of the two tables needs
   abbrev pub SameAsAllSaved : Type 0
   SameAsAllSaved =
       (values turns allValues allTurns : ℕ) → valuesNeeded (marked sheet) ≤ values → turnsNeeded (marked sheet) ≤ turns
-      → AllSavedRoom allValues allTurns
+      → Room A every sheet allValues allTurns
       → SameOutcome A (variablesOf sheet) (runOf A (tableOf sheet) (settingOf A sheet seeds values turns) (startOf A sheet starts))
-      (allSavedRun allValues allTurns)
+      (runSaving A every sheet starts seeds allValues allTurns)
 
   -- the same of what a run's call answers, by how the all-saved table ends: 0 with that table's result, or 12 at the row of the real table
   -- that has the same origin
@@ -114,15 +106,15 @@ pub record DemandTwo (A : Arithmetic) (words : List ℕ) (sheet : Sheet) : Type 
       → ((x : ℕ) → x < variablesOf sheet → getD seeds x 0 < modulus) → ranOf residues answer after ≡ run residues words starts seeds before
       → AuditSolves sheet starts seeds (ranOf residues answer after)
   pub allSaved : (starts seeds : List (A .Carrier)) (before after : Lent A) (answer : Answer) → Runnable A words starts seeds before sheet
-      → ranOf A answer after ≡ run A words starts seeds before → (valueRoom turnRoom : ℕ) → AllSavedRoom A sheet starts seeds valueRoom turnRoom
-      → AnswersLike A sheet starts seeds before (ranOf A answer after) (allSavedRun A sheet starts seeds valueRoom turnRoom)
+      → ranOf A answer after ≡ run A words starts seeds before → (valueRoom turnRoom : ℕ) → Room A every sheet valueRoom turnRoom
+      → AnswersLike A sheet starts seeds before (ranOf A answer after) (runSaving A every sheet starts seeds valueRoom turnRoom)
 
 -- demands 1 and 2 of what a run answered: the contracts of src/lib.rt
 pub record RunMeets (A : Arithmetic) (words : List ℕ) (starts seeds : List (A .Carrier)) (before : Lent A) (ran : Ran A) : Type 0 where
   pub exactly : RunExactly A words starts seeds before ran
   pub allSaved : (sheet : Sheet) → Runnable A words starts seeds before sheet → (valueRoom turnRoom : ℕ)
-      → AllSavedRoom A sheet starts seeds valueRoom turnRoom
-      → AnswersLike A sheet starts seeds before ran (allSavedRun A sheet starts seeds valueRoom turnRoom)
+      → Room A every sheet valueRoom turnRoom
+      → AnswersLike A sheet starts seeds before ran (runSaving A every sheet starts seeds valueRoom turnRoom)
 
 pub record AuditMeets (words starts seeds : List ℕ) (before : Lent residues) (ran : Ran residues) : Type 0 where
   pub run : RunMeets residues words starts seeds before ran

@@ -6,12 +6,11 @@ use lib.ListN.{getD}
 use Rattle.number.specs.Arithmetic.{Arithmetic}
 use Rattle.sheet.specs.Tree.{done, one, fork, again, RowNumber}
 use Rattle.sheet.specs.Rows.{Assignment}
-use Rattle.sheet.specs.Reading.{Sheet, variablesOf}
+use Rattle.sheet.specs.Reading.{Sheet}
 use Rattle.sets.specs.Equations.{setAt}
 use Rattle.sets.specs.Transfers.{recordedBy}
-use Rattle.sets.specs.Marks.{marked, varied, useful, required, activityAt}
-use Rattle.table.specs.TableRows.{Table}
-use Rattle.table.specs.Adjoint.{Body, targetOf, adjointTable}
+use Rattle.sets.specs.Marks.{varied, useful, required, activityAt}
+use Rattle.table.specs.Adjoint.{Body, targetOf}
 use Rattle.claims.specs.Execution.{Executed}
 
 -- the body with further rows saved, one choice for each sheet row
@@ -22,12 +21,9 @@ alsoSaving choice (one m k) =
 alsoSaving choice (fork f a b k) = fork f (alsoSaving choice a) (alsoSaving choice b) (alsoSaving choice k)
 alsoSaving choice (again n a k) = again n (alsoSaving choice a) (alsoSaving choice k)
 
+-- the choice that makes it the all-saved table
 abbrev pub every : RowNumber → Bool
 every row = true
-
-unfoldable pub allSavedTable : Sheet → Table
-unfolding marked alsoSaving adjointTable
-allSavedTable sheet = adjointTable (variablesOf sheet) (alsoSaving every (marked sheet))
 
 -- ---- what a choice of rows saves of an execution
 
