@@ -1,9 +1,10 @@
 -- A block row's code as one step of the machine, over the arithmetic.
 use Prim.Native.Nat.{ℕ, zero, suc, pred, _+_, _*_, _≤_, _<_}
 use mathlib.Core.Path.{_≡_, refl, sym, ap, _∙_, subst}
-use mathlib.Core.Logic.{_≢_, _⊎_, inl, inr}
+use mathlib.Core.Logic.{_≢_, inl, inr}
 use mathlib.Core.List.{List, [], _∷_}
 use mathlib.Core.Option.{Option, none, some}
+use native.Mathlib.Decide.{decLt}
 use native.Mathlib.Omega.{arith}
 use native.Mathlib.Numerals.{add-one}
 use borrow.Author.Tests.{ne-eqb}
@@ -82,15 +83,6 @@ listed : (l : List ℕ) (i : ℕ) → 0 < getD l i 0 → i < length l
 listed [] i h = absurd (omega arith)
 listed (x ∷ l) zero h = omega arith
 listed (x ∷ l) (suc i) h = let later = listed l i h in omega arith
-
-room-or-full : (n m : ℕ) → (n < m) ⊎ (m ≤ n)
-room-or-full n zero = inr (omega arith)
-room-or-full zero (suc m) = inl (omega arith)
-room-or-full (suc n) (suc m) = more (room-or-full n m)
-  where
-    more : (n < m) ⊎ (m ≤ n) → (suc n < suc m) ⊎ (suc m ≤ suc n)
-    more (inl h) = inl (omega arith)
-    more (inr h) = inr (omega arith)
 
 module _ {A : Arithmetic} where
   turn-out : (state : State A) (r : Repeat) (outer : List Repeat) → r .left ≡ 0
@@ -277,16 +269,16 @@ module _ {A : Arithmetic} where
         crosses-as (repeat (pred (row .a))) turns bodiesAfter toComeAfter answer (rw kind) (opens .left)
         (λ setting lines rest repeats store values copied held words follows here jumps opened shallow sound.
         by-room setting rest repeats (cellsOf A store values turns copied) held (sym (ap (λ (r : Row). r .a) words)) follows opened sound
-        (room-or-full (next .depth) (limit .depth)))
+        (decLt (next .depth) (limit .depth)))
       where
         by-room : (setting : Setting A) (rest : List TableLine) (repeats : List Repeat) (cells : Cells A) (held : List (A .Carrier))
             → row .a ≡ suc (pred (row .a))
             → next .at ≡ suc at
             → Opened (next .depth) bodies toCome repeats
             → Sound A setting (buffersAt A next cells held)
-            → (next .depth < limit .depth) ⊎ (limit .depth ≤ next .depth)
+            → Dec (next .depth < limit .depth)
             → Crosses beyond at next setting (repeat (pred (row .a))) rest repeats cells cells held bodiesAfter toComeAfter answer
-        by-room setting rest repeats cells held count follows opened sound (inl room) =
+        by-room setting rest repeats cells held count follows opened sound (yes room) =
             let m = pred (row .a) in
             goes-to beyond at next setting (repeat m) rest repeats cells cells held bodiesAfter toComeAfter answer (within next (suc (next .depth)))
             (record { start = at; left = m } ∷ repeats)
@@ -295,9 +287,9 @@ module _ {A : Arithmetic} where
             (opens .opened room m at repeats count follows opened)
             sound
             (ap (λ (n : ℕ). goTo A n (record { start = at; left = m } ∷ repeats) (memoryOf A (buffersAt A next cells held))) (sym follows))
-        by-room setting rest repeats cells held count follows opened sound (inr full) =
+        by-room setting rest repeats cells held count follows opened sound (no full) =
             let deep = opened-length (next .depth) bodies toCome repeats opened in
-            sticks-there beyond at next setting (repeat (pred (row .a))) rest repeats cells cells held bodiesAfter toComeAfter answer (opens .full full) (omega arith)
+            sticks-there beyond at next setting (repeat (pred (row .a))) rest repeats cells cells held bodiesAfter toComeAfter answer (opens .full (omega arith)) (omega arith)
 
     pub end-repeat-crosses : {bodiesAfter toComeAfter : List ℕ} {answer : Crossed} → row .kind ≡ 11
         → Closes next bodies toCome bodiesAfter toComeAfter answer

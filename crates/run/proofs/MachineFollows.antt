@@ -6,7 +6,7 @@ use mathlib.Core.Bool.{Bool, true, false, cond}
 use mathlib.Core.List.{List, [], _∷_, _++_, append-nil, append-assoc}
 use mathlib.Core.Option.{Option, none, some}
 use lib.ListN.{drop}
-use lib.Seq.{drop-nil}
+use lib.Seq.{drop-drop}
 use native.Mathlib.Nat.{zero-add, suc-add, add-zero}
 use native.Mathlib.Omega.{arith}
 use Rattle.number.specs.Arithmetic.{Arithmetic}
@@ -22,11 +22,6 @@ use Rattle.run.specs.InTheLarge.{Stop, stoppingAt, tableRun}
 use Rattle.run.specs.RowReads.{Entry, noted, notedAt, onNext, machineLog, onThrough, tableLog}
 
 -- ---- passing over a tree's lines
-
-drop-drop : {X : Type 0} (n m : ℕ) (xs : List X) → drop (n + m) xs ≡ drop m (drop n xs)
-drop-drop zero m xs = rw zero-add
-drop-drop (suc n) m [] = rw suc-add (sym (drop-nil m))
-drop-drop (suc n) m (x ∷ xs) = rw suc-add (drop-drop n m xs)
 
 -- what a search finds so many lines further on
 further : ℕ → Option ℕ → Option ℕ
@@ -72,13 +67,13 @@ module _ {B F : Type 0} where
       → drop (suc p) lines ≡ rest
   past-line lines p l rest e =
       let h : suc p ≡ p + 1 = omega arith in
-      rw h (drop-drop p 1 lines ∙ ap (drop 1) e)
+      rw h (sym (drop-drop 1 p lines) ∙ ap (drop 1) e)
 
   pub past-tree : (lines : List (Line B F)) (p : ℕ) (t : Tree B F) (rest : List (Line B F)) → drop p lines ≡ flat t rest
       → drop (p + rows t) lines ≡ rest
   past-tree lines p t rest e =
       let h : rows t ≡ rows t + 0 = omega arith in
-      drop-drop p (rows t) lines ∙ ap (drop (rows t)) e ∙ ap (λ n. drop n (flat t rest)) h ∙ past-flat t rest 0
+      sym (drop-drop (rows t) p lines) ∙ ap (drop (rows t)) e ∙ ap (λ n. drop n (flat t rest)) h ∙ past-flat t rest 0
 
   -- no line of another block stops a search: it passes over a tree, however deep it is
   seek-flat : (sought : Sought) (n : ℕ) (t : Tree B F) (rest : List (Line B F)) → seek sought n (flat t rest) ≡ further (rows t) (seek sought n rest)

@@ -10,13 +10,6 @@ use Rattle.number.specs.Arithmetic.{Arithmetic}
 use Rattle.table.specs.TableRows.{Action, TableTest}
 use Rattle.run.specs.Attempts.{Attempt, through, halted, stuck}
 use Rattle.run.specs.Actions.{Memory, Setting, Try, Verdict}
-use Rattle.run.specs.inner.RowAnswers.{whetherWent, whetherDid, whetherMoved, heightAfter}
-use Rattle.run.specs.declared.Went.{Went}
-use Rattle.run.specs.declared.Went.the-variants as went
-use Rattle.run.specs.declared.Did.{Did}
-use Rattle.run.specs.declared.Did.the-variants as did
-use Rattle.run.specs.declared.Moved.{Moved}
-use Rattle.run.specs.declared.Moved.the-variants as moved
 use Rattle.run.specs.inner.Buffers.{Buffers, memoryOf, Sound, Does, Tests, stackOf, Stack}
 use Rattle.run.proofs.StackLaws.{stack-length}
 
@@ -112,29 +105,3 @@ module _ (A : Arithmetic) (setting : Setting A) where
     tests-pinned (some first) none after after′ t t′ = let z : _≡_ {A = ℕ} 0 1 = cc in absurd (omega arith)
     tests-pinned none (some first) after after′ t t′ = let z : _≡_ {A = ℕ} 0 1 = cc in absurd (omega arith)
     tests-pinned none none after after′ t t′ = (refl, t .unchanged refl ∙ sym (t′ .unchanged refl))
-
--- ---- two answers of the code that stand for the same are the same answer
-
-module _ {Why : Type 0} where
-  pub went-pinned : (r s : Went) → whetherWent {Why = Why} r ≡ whetherWent s → r ≡ s
-  went-pinned went.On went.On same = refl
-  went-pinned went.On went.Stuck same = cc
-  went-pinned went.Stuck went.On same = cc
-  went-pinned went.Stuck went.Stuck same = refl
-
-  pub moved-pinned : (r s : Moved) (height : ℕ) → whetherMoved {Why = Why} r ≡ whetherMoved s → heightAfter r height ≡ heightAfter s height → r ≡ s
-  moved-pinned (moved.To m) (moved.To n) height same heights = ap moved.To heights
-  moved-pinned (moved.To m) moved.Stuck height same heights = cc
-  moved-pinned moved.Stuck (moved.To n) height same heights = cc
-  moved-pinned moved.Stuck moved.Stuck height same heights = refl
-
-pub did-pinned : (r s : Did) → whetherDid r ≡ whetherDid s → r ≡ s
-did-pinned did.On did.On same = refl
-did-pinned did.On did.Stopped same = cc
-did-pinned did.On did.Stuck same = cc
-did-pinned did.Stopped did.On same = cc
-did-pinned did.Stopped did.Stopped same = refl
-did-pinned did.Stopped did.Stuck same = cc
-did-pinned did.Stuck did.On same = cc
-did-pinned did.Stuck did.Stopped same = cc
-did-pinned did.Stuck did.Stuck same = refl

@@ -7,9 +7,9 @@ use native.Mathlib.Omega.{arith}
 use lib.ListN.{length}
 use Rattle.number.specs.Arithmetic.{Arithmetic}
 use Rattle.sheet.specs.Bounds.{limit}
-use Rattle.table.specs.TableRows.{TableLine, Origin}
+use Rattle.table.specs.TableRows.{TableLine}
 use Rattle.run.specs.Actions.{Memory, Setting}
-use Rattle.run.specs.Machine.{Repeat, State, Step, goesOn, ended, stops, sticks, step, stateAfter, Ending, finished, stoppedAt, gotStuck, outOfFuel, runFor}
+use Rattle.run.specs.Machine.{Repeat, State, Step, goesOn, ended, stops, sticks, step, stateAfter, Ending, gotStuck, outOfFuel, runFor}
 use Rattle.run.specs.inner.Buffers.{memoryOf, Sound, RoundSizes}
 use Rattle.run.specs.inner.Runnable.{Shallow}
 use Rattle.run.specs.inner.RowSteps.{Nested, Opened, firstPlace, buffersAt, stateAt, CopiesOn, StopsAt, Blocked, GoesTo, StepsStraight, StraightRow, CrossedSays, BlockRow}
@@ -22,27 +22,16 @@ use Rattle.run.specs.declared.Crossed.the-variants as crossed
 use Rattle.run.specs.declared.Ended.{Ended}
 use Rattle.run.specs.declared.Ended.the-variants as ended-as
 use Rattle.sheet.specs.declared.RowNumber.{RowNumber}
+use Rattle.run.proofs.MachineFollows.{endingFrom, run-step}
 use Rattle.run.proofs.OpenedLaws.{opened-length}
 
 module _ (A : Arithmetic) (setting : Setting A) (lines : List TableLine) where
   -- ---- one step of a run
 
-  run-goes : (n : ℕ) (now next : State A) → step A setting lines now ≡ goesOn next → runFor A (suc n) setting lines now ≡ runFor A n setting lines next
-  unfolding runFor
-  run-goes n now next is = rw (is, runFor)
-
-  run-ends : (n : ℕ) (now : State A) (memory : Memory A) → step A setting lines now ≡ ended memory → runFor A (suc n) setting lines now ≡ finished memory
-  unfolding runFor
-  run-ends n now memory is = rw (is, runFor)
-
-  run-stops : (n : ℕ) (now : State A) (at : ℕ) (origin : Origin) (why : A .Why) → step A setting lines now ≡ stops (record { index = at }) origin why
-      → runFor A (suc n) setting lines now ≡ stoppedAt (record { index = at }) origin why
-  unfolding runFor
-  run-stops n now at origin why is = rw (is, runFor)
-
-  run-sticks : (n : ℕ) (now : State A) → step A setting lines now ≡ sticks → runFor A (suc n) setting lines now ≡ gotStuck
-  unfolding runFor
-  run-sticks n now is = rw (is, runFor)
+  -- by what the step comes to
+  run-by : (n : ℕ) (now : State A) (found : Step A) → step A setting lines now ≡ found
+      → runFor A (suc n) setting lines now ≡ endingFrom A setting lines n found
+  run-by n now found is = run-step A setting lines n now ∙ ap (endingFrom A setting lines n) is
 
   run-spent : (now : State A) → runFor A 0 setting lines now ≡ outOfFuel
   unfolding runFor
@@ -69,7 +58,7 @@ module _ (A : Arithmetic) (setting : Setting A) (lines : List TableLine) where
           absurd (omega arith)
       by-step (ended memory) is blocked = absurd blocked
       by-step (stops row origin why) is blocked = absurd blocked
-      by-step sticks is blocked = inl (run-sticks n now is)
+      by-step sticks is blocked = inl (run-by n now sticks is)
 
 module _ (A : Arithmetic) where
   memory-rebuilt : (m : Memory A) (store values : List (A .Carrier)) (turns : List ℕ) (copied : List (A .Carrier))
@@ -213,7 +202,7 @@ module _ {A : Arithmetic} (task : Task A) where
           repeats = repeats;
           opened = opened;
           same =
-              sym (run-goes A setting lines (next .left) state then (goes .is))
+              sym (run-by A setting lines (next .left) state (goesOn then) (goes .is))
               ∙ ap (λ (n : ℕ). runFor A n setting lines state) (sym (goes .fewer))
               ∙ now .same;
           shallow = λ n s is. now .shallow (suc n) s (after-goes A setting lines n state then (goes .is) ∙ is);
@@ -249,7 +238,7 @@ module _ {A : Arithmetic} (task : Task A) where
           is =
               sym (now .same)
               ∙ ap (λ (n : ℕ). runFor A n setting lines state) (left .1)
-              ∙ run-stops A setting lines (left .0) state (place .at) (stop .origin) (stop .why) (stop .is);
+              ∙ run-by A setting lines (left .0) state _ (stop .is);
         }
 
     running-ends : (after : Cells A) → 0 < place .left
@@ -265,7 +254,7 @@ module _ {A : Arithmetic} (task : Task A) where
           is =
               sym (now .same)
               ∙ ap (λ (n : ℕ). runFor A n setting lines state) (left .1)
-              ∙ run-ends A setting lines (left .0) state (memoryOf A (buffersAt A place after (now .held))) is;
+              ∙ run-by A setting lines (left .0) state _ is;
           copies = copies-on (now .held) after (inl (refl, kept));
         }
 
