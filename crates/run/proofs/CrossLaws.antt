@@ -41,13 +41,13 @@ use Rattle.run.proofs.StraightLaws.{stands-there, words-there}
 
 -- ---- the steps that are left after a row
 
-pub branch-left : (beyond : List ℕ) (at : ℕ) (next : Place) (b : Branch) (answer : Crossed) → BranchesTo beyond at next b answer
+branch-left : (beyond : List ℕ) (at : ℕ) (next : Place) (b : Branch) (answer : Crossed) → BranchesTo beyond at next b answer
     → CrossedLeft (suc (next .left)) answer
 branch-left beyond at next branch.First answer is = rw is refl
 branch-left beyond at next branch.Second answer jumps = jumps .left
 branch-left beyond at next branch.Stuck answer is = rw is tt
 
-pub turn-left : (beyond : List ℕ) (at : ℕ) (next : Place) (b : Branched) (answer : Crossed) → TurnsTo beyond at next b answer
+turn-left : (beyond : List ℕ) (at : ℕ) (next : Place) (b : Branched) (answer : Crossed) → TurnsTo beyond at next b answer
     → CrossedLeft (suc (next .left)) answer
 turn-left beyond at next (branched.First height) answer is = rw is refl
 turn-left beyond at next (branched.Second height) answer jumps = jumps .left
@@ -148,7 +148,7 @@ module _ {A : Arithmetic} where
 
     module _ (setting : Setting A) (rest : List TableLine) (repeats : List Repeat) (a b : ℕ) (store values : List (A .Carrier)) (turns : List ℕ)
         (copied held : List (A .Carrier)) (bodies toCome : List ℕ) (answer : Crossed) where
-      pub compare-crosses : (lines : List TableLine) (picked : Branch) → next .at ≡ suc at → drop at lines ≡ ifLine (whether (less a b)) ∷ rest
+      compare-crosses : (lines : List TableLine) (picked : Branch) → next .at ≡ suc at → drop at lines ≡ ifLine (whether (less a b)) ∷ rest
           → Jumps lines beyond
           → Opened (next .depth) bodies toCome repeats
           → Sound A setting (buffersAt A next (cellsOf A store values turns copied) held)
@@ -178,7 +178,7 @@ module _ {A : Arithmetic} where
 
       -- ---- kind 15
 
-      pub turn-crosses : (lines : List TableLine) (picked : Branched) (turnsAfter : List ℕ) → next .at ≡ suc at → drop at lines ≡ ifLine onTurn ∷ rest
+      turn-crosses : (lines : List TableLine) (picked : Branched) (turnsAfter : List ℕ) → next .at ≡ suc at → drop at lines ≡ ifLine onTurn ∷ rest
           → Jumps lines beyond
           → Opened (next .depth) bodies toCome repeats
           → Sound A setting (buffersAt A next (cellsOf A store values turns copied) held)

@@ -397,7 +397,7 @@ module _ (A : Arithmetic) where
         by-step sticks ih = refl
 
     -- in particular, with all of the fuel
-    pub run-through : (n : ℕ) (s : State A) → runFor A n setting lines s ≡ endingFrom 0 (stateAfter A n setting lines s)
+    run-through : (n : ℕ) (s : State A) → runFor A n setting lines s ≡ endingFrom 0 (stateAfter A n setting lines s)
     run-through n s = ap (λ fuel. runFor A fuel setting lines s) (sym (add-zero n)) ∙ run-on n 0 s
 
     -- fuel that suffices: more of it changes nothing

@@ -9,7 +9,7 @@ use lib.Seq.{getD-drop}
 use Rattle.number.specs.Arithmetic.{Arithmetic}
 use Rattle.run.specs.Actions.{counting}
 
-pub any-default : {X : Type 0} (l : List X) (i : ℕ) (y z : X) → i < length l → getD l i y ≡ getD l i z
+any-default : {X : Type 0} (l : List X) (i : ℕ) (y z : X) → i < length l → getD l i y ≡ getD l i z
 any-default [] i y z h = absurd (omega arith)
 any-default (x ∷ l) zero y z h = refl
 any-default (x ∷ l) (suc i) y z h = any-default l i y z (omega arith)

@@ -62,7 +62,7 @@ module _ (A : Arithmetic) (setting : Setting A) where
   rebuilt b store values height turns turnHeight copied s v h t th c = rw (sym s, sym v, sym h, sym t, sym th, sym c)
 
   -- sound buffers that stand for the same memory are the same
-  pub buffers-pinned : (b b′ : Buffers A) → Sound A setting b → Sound A setting b′ → memoryOf A b ≡ memoryOf A b′ → b ≡ b′
+  buffers-pinned : (b b′ : Buffers A) → Sound A setting b → Sound A setting b′ → memoryOf A b ≡ memoryOf A b′ → b ≡ b′
   buffers-pinned b b′ sound sound′ same =
       let values = ap (λ m. m .values) same in
       let turns = ap (λ m. m .turns) same in

@@ -123,7 +123,7 @@ did-answers did-as.Stopped next = refl
 did-answers did-as.Stuck next = refl
 
 module _ (Why : Type 0) where
-  pub went-answers : (w : Went) (next : Place) → wentTo w next ≡ actedBy (whetherWent {Why = Why} w) (raised next (next .values) (next .turns))
+  went-answers : (w : Went) (next : Place) → wentTo w next ≡ actedBy (whetherWent {Why = Why} w) (raised next (next .values) (next .turns))
   went-answers went-as.On next = refl
   went-answers went-as.Stuck next = refl
 

@@ -1,7 +1,6 @@
-// The runners: what the row at a place says, the code of each single row, a row as one step of the row machine, a run of a table's rows, and the
-// calls that run a sheet, in both arithmetics. A row's contract says what its written meaning (specs/Actions.antt) makes of the buffers
-// (specs/inner/Buffers.antt), a run's that it is the machine's (specs/inner/RunsRows.antt), and a call's that it is `run` (specs/Calls.antt).
-// No place is asked for: one that is not there answers Stuck.
+// The runners, in both arithmetics: the code of each single row, held against its written meaning (specs/Actions.antt), a run of a table's rows,
+// held against the row machine's (specs/Machine.antt), and the calls that run a sheet, held against `run` (specs/Calls.antt).
+// No row's contract asks that a place be there: where it isn't, the answer is Stuck.
 mod blocks;
 mod buffers;
 mod calls_audit;

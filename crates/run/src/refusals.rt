@@ -1,4 +1,4 @@
-// Refusals 1 to 11, judged one after another, and the numbers of all answers.
+// Refusals 1 to 11, judged one after another, and the numbers 9 to 12.
 ghost use mathlib.Core.Path.{_≡_};
 ghost use mathlib.Core.List.{_++_};
 ghost use Prim.Native.Nat.{_+_, _^_, _<_};
@@ -112,7 +112,6 @@ fn rooms_fit(plan: Plan, rooms: Rooms) -> Fit
     lengths_fit(shape.variables, rooms.starts, rooms.seeds, rooms.result)
 }
 
-// The number and the place of a refusal.
 pub fn answer_no(why: Unfit) -> Answer
     ensures { λ r. ⌜ Answers r (unfitRefusal why) ⌝ }
 {
