@@ -15,6 +15,7 @@ use Rattle.sheet.proofs.ReadingParts.{accepted}
 use Rattle.sets.specs.Marks.{marked, markBy, varied, useful, required}
 use Rattle.table.specs.TableRows.{Table, saveTurn, turnRound, onTurn, turning, ofTurningRound, linesOf}
 use Rattle.table.specs.Adjoint.{Body, put, forwardPart, backwardOf, backwardPart, adjointTable, tableOf}
+use Rattle.table.specs.Sizes.{mostForward, mostBackward}
 use Rattle.table.proofs.TableBounds.{EachRow, backward-row, forward-row, marked-run}
 use Rattle.run.specs.Actions.{Setting}
 use Rattle.run.specs.Machine.{stepsOf, runFor}
@@ -23,11 +24,18 @@ use Rattle.run.proofs.MachineFollows.{more-fuel-same, fuel-suffices}
 
 -- ---- steps
 
+-- for each that W counts: forward an if block takes the "if", the save of its turn and its "else" or "end if", one more than any row has rows there
+abbrev mostStepsForward : ℕ
+mostStepsForward = 1 + mostForward
+
+abbrev mostStepsEach : ℕ
+mostStepsEach = mostStepsForward + mostBackward
+
 row-stepped : EachRow 1 stepsOf
 unfolding stepsOf
 row-stepped row rest = refl
 
-backward-steps : (v : ℕ) (t : Body) (rest : Table) → stepsOf (backwardPart v t rest) ≤ 7 * longestRun t + stepsOf rest
+backward-steps : (v : ℕ) (t : Body) (rest : Table) → stepsOf (backwardPart v t rest) ≤ mostBackward * longestRun t + stepsOf rest
 unfolding backwardPart stepsOf longestRun
 backward-steps v done rest = omega arith
 backward-steps v (one m k) rest =
@@ -37,10 +45,10 @@ backward-steps v (fork f a b k) rest =
     let block : Table = fork onTurn (backwardPart v a done) (backwardPart v b done) rest in
     omega (arith, backward-steps v k block, backward-steps v a done, backward-steps v b done)
 backward-steps v (again n a k) rest =
-    let body : stepsOf (backwardPart v a done) + 1 ≤ 7 * (1 + longestRun a) = omega (arith, backward-steps v a done) in
-    omega (arith, backward-steps v k (again n (backwardPart v a done) rest), mul-le-mul-left (suc n) body, mul-left-comm (suc n) 7 (1 + longestRun a))
+    let body : stepsOf (backwardPart v a done) + 1 ≤ mostBackward * (1 + longestRun a) = omega (arith, backward-steps v a done) in
+    omega (arith, backward-steps v k (again n (backwardPart v a done) rest), mul-le-mul-left (suc n) body, mul-left-comm (suc n) mostBackward (1 + longestRun a))
 
-forward-steps : (t : Body) (rest : Table) → stepsOf (forwardPart t rest) ≤ 3 * longestRun t + stepsOf rest
+forward-steps : (t : Body) (rest : Table) → stepsOf (forwardPart t rest) ≤ mostStepsForward * longestRun t + stepsOf rest
 unfolding forwardPart stepsOf longestRun
 forward-steps done rest = omega arith
 forward-steps (one m k) rest = omega (arith, forward-row 1 stepsOf row-stepped m .few (forwardPart k rest), forward-steps k rest)
@@ -48,17 +56,17 @@ forward-steps (fork f a b k) rest =
     let saved : Bool → Table = λ first. put (f .row) turning (saveTurn first) done in
     omega (arith, forward-steps k rest, forward-steps a (saved true), forward-steps b (saved false))
 forward-steps (again n a k) rest =
-    let body : stepsOf (forwardPart a done) + 1 ≤ 3 * (1 + longestRun a) = omega (arith, forward-steps a done) in
-    omega (arith, forward-steps k rest, mul-le-mul-left (suc n) body, mul-left-comm (suc n) 3 (1 + longestRun a))
+    let body : stepsOf (forwardPart a done) + 1 ≤ mostStepsForward * (1 + longestRun a) = omega (arith, forward-steps a done) in
+    omega (arith, forward-steps k rest, mul-le-mul-left (suc n) body, mul-left-comm (suc n) mostStepsForward (1 + longestRun a))
 
--- three for each that W counts forward, seven backward, and row 17
-steps-within-run : (v : ℕ) (t : Body) → stepsOf (adjointTable v t) ≤ 10 * longestRun t + 1
+-- these for each that W counts, and row 17
+steps-within-run : (v : ℕ) (t : Body) → stepsOf (adjointTable v t) ≤ mostStepsEach * longestRun t + 1
 unfolding adjointTable stepsOf
 steps-within-run v t =
     let turn : Table = one (record { origin = ofTurningRound; action = turnRound }) (backwardPart v t done) in
     omega (arith, forward-steps t turn, backward-steps v t done)
 
-sheet-steps-within : (words : List ℕ) (sheet : Sheet) → read words ≡ given sheet → stepsOf (tableOf sheet) ≤ 10 * limit .longestRun + 1
+sheet-steps-within : (words : List ℕ) (sheet : Sheet) → read words ≡ given sheet → stepsOf (tableOf sheet) ≤ mostStepsEach * limit .longestRun + 1
 unfolding tableOf marked
 sheet-steps-within words sheet e =
     omega (
@@ -70,9 +78,9 @@ sheet-steps-within words sheet e =
 
 -- ---- fuel
 
--- suffices for every accepted sheet: 10 for each that W counts, row 17, and the step that ends the run
+-- suffices for every accepted sheet: these for each that W counts, row 17, and the step that ends the run
 abbrev pub enoughSteps : ℕ
-enoughSteps = 10 * limit .longestRun + 2
+enoughSteps = mostStepsEach * limit .longestRun + 2
 
 pub accepted-fuel-same : (A : Arithmetic) (setting : Setting A) (words : List ℕ) (sheet : Sheet) → read words ≡ given sheet
     → (starts : List (A .Carrier)) (steps : ℕ) → enoughSteps ≤ steps

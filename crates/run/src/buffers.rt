@@ -15,8 +15,8 @@ use sheet::is_independent;
 // The originals, their adjoints, t and u.
 pub const STORE: usize = 2 * sheet::MAX_VARIABLES + 2;
 
-// As many steps as suffice for any sheet: three for each that W counts forward, seven backward, row 17 and the end.
-pub const STEPS: usize = 10 * sheet::MAX_LONGEST + 2;
+// As many steps as suffice for any sheet: for each that W counts one more than a row's rows, as an "if" block takes; row 17 and the end.
+pub const STEPS: usize = (1 + table::MAX_ROWS_EACH) * sheet::MAX_LONGEST + 2;
 
 pub fn clear_doubles(cells: &mut [f64])
     ensures { λ r. ⌜ now (cells .exit) ≡ replicate (length (now (cells .entry))) (doubles .zero) ⌝ }

@@ -12,7 +12,7 @@ use Rattle.sets.specs.Transfers.{Activity}
 use Rattle.sets.specs.Marks.{Marked, numbered}
 use Rattle.table.specs.TableRows.{Table, TableRow, Action, saveTurn, turnRound, whether, onTurn, Operation, turning, ofRow, ofTurningRound}
 use Rattle.table.specs.Adjoint.{Body, put, putIf, forwardRow, forwardPart, partsOf, derivativeRows, backwardOf, backwardPart, adjointTable}
-use Rattle.table.specs.Sizes.{mostRowsEach, tableRows, valuesNeeded, turnsNeeded}
+use Rattle.table.specs.Sizes.{mostForward, mostParts, mostBackward, mostRowsEach, tableRows, valuesNeeded, turnsNeeded}
 
 -- ---- R
 
@@ -37,42 +37,42 @@ module _ (weight : ℕ) (count : Table → ℕ) (each : EachRow weight count) wh
   at-most-more : {n : ℕ} (m : ℕ) {part : Table → Table} → n ≤ m → AtMost count n part → AtMost count m part
   at-most-more m h part = record { few = λ rest. omega (arith, part .few rest) }
 
-  parts-rows : (v : ℕ) (source : Source) (row : RowNumber) (known : Activity) → AtMost count (4 * weight) (partsOf v source row known)
+  parts-rows : (v : ℕ) (source : Source) (row : RowNumber) (known : Activity) → AtMost count (mostParts * weight) (partsOf v source row known)
   unfolding partsOf
-  parts-rows v (copy a) row known = at-most-more {n = weight + 0} (4 * weight) (omega arith) (at-most-if (known .variedA) row _ _ at-most-none)
-  parts-rows v (fixed c) row known = at-most-more {n = 0} (4 * weight) (omega arith) at-most-none
+  parts-rows v (copy a) row known = at-most-more {n = weight + 0} (mostParts * weight) (omega arith) (at-most-if (known .variedA) row _ _ at-most-none)
+  parts-rows v (fixed c) row known = at-most-more {n = 0} (mostParts * weight) (omega arith) at-most-none
   parts-rows v (sum a b) row known =
-      at-most-more {n = weight + (weight + 0)} (4 * weight) (omega arith)
+      at-most-more {n = weight + (weight + 0)} (mostParts * weight) (omega arith)
       (at-most-if (known .variedA) row _ _ (at-most-if (known .variedB) row _ _ at-most-none))
   parts-rows v (difference a b) row known =
-      at-most-more {n = weight + (weight + 0)} (4 * weight) (omega arith)
+      at-most-more {n = weight + (weight + 0)} (mostParts * weight) (omega arith)
       (at-most-if (known .variedA) row _ _ (at-most-if (known .variedB) row _ _ at-most-none))
   parts-rows v (product a b) row known =
-      at-most-more {n = weight + (weight + (weight + (weight + 0)))} (4 * weight) (omega arith)
+      at-most-more {n = weight + (weight + (weight + (weight + 0)))} (mostParts * weight) (omega arith)
       (at-most-if (known .variedA) row _ _ (at-most-if (known .variedA) row _ _
       (at-most-if (known .variedB) row _ _ (at-most-if (known .variedB) row _ _ at-most-none))))
-  parts-rows v (negation a) row known = at-most-more {n = weight + 0} (4 * weight) (omega arith) (at-most-if (known .variedA) row _ _ at-most-none)
+  parts-rows v (negation a) row known = at-most-more {n = weight + 0} (mostParts * weight) (omega arith) (at-most-if (known .variedA) row _ _ at-most-none)
 
   derivative-rows : (v : ℕ) (active : Bool) (d : ℕ) (source : Source) (row : RowNumber) (known : Activity)
-      → AtMost count (6 * weight) (derivativeRows v active d source row known)
+      → AtMost count ((2 + mostParts) * weight) (derivativeRows v active d source row known)
   unfolding derivativeRows
-  derivative-rows v false d source row known = at-most-more {n = weight + 0} (6 * weight) (omega arith) (at-most-if true row _ _ at-most-none)
+  derivative-rows v false d source row known = at-most-more {n = weight + 0} ((2 + mostParts) * weight) (omega arith) (at-most-if true row _ _ at-most-none)
   derivative-rows v true d source row known =
-      at-most-more {n = weight + (weight + 4 * weight)} (6 * weight) (omega arith)
+      at-most-more {n = weight + (weight + mostParts * weight)} ((2 + mostParts) * weight) (omega arith)
       (at-most-if true row _ _ (at-most-if true row _ _ (parts-rows v source row known)))
 
-  -- seven rows backward and two forward for an assignment, fewer for the rows of a block
+  -- an assignment's rows; those of a block are fewer
   pub backward-row : (v : ℕ) (b : Assignment) (row : RowNumber) (known : Activity) (saved : Bool)
-      → AtMost count (7 * weight) (backwardOf v b row known saved)
+      → AtMost count (mostBackward * weight) (backwardOf v b row known saved)
   unfolding backwardOf
   backward-row v (d ≔ source) row known saved =
-      at-most-more {n = weight + 6 * weight} (7 * weight) (omega arith)
+      at-most-more {n = weight + (2 + mostParts) * weight} (mostBackward * weight) (omega arith)
       (at-most-if saved row _ _ (derivative-rows v (known .active) d source row known))
 
-  pub forward-row : (m : Marked) → AtMost count (2 * weight) (forwardRow m)
+  pub forward-row : (m : Marked) → AtMost count (mostForward * weight) (forwardRow m)
   unfolding forwardRow
   forward-row m =
-      at-most-more {n = weight + (weight + 0)} (2 * weight) (omega arith)
+      at-most-more {n = weight + (weight + 0)} (mostForward * weight) (omega arith)
       (at-most-if (m .saved) (m .row) _ _ (at-most-if true (m .row) _ _ at-most-none))
 
 row-counted : EachRow 1 rows
@@ -83,7 +83,7 @@ row-flat : EachRow 0 deep
 unfolding deep
 row-flat row rest = omega arith
 
-backward-rows : (v : ℕ) (t : Body) (rest : Table) → rows (backwardPart v t rest) ≤ 7 * rows t + rows rest
+backward-rows : (v : ℕ) (t : Body) (rest : Table) → rows (backwardPart v t rest) ≤ mostBackward * rows t + rows rest
 unfolding backwardPart rows
 backward-rows v done rest = omega arith
 backward-rows v (one m k) rest =
@@ -94,7 +94,7 @@ backward-rows v (fork f a b k) rest =
     omega (arith, backward-rows v k turned, backward-rows v a done, backward-rows v b done)
 backward-rows v (again n a k) rest = omega (arith, backward-rows v k (again n (backwardPart v a done) rest), backward-rows v a done)
 
-forward-rows : (t : Body) (rest : Table) → rows (forwardPart t rest) ≤ 2 * rows t + rows rest
+forward-rows : (t : Body) (rest : Table) → rows (forwardPart t rest) ≤ mostForward * rows t + rows rest
 unfolding forwardPart rows
 forward-rows done rest = omega arith
 forward-rows (one m k) rest = omega (arith, forward-row 1 rows row-counted m .few (forwardPart k rest), forward-rows k rest)

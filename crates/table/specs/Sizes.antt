@@ -7,9 +7,20 @@ use Rattle.sheet.specs.Reading.{Sheet, variablesOf}
 use Rattle.sets.specs.Marks.{marked}
 use Rattle.table.specs.Adjoint.{Body, adjointTable}
 
--- "Hence R is at most 9 × 512 + 1": two rows forward and seven backward for each of a sheet's, and row 17
+-- "Hence R is at most 9 × 512 + 1": for each of a sheet's rows, and row 17. Forward a save and the row itself
+abbrev pub mostForward : ℕ
+mostForward = 2
+
+-- of an assignment's parts: two rows for each of a product's operands
+abbrev pub mostParts : ℕ
+mostParts = 4
+
+-- backward: d taken back, t := d̄, d̄ := 0 and the parts
+abbrev pub mostBackward : ℕ
+mostBackward = 3 + mostParts
+
 abbrev pub mostRowsEach : ℕ
-mostRowsEach = 9
+mostRowsEach = mostForward + mostBackward
 
 abbrev pub mostTableRows : ℕ
 mostTableRows = mostRowsEach * limit .rows + 1

@@ -4,7 +4,7 @@ ghost use mathlib.Core.Bool.{cond};
 ghost use Prim.Native.Nat.{ℕ, _+_, _≤_};
 ghost use Rattle.sheet.specs.inner.RowLines.{lineOfRow};
 ghost use Rattle.sheet.specs.Answers.{rowSaid};
-ghost use Rattle.table.specs.Sizes.{mostRowsEach};
+ghost use Rattle.table.specs.Sizes.{mostParts, mostBackward, mostRowsEach};
 ghost use Rattle.table.specs.inner.MarkedRows.{Assigns, Says, Readable, partRows, assignmentBack, bothParts, Counted, countAll};
 use super::rows;
 use sheet::RowNumber;
@@ -22,7 +22,7 @@ pub fn one(given: bool) -> usize
 // How many rows an assignment's parts are.
 fn parts_count(row: RowWords, mark: u8) -> usize
     requires { ⌜ Assigns (row .kind) ⌝ }
-    ensures { λ r. ⌜ Counted 4 r (λ v. partRows v (rowSaid row) mark) ⌝ }
+    ensures { λ r. ⌜ Counted mostParts r (λ v. partRows v (rowSaid row) mark) ⌝ }
 {
     let first = rows::bit(mark, sets::VARIED_A);
     let second = rows::bit(mark, sets::VARIED_B);
@@ -46,7 +46,7 @@ fn parts_count(row: RowWords, mark: u8) -> usize
 // How many rows an assignment has in the backward part.
 fn assignment_count(row: RowWords, mark: u8) -> usize
     requires { ⌜ Assigns (row .kind) ⌝ }
-    ensures { λ r. ⌜ Counted 7 r (λ v. assignmentBack v (rowSaid row) mark) ⌝ }
+    ensures { λ r. ⌜ Counted mostBackward r (λ v. assignmentBack v (rowSaid row) mark) ⌝ }
 {
     let saved = rows::bit(mark, sets::SAVED);
     let active = rows::bit(mark, sets::ACTIVE);

@@ -18,8 +18,14 @@ mod partners;
 mod rows;
 mod sweep;
 
-// "Hence R is at most": two rows forward and seven backward for each of a sheet's, and row 17.
-const MAX_ROWS_EACH: usize = 9;
+// "Hence R is at most": for each of a sheet's rows these forward and backward, the parts among the latter, and row 17.
+const MAX_FORWARD: usize = 2;
+
+const MAX_PARTS: usize = 4;
+
+const MAX_BACKWARD: usize = 3 + MAX_PARTS;
+
+pub const MAX_ROWS_EACH: usize = MAX_FORWARD + MAX_BACKWARD;
 
 pub const MAX_TABLE_ROWS: usize = MAX_ROWS_EACH * sheet::MAX_ROWS + 1;
 
