@@ -33,13 +33,10 @@ pub const STUCK: u16 = 65535;
 fn table_fits(rows: usize, room: usize) -> Fit
     ensures { λ r. ⌜ fitSaid r ≡ tableFits rows room ⌝ }
 {
-    if room < 1 {
-        return Fit::No(Unfit::SmallTable);
+    if table::has_room(rows, room) {
+        return Fit::Fits;
     }
-    if (room - 1) / sheet::ROW_WORDS < rows {
-        return Fit::No(Unfit::SmallTable);
-    }
-    Fit::Fits
+    Fit::No(Unfit::SmallTable)
 }
 
 // 9

@@ -1,22 +1,19 @@
 -- What check and write answer, from what planning says.
-use Prim.Native.Nat.{ℕ, _≤_, _<_}
+use Prim.Native.Nat.{ℕ}
 use mathlib.Core.Path.{_≡_, ap, subst}
 use mathlib.Core.Bool.{true, false}
 use mathlib.Core.List.{List}
 use lib.ListN.{length}
 use lib.Dec.{leb}
-use borrow.Author.Tests.{le-leb, lt-leb}
 use Rattle.sheet.specs.Refusals.{Refusal, refused, given, numberOf, placeOf, numberIn, placeIn, smallTable}
-use Rattle.sheet.specs.Reading.{Sheet, variablesOf, read}
+use Rattle.sheet.specs.Reading.{Sheet, read}
 use Rattle.sheet.specs.Answers.{refusalOf, shapeOf}
 use Rattle.sheet.specs.declared.No.{No}
-use Rattle.sets.specs.Marks.{marked}
 use Rattle.table.specs.declared.Plan.{Plan}
 use Rattle.table.specs.declared.Planned.{Planned}
 use Rattle.table.specs.declared.Planned.the-variants as planned
 use Rattle.table.specs.TableRows.{tableWords}
 use Rattle.table.specs.Adjoint.{tableOf}
-use Rattle.table.specs.Sizes.{tableRows}
 use Rattle.table.specs.Calls.{Checked, noSizes, sizesIn, check, tableRoom, readFor, overwritten, tableIn, Written, write}
 use Rattle.table.specs.inner.Plans.{PlanMade, PlanSays}
 
@@ -64,21 +61,17 @@ module _ (words : List ℕ) where
       abbrev sheet : Sheet
       sheet = made .sheet
 
-      pub write-small : length buffer < tableRoom (plan .rows)
+      pub write-small : leb (tableRoom (plan .rows)) (length buffer) ≡ false
           → _≡_ {A = Written} (record { number = numberOf smallTable; place = 0; table = buffer }) (write words buffer)
       unfolding write readFor numberIn placeIn tableIn numberOf placeOf
       write-small short =
-          let rows = ap tableRoom (made .planned .rows) in
-          let small : leb (tableRoom (tableRows (variablesOf sheet) (marked sheet))) (length buffer) ≡ false =
-          lt-leb _ _ (subst (λ n. length buffer < n) rows short) in
+          let small = subst (λ n. leb (tableRoom n) (length buffer) ≡ false) (made .planned .rows) short in
           rw (made .accepted, small)
 
-      pub write-made : (after : List ℕ) → tableRoom (plan .rows) ≤ length buffer
+      pub write-made : (after : List ℕ) → leb (tableRoom (plan .rows)) (length buffer) ≡ true
           → ((s : Sheet) → read words ≡ given s → after ≡ overwritten (tableWords (tableOf s)) buffer)
           → _≡_ {A = Written} (record { number = 0; place = 0; table = after }) (write words buffer)
       unfolding write readFor numberIn placeIn tableIn
       write-made after long wrote =
-          let rows = ap tableRoom (made .planned .rows) in
-          let fits : leb (tableRoom (tableRows (variablesOf sheet) (marked sheet))) (length buffer) ≡ true =
-          le-leb _ _ (subst (λ n. n ≤ length buffer) rows long) in
+          let fits = subst (λ n. leb (tableRoom n) (length buffer) ≡ true) (made .planned .rows) long in
           rw (made .accepted, fits, wrote sheet (made .accepted))

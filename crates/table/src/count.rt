@@ -10,7 +10,7 @@ use super::rows;
 use sheet::RowNumber;
 use sheet::RowWords;
 
-pub fn one(given: bool) -> usize
+pub fn one_if(given: bool) -> usize
     ensures { λ r. ⌜ (r ≡ cond given 1 0) × (r ≤ 1) ⌝ }
 {
     if given {
@@ -26,8 +26,8 @@ fn parts_count(row: RowWords, mark: u8) -> usize
 {
     let first = rows::bit(mark, sets::VARIED_A);
     let second = rows::bit(mark, sets::VARIED_B);
-    let into_a = one(first);
-    let into_b = one(second);
+    let into_a = one_if(first);
+    let into_b = one_if(second);
     if row.kind == sheet::kinds::COPY {
         return into_a;
     }
@@ -50,7 +50,7 @@ fn assignment_count(row: RowWords, mark: u8) -> usize
 {
     let saved = rows::bit(mark, sets::SAVED);
     let active = rows::bit(mark, sets::ACTIVE);
-    let taken = one(saved);
+    let taken = one_if(saved);
     let parts = parts_count(row, mark);
     if active {
         return taken + 2 + parts;
@@ -65,7 +65,7 @@ fn row_count(row: RowWords, mark: u8) -> usize
 {
     if row.kind < sheet::kinds::IF {
         let saved = rows::bit(mark, sets::SAVED);
-        let forward = one(saved);
+        let forward = one_if(saved);
         let backward = assignment_count(row, mark);
         return forward + 1 + backward;
     }

@@ -2,6 +2,7 @@
 ghost use mathlib.Core.Path.{_≡_};
 ghost use Prim.Native.Nat.{_≤_};
 ghost use lib.ListN.{length};
+ghost use lib.Dec.{leb};
 ghost use Rattle.sheet.specs.Refusals.{given};
 ghost use Rattle.sheet.specs.Reading.{Sheet, read};
 ghost use Rattle.sheet.specs.Answers.{shapeRead};
@@ -149,6 +150,19 @@ pub fn check(words: &[u16]) -> Checked
     }
 }
 
+// Whether so many words hold the table's row count and its rows.
+pub fn has_room(rows: usize, room: usize) -> bool
+    ensures { λ r. ⌜ r ≡ leb (tableRoom rows) room ⌝ }
+{
+    if room < 1 {
+        return false;
+    }
+    if (room - 1) / sheet::ROW_WORDS < rows {
+        return false;
+    }
+    true
+}
+
 // Any words and a buffer: the first refusal of 1 to 8, or the table of the sheet that they are, at the buffer's start.
 pub fn write(words: &[u16], table: &mut [u16]) -> Answer
     ensures { λ r. ⌜ writtenOf r (now (table .exit)) ≡ write (now (words .entry)) (now (table .entry)) ⌝ }
@@ -162,8 +176,7 @@ pub fn write(words: &[u16], table: &mut [u16]) -> Answer
             place: sheet::place_of(why),
         },
         Planned::Made(plan) => {
-            let room = 1 + sheet::ROW_WORDS * plan.rows;
-            if table.len() < room {
+            if !has_room(plan.rows, table.len()) {
                 return Answer {
                     number: SMALL_TABLE,
                     place: 0,

@@ -37,7 +37,7 @@ fn of_saved(stack: Stack, mark: u8) -> usize
     match stack {
         Stack::Values => {
             let saved = rows::bit(mark, sets::SAVED);
-            count::one(saved)
+            count::one_if(saved)
         }
         Stack::Turns => 0,
     }

@@ -41,7 +41,6 @@ pub fn put_if(
     place
 }
 
-// One bit of an assignment's marks.
 pub fn bit(mark: u8, weight: u8) -> bool
     requires { ⌜ 1 ≤ weight ⌝ }
     ensures { λ r. ⌜ r ≡ bitOf mark weight ⌝ }

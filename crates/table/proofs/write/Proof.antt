@@ -1,10 +1,10 @@
 -- `table::write` meets its contract, by the case of the plan and by the buffer's room.
-use native.Mathlib.Omega.{arith}
+use mathlib.Core.Path.{sym, _∙_}
 use borrow.Author.Needs.{needs}
+use borrow.Author.Tests.{not-true, not-false, leb-true}
 use Rattle.sheet.specs.Refusals.{numberOf}
 use Rattle.table.specs.inner.Plans.{PlanMade}
 use Rattle.table.proofs.CallLaws.{when-refused, when-made, write-refused, write-small, write-made}
-use Rattle.table.proofs.PlanLaws.{planned-few}
 use Rattle.table.proofs.write.Statement.{statement}
 use Rattle.table.proofs.write.Tie as tie
 
@@ -29,20 +29,20 @@ place-of-requires c κs = search needs
 enum-known-plan : tie.Need-enum-known-plan
 enum-known-plan c = search needs
 
-mul-room : tie.Need-mul-room
-mul-room c = record { fits = omega (arith, planned-few (plan-made (c .before .before))) }
-
-add-room : tie.Need-add-room
-add-room c = record { fits = omega (arith, planned-few (plan-made (c .before .before))) }
+has-room-requires : tie.Need-has-room-requires
+has-room-requires c κs = search needs
 
 returns : tie.Need-returns
 unfolding numberOf
-returns c = write-small _ _ (plan-made (c .before .before .before)) (c .if1 .taken)
+returns c =
+    let tested = c .before in
+    write-small _ _ (plan-made (tested .before .before)) (sym (tested .has-room .ensures) ∙ not-true _ (c .if1 .taken))
 
 write-planned-requires : tie.Need-write-planned-requires
 write-planned-requires c κs =
     let tested = c .before .before .before .before in
-    (plan-made (tested .before .before .before), tested .if1 .left)
+    let fits = sym (tested .before .has-room .ensures) ∙ not-false _ (tested .if1 .left) in
+    (plan-made (tested .before .before .before), leb-true _ _ fits)
 
 returns-2 : tie.Need-returns-2
 returns-2 c =
@@ -59,7 +59,8 @@ returns-3 : tie.Need-returns-3
 returns-3 c =
     let wrote = c .before .before in
     let tested = wrote .before .before .before .before .before in
-    write-made _ _ (plan-made (tested .before .before .before)) _ (tested .if1 .left) (wrote .write-planned .ensures)
+    let fits = sym (tested .before .has-room .ensures) ∙ not-false _ (tested .if1 .left) in
+    write-made _ _ (plan-made (tested .before .before .before)) _ fits (wrote .write-planned .ensures)
 
 pub write-spec : {M : Type 1} → statement M
 write-spec =
@@ -70,8 +71,7 @@ write-spec =
     number-of-requires
     place-of-requires
     enum-known-plan
-    mul-room
-    add-room
+    has-room-requires
     returns
     write-planned-requires
     returns-2

@@ -1,18 +1,17 @@
 -- `run::refusals::table_fits` meets its contract.
-use borrow.Author.Tests.{le-leb, lt-leb}
-use native.Mathlib.Omega.{arith}
-use Rattle.table.specs.Calls.{tableRoom}
+use mathlib.Core.Path.{sym, _∙_}
+use borrow.Author.Needs.{needs}
 use Rattle.run.proofs.refusals.table_fits.Statement.{statement}
 use Rattle.run.proofs.refusals.table_fits.Tie as tie
 
+has-room-requires : tie.Need-has-room-requires
+has-room-requires c κs = search needs
+
 returns : tie.Need-returns
-returns c = let args = c .before .args in simp (lt-leb (tableRoom (args .rows)) (args .room) (omega arith))
+returns c = rw (sym (c .before .has-room .ensures) ∙ c .if1 .taken)
 
 returns-2 : tie.Need-returns-2
-returns-2 c = let args = c .before .before .args in simp (lt-leb (tableRoom (args .rows)) (args .room) (omega arith))
-
-returns-3 : tie.Need-returns-3
-returns-3 c = let args = c .before .before .args in simp (le-leb (tableRoom (args .rows)) (args .room) (omega arith))
+returns-2 c = rw (sym (c .before .has-room .ensures) ∙ c .if1 .left)
 
 pub table-fits-spec : {M : Type 1} → statement M
-table-fits-spec = tie.close (tie.spec returns returns-2 returns-3)
+table-fits-spec = tie.close (tie.spec has-room-requires returns returns-2)

@@ -13,8 +13,8 @@ bit-requires c κs = search needs
 bit-requires-2 : tie.Need-bit-requires-2
 bit-requires-2 c κs = search needs
 
-one-requires : tie.Need-one-requires
-one-requires c κs = search needs
+one-if-requires : tie.Need-one-if-requires
+one-if-requires c κs = search needs
 
 parts-count-requires : tie.Need-parts-count-requires
 parts-count-requires c κs = search needs
@@ -29,7 +29,7 @@ returns : tie.Need-returns
 returns c =
     let x = c .before .before .before .before .before .args in
     let parts = c .before .parts-count .ensures in
-    let taken = c .before .before .one .ensures in
+    let taken = c .before .before .one-if .ensures in
     let active = sym (c .before .before .before .bit2 .ensures) ∙ c .if1 .taken in
     record {
       within = omega (arith, parts .within, taken);
@@ -43,7 +43,7 @@ returns-2 : tie.Need-returns-2
 returns-2 c =
     let x = c .before .before .before .before .before .args in
     let parts = c .before .parts-count .ensures in
-    let taken = c .before .before .one .ensures in
+    let taken = c .before .before .one-if .ensures in
     let active = sym (c .before .before .before .bit2 .ensures) ∙ c .if1 .left in
     record {
       within = omega (arith, parts .within, taken);
@@ -56,7 +56,7 @@ assignment-count-spec =
     (tie.spec
     bit-requires
     bit-requires-2
-    one-requires
+    one-if-requires
     parts-count-requires
     add-result
     add-result-2

@@ -10,26 +10,26 @@ use Rattle.table.proofs.RowCounts.{constant-count, copy-count, negation
 use Rattle.table.proofs.count.parts_count.Statement.{statement}
 use Rattle.table.proofs.count.parts_count.Tie as tie
 
-abbrev start : tie.After-one2 → tie.Start
+abbrev start : tie.After-one-if2 → tie.Start
 start c = c .before .before .before .before
 
-first : (c : tie.After-one2) → c .before .before .before .bit .result ≡ knownBy (start c .args .mark) .variedA
+first : (c : tie.After-one-if2) → c .before .before .before .bit .result ≡ knownBy (start c .args .mark) .variedA
 first c = c .before .before .before .bit .ensures
 
-second : (c : tie.After-one2) → c .before .before .bit2 .result ≡ knownBy (start c .args .mark) .variedB
+second : (c : tie.After-one-if2) → c .before .before .bit2 .result ≡ knownBy (start c .args .mark) .variedB
 second c = c .before .before .bit2 .ensures
 
 -- both operands as numbers of rows
-record Ones (c : tie.After-one2) : Type 0 where
-  a-is : c .before .one .result ≡ cond (c .before .before .before .bit .result) 1 0
-  b-is : c .one2 .result ≡ cond (c .before .before .bit2 .result) 1 0
-  a-most : c .before .one .result ≤ 1
-  b-most : c .one2 .result ≤ 1
+record Ones (c : tie.After-one-if2) : Type 0 where
+  a-is : c .before .one-if .result ≡ cond (c .before .before .before .bit .result) 1 0
+  b-is : c .one-if2 .result ≡ cond (c .before .before .bit2 .result) 1 0
+  a-most : c .before .one-if .result ≤ 1
+  b-most : c .one-if2 .result ≤ 1
 
-ones : (c : tie.After-one2) → Ones c
+ones : (c : tie.After-one-if2) → Ones c
 ones c =
-    let a = c .before .one .ensures in
-    let b = c .one2 .ensures in
+    let a = c .before .one-if .ensures in
+    let b = c .one-if2 .ensures in
     record { a-is = a .0; b-is = b .0; a-most = a .1; b-most = b .1 }
 
 bit-requires : tie.Need-bit-requires
@@ -38,11 +38,11 @@ bit-requires c κs = search needs
 bit-requires-2 : tie.Need-bit-requires-2
 bit-requires-2 c κs = search needs
 
-one-requires : tie.Need-one-requires
-one-requires c κs = search needs
+one-if-requires : tie.Need-one-if-requires
+one-if-requires c κs = search needs
 
-one-requires-2 : tie.Need-one-requires-2
-one-requires-2 c κs = search needs
+one-if-requires-2 : tie.Need-one-if-requires-2
+one-if-requires-2 c κs = search needs
 
 returns : tie.Need-returns
 returns c =
@@ -107,8 +107,8 @@ parts-count-spec =
     (tie.spec
     bit-requires
     bit-requires-2
-    one-requires
-    one-requires-2
+    one-if-requires
+    one-if-requires-2
     returns
     returns-2
     returns-3

@@ -9,8 +9,8 @@ use Rattle.table.proofs.count.row_count.Tie as tie
 bit-requires : tie.Need-bit-requires
 bit-requires c κs = search needs
 
-one-requires : tie.Need-one-requires
-one-requires c κs = search needs
+one-if-requires : tie.Need-one-if-requires
+one-if-requires c κs = search needs
 
 assignment-count-requires : tie.Need-assignment-count-requires
 assignment-count-requires c κs = says-assigns (c .before .before .before .before .pre) (c .before .before .if1 .taken)
@@ -25,7 +25,7 @@ returns : tie.Need-returns
 returns c =
     let start = c .before .before .before .before .before in
     let back = c .assignment-count .ensures in
-    let forward = c .before .one .ensures in
+    let forward = c .before .one-if .ensures in
     record {
       within = omega (arith, back .within, forward);
       is = λ v.
@@ -56,7 +56,7 @@ row-count-spec =
     tie.close
     (tie.spec
     bit-requires
-    one-requires
+    one-if-requires
     assignment-count-requires
     add-result
     add-result-2

@@ -10,8 +10,8 @@ enum-told c = search needs
 bit-requires : tie.Need-bit-requires
 bit-requires c κs = search needs
 
-one-requires : tie.Need-one-requires
-one-requires c κs = search needs
+one-if-requires : tie.Need-one-if-requires
+one-if-requires c κs = search needs
 
 enum-told-2 : tie.Need-enum-told-2
 enum-told-2 c = search needs
@@ -24,4 +24,4 @@ returns-2 c = search needs
 
 pub of-saved-spec : {M : Type 1} → statement M
 of-saved-spec =
-    tie.close (tie.spec enum-told bit-requires one-requires enum-told-2 returns returns-2)
+    tie.close (tie.spec enum-told bit-requires one-if-requires enum-told-2 returns returns-2)
