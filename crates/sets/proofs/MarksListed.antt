@@ -24,7 +24,7 @@ from-at f [] p i h l = absurd (omega arith)
 from-at f (x ∷ xs) p zero h l = let here : p + 0 ≡ p = omega arith in rw here (h .0)
 from-at f (x ∷ xs) p (suc i) h l = let here : p + suc i ≡ suc p + i = omega arith in rw here (from-at f xs (suc p) i (h .1) (omega arith))
 
-numbered-rows : (mark : ℕ → Assignment → Marked) (t : Tree Assignment Test) (p : ℕ) → rows (numbered mark t p) ≡ rows t
+pub numbered-rows : (mark : ℕ → Assignment → Marked) (t : Tree Assignment Test) (p : ℕ) → rows (numbered mark t p) ≡ rows t
 unfolding numbered rows
 numbered-rows mark done p = refl
 numbered-rows mark (one b k) p = omega (arith, numbered-rows mark k (suc p))

@@ -30,7 +30,7 @@ pub none-before : (after : List Row) → rowsIn done ++ after ≡ after
 none-before after = rw rows-of-done
 
 -- the last row of some
-pub last-if : (test : Bool) (row : RowNumber) (operation : Operation) (action : Action)
+last-if : (test : Bool) (row : RowNumber) (operation : Operation) (action : Action)
     → rowsIn (putIf test row operation action done) ≡ rowIf test (rowOfAction action)
 last-if true row operation action = rows-of-put row operation action done ∙ ap (λ rs. rowOfAction action ∷ rs) rows-of-done
 last-if false row operation action = rows-of-done

@@ -19,15 +19,15 @@ use Rattle.table.proofs.TreeRows.{StandsAt, tree-stands, stands-after}
 use Rattle.table.proofs.ForwardTree.{marked-forward}
 use Rattle.table.proofs.BackwardTree.{marked-backward}
 use Rattle.table.proofs.WalkTree.{rows-of-tree}
-use Rattle.table.proofs.WholeTable.{rows-counted}
+use Rattle.table.proofs.WholeTable.{table-rows-counted}
 
 forward-count : {byte : ℕ} {b : Assignment} {m : Marked} → MarkSays byte b m → (rest : Table)
     → rows (forwardRow m rest) ≡ length (forwardOfLine byte (basic b)) + rows rest
 forward-count {byte} {b} {m} says rest =
     omega (
       arith,
-      rows-counted (forwardRow m rest),
-      rows-counted rest,
+      table-rows-counted (forwardRow m rest),
+      table-rows-counted rest,
       ap length (marked-forward says rest),
       length-append (forwardOfLine byte (basic b)) (rowsIn rest),
     )
@@ -37,8 +37,8 @@ backward-count : (v : ℕ) {byte : ℕ} {b : Assignment} {m : Marked} → MarkSa
 backward-count v {byte} {b} {m} says rest =
     omega (
       arith,
-      rows-counted (backwardOf v (m .assignment) (m .row) (m .known) (m .saved) rest),
-      rows-counted rest,
+      table-rows-counted (backwardOf v (m .assignment) (m .row) (m .known) (m .saved) rest),
+      table-rows-counted rest,
       ap length (marked-backward v says 0 rest),
       length-append (backwardOfLine v byte 0 (basic b)) (rowsIn rest),
     )

@@ -42,7 +42,7 @@ module _ (stack : Stack) (mark next second beyond : ℕ) {r : Row} (says : Says 
 
 -- ---- the rows after it
 
-pub holds-more : {buffer list : List ℕ} (place value : ℕ) → place < length buffer → HoldsFrom buffer (suc place) list
+holds-more : {buffer list : List ℕ} (place value : ℕ) → place < length buffer → HoldsFrom buffer (suc place) list
     → HoldsFrom (set buffer place value) place (value ∷ list)
 holds-more {buffer} {list} place value h held = record { each = at }
   where
@@ -81,11 +81,11 @@ module _ (stack : Stack) (words : List ℕ) (first : ℕ) (marks came goes : Lis
   unfolding needsFrom
   needs-turn q n = refl
 
-  pub needs-none : (q : ℕ) → needs q 0 ≡ 0 ∷ []
+  needs-none : (q : ℕ) → needs q 0 ≡ 0 ∷ []
   unfolding needsFrom
   needs-none q = refl
 
-  pub needs-length : (q n : ℕ) → length (needs q n) ≡ suc n
+  needs-length : (q n : ℕ) → length (needs q n) ≡ suc n
   unfolding needsFrom
   needs-length q zero = refl
   needs-length q (suc n) = ap suc (needs-length (suc q) n)

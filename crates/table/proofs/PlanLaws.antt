@@ -19,7 +19,7 @@ use Rattle.table.specs.declared.needs.Stack.{Stack}
 use Rattle.table.specs.inner.Needs.{needOver}
 use Rattle.table.specs.inner.Plans.{SheetNoted, PlanMade}
 use Rattle.table.proofs.WalkTree.{tree-says, tree-walks}
-use Rattle.table.proofs.WholeTable.{whole-is-table, rows-counted, buffer-overwritten}
+use Rattle.table.proofs.WholeTable.{whole-is-table, table-rows-counted, buffer-overwritten}
 use Rattle.table.proofs.CountTree.{counted-is-table-rows}
 use Rattle.table.proofs.NeedsTree.{neededOn, need-is-needed}
 use Rattle.table.proofs.SheetLaid.{Lies, sheet-lies, table-rows-within}
@@ -72,7 +72,7 @@ module _ {words : List ℕ} {sheet : Sheet} {shape : Shape} (lies : Lies words s
     pub room-right : (count : ℕ) (buffer : List ℕ) → count ≡ tableRows (variablesOf sheet) (marked sheet) → tableRoom count ≤ length buffer
         → Room buffer 1 (wholeRows given)
     room-right count buffer right long =
-        record { fits = omega (arith, ap length whole-right, rows-counted (tableOf sheet), counts-rows) }
+        record { fits = omega (arith, ap length whole-right, table-rows-counted (tableOf sheet), counts-rows) }
 
     pub table-written : (count : ℕ) (buffer after : List ℕ) (next : ℕ) → count ≡ tableRows (variablesOf sheet) (marked sheet)
         → tableRoom count ≤ length buffer → Wrote (set buffer 0 count) 1 (wholeRows given) after next

@@ -19,13 +19,14 @@ use Rattle.sheet.proofs.NamesPresent.{counts}
 use Rattle.sheet.proofs.TreeInWords.{body-stands}
 use Rattle.sheet.proofs.ReaderLaws.{Shaped, accepted-shape}
 use Rattle.sets.specs.Marks.{varied, useful, required, markBy, marked}
+use Rattle.sets.proofs.MarksListed.{numbered-rows}
 use Rattle.table.specs.TableRows.{tableWords}
 use Rattle.table.specs.Adjoint.{tableOf}
 use Rattle.table.specs.Sizes.{mostTableRows, rowsNeeded}
 use Rattle.table.specs.Calls.{tableRoom}
 use Rattle.table.specs.inner.MarkedRows.{rowNumbered, Small}
 use Rattle.table.proofs.TableLength.{table-length}
-use Rattle.table.proofs.TableBounds.{table-rows-bound, marked-rows}
+use Rattle.table.proofs.TableBounds.{table-rows-bound}
 use Rattle.table.proofs.WalkTree.{rows-of-tree}
 use Rattle.table.proofs.RowsSmall.{rows-small}
 
@@ -79,7 +80,7 @@ table-rows-within words sheet e =
     omega (
       arith,
       table-rows-bound (variablesOf sheet) (marked sheet),
-      marked-rows (markBy (varied sheet) (useful sheet) (required sheet)) (sheet .body) 0,
+      numbered-rows (markBy (varied sheet) (useful sheet) (required sheet)) (sheet .body) 0,
       rows-of-tree words _ _ (sheet .body) (lies .says),
       lies .fewRows,
     )

@@ -187,14 +187,6 @@ table-deep v t =
     (backward-deep v (deep t) t done (omega arith) (omega arith))
 
 -- of an accepted sheet's own tree: marks change no count
-pub marked-rows : (mark : ℕ → Assignment → Marked) (t : Tree Assignment Test) (p : ℕ) → rows (numbered mark t p) ≡ rows t
-unfolding numbered rows
-marked-rows mark done p = refl
-marked-rows mark (one b k) p = rw (marked-rows mark k (suc p))
-marked-rows mark (fork f a b k) p =
-    rw (marked-rows mark a (suc p), marked-rows mark b (suc (suc p + rows a)), marked-rows mark k (suc (suc (suc p + rows a) + rows b)))
-marked-rows mark (again n a k) p = rw (marked-rows mark a (suc p), marked-rows mark k (suc (suc p + rows a)))
-
 pub marked-run : (mark : ℕ → Assignment → Marked) (t : Tree Assignment Test) (p : ℕ) → longestRun (numbered mark t p) ≡ longestRun t
 unfolding numbered longestRun
 marked-run mark done p = refl

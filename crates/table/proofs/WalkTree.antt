@@ -4,12 +4,11 @@ use mathlib.Core.Path.{_≡_, refl, sym, ap, _∙_, subst}
 use mathlib.Core.List.{List, [], _∷_}
 use lib.ListN.{length, length-map, getD}
 use native.Mathlib.Omega.{arith}
-use Rattle.sheet.specs.Bounds.{limit}
 use Rattle.sheet.specs.Tree.{Tree, done, one, fork, again, basic, ifLine, elseLine, endIf, repeat, endRepeat, flat, rows}
 use Rattle.sheet.specs.Rows.{Assignment, Test, SheetLine, Row, sheetRowOf, rowOf, treeRows}
 use Rattle.sheet.specs.inner.RowLines.{lineOfRow}
 use Rattle.sheet.specs.Reading.{rowsAt}
-use Rattle.sheet.proofs.RowsCounted.{lines-counted}
+use Rattle.sheet.proofs.RowsCounted.{lines-counted, rows-counted}
 use Rattle.sets.specs.Marks.{Marked}
 use Rattle.table.specs.inner.MarkedRows.{rowNumbered, Says, stepBack, Handed, rowOfNumber, wayBack, Visited, Walks, Noted}
 use Rattle.sheet.proofs.RowsBack.{line-back}
@@ -28,15 +27,10 @@ stands-say words first [] p q r e h s = absurd (omega arith)
 stands-say words first (l ∷ ls) p zero r e h s = let here : r ≡ p = omega arith in rw here (line-says l (s .0))
 stands-say words first (l ∷ ls) p (suc q) r e h s = stands-say words first ls (suc p) q r (omega arith) (omega arith) (s .1)
 
-rows-at-length : (words : List ℕ) (place n : ℕ) → length (rowsAt words place n) ≡ n
-unfolding rowsAt
-rows-at-length words place zero = refl
-rows-at-length words place (suc n) = omega (arith, rows-at-length words (place + limit .rowWords) n)
-
 pub rows-of-tree : (words : List ℕ) (first n : ℕ) (t : Tree Assignment Test) → treeRows t ≡ rowsAt words first n → n ≡ rows t
 unfolding treeRows
 rows-of-tree words first n t e =
-    sym (rows-at-length words first n) ∙ ap length (sym e) ∙ length-map (flat t []) sheetRowOf ∙ lines-counted t
+    sym (rows-counted words first n) ∙ ap length (sym e) ∙ length-map (flat t []) sheetRowOf ∙ lines-counted t
 
 pub tree-says : (words : List ℕ) (first n : ℕ) (t : Tree Assignment Test) → treeRows t ≡ rowsAt words first n
     → (p : ℕ) → p < n → Says (rowNumbered words first p)

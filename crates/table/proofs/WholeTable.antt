@@ -37,7 +37,7 @@ forward-before (again n a k) rest =
     rw (rows-of-again n (forwardPart a done) (forwardPart k rest), rows-of-again n (forwardPart a done) (forwardPart k done), forward-before k rest)
     (simp append-assoc)
 
-pub adjoint-rows : (v : ℕ) (t : Body)
+adjoint-rows : (v : ℕ) (t : Body)
     → rowsIn (adjointTable v t) ≡ rowsIn (forwardPart t done) ++ (rowWith 17 0 0 0 ∷ rowsIn (backwardPart v t done))
 unfolding adjointTable rowOfAction
 adjoint-rows v t =
@@ -59,9 +59,9 @@ whole-is-table given mark t says noted =
     (sym (adjoint-rows (given .variables) (numbered mark t 0)))
 
 -- R
-pub rows-counted : (table : Table) → length (rowsIn table) ≡ rows table
+pub table-rows-counted : (table : Table) → length (rowsIn table) ≡ rows table
 unfolding rowsIn linesOf
-rows-counted table = length-map (linesOf table) tableRowOf ∙ lines-counted table
+table-rows-counted table = length-map (linesOf table) tableRowOf ∙ lines-counted table
 
 -- the count and the rows, written from word 0 on, are the table over the buffer
 pub buffer-overwritten : (buffer after : List ℕ) (count next : ℕ) (table : Table) → count ≡ rows table → Room buffer 1 (rowsIn table)
