@@ -18,7 +18,7 @@ fn put_byte(out: &mut [u8; MAX_ANSWER], used: usize, byte: u8) -> usize {
     used
 }
 
-pub fn put_text(out: &mut [u8; MAX_ANSWER], used: usize, text: &[u8]) -> usize {
+fn put_text(out: &mut [u8; MAX_ANSWER], used: usize, text: &[u8]) -> usize {
     let mut end = used;
     let mut at: usize = 0;
     while at < text.len() {
@@ -34,7 +34,6 @@ fn put_decimal(out: &mut [u8; MAX_ANSWER], used: usize, number: u64) -> usize {
     put_text(out, used, &digits[..count])
 }
 
-// A space and the number.
 pub fn put_spaced(out: &mut [u8; MAX_ANSWER], used: usize, number: u64) -> usize {
     let end = put_byte(out, used, b' ');
     put_decimal(out, end, number)

@@ -17,7 +17,7 @@ pub enum Form {
     Bits,
 }
 
-pub enum Field {
+enum Field {
     Number(u64),
     Bad,
 }

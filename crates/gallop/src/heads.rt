@@ -46,7 +46,7 @@ pub fn read_lengths(line: &[u8], from: usize, count: usize) -> Lengths
     Lengths::Bad
 }
 
-// As many as a sheet may have.
+// As many as there is room for.
 fn take_words(numbers: &[u64; MAX_FIELDS], words: &mut [u16; SHEET_WORDS]) {
     let mut at: usize = 0;
     while at < SHEET_WORDS {
@@ -65,7 +65,7 @@ pub fn read_words(line: &[u8], from: usize, words: &mut [u16; SHEET_WORDS]) -> G
     fields::at_most(SHEET_WORDS, group)
 }
 
-// As many words as the request has.
+// As many words as the request has. Its callers have lent the array to be filled, and here its length is known again.
 pub fn sheet_of(words: &[u16; SHEET_WORDS], count: usize) -> &[u16] {
     lend::first_words(words, count)
 }

@@ -13,7 +13,7 @@ pub struct Waiting {
     pub end: usize,
 }
 
-pub enum Byte {
+enum Byte {
     Is(u8, Waiting),
     End,
 }

@@ -93,6 +93,24 @@ fn run_lent(
     }
 }
 
+// Whether each buffer holds what the answer's number fixes, the printed part of the result apart.
+fn all_kept(
+    words: &[u16],
+    asked: Asked,
+    number: u16,
+    base: u64,
+    table: &[u16; TABLE_WORDS],
+    values: &[u64; PLACES],
+    turns: &[u16; PLACES],
+    result: &[u64; PLACES],
+) -> bool {
+    let table_kept = kept::table_stands(words, number, asked.room, table);
+    let values_kept = pattern::numbers_stand(values, base, 0, kept::cleared(number, asked.values));
+    let turns_kept = pattern::words_stand(turns, 0, kept::cleared(number, asked.turns));
+    let result_kept = pattern::numbers_stand(result, base, kept::printed(number, asked.result), 0);
+    table_kept & values_kept & turns_kept & result_kept
+}
+
 fn run_answer(
     words: &[u16],
     asked: Asked,
@@ -124,18 +142,11 @@ fn run_answer(
     let number = answer.number;
     let shown = kept::printed(number, asked.result);
     let used = put_result(out, answer, form_of(arithmetic), &result, shown);
-    let table_kept = kept::table_stands(words, number, asked.room, &table);
-    let values_kept = pattern::numbers_stand(&values, base, 0, kept::cleared(number, asked.values));
-    let turns_kept = pattern::words_stand(&turns, 0, kept::cleared(number, asked.turns));
-    let result_kept = pattern::numbers_stand(&result, base, shown, 0);
-    answers::put_kept(
-        out,
-        used,
-        table_kept & values_kept & turns_kept & result_kept,
-    )
+    let kept = all_kept(words, asked, number, base, &table, &values, &turns, &result);
+    answers::put_kept(out, used, kept)
 }
 
-// As many start values or seeds as the request has.
+// As many start values or seeds as the request has, of an array that was lent to be filled, as `heads::sheet_of`.
 fn given(numbers: &[u64; MAX_FIELDS], count: usize) -> &[u64] {
     lend::first_numbers(numbers, count)
 }
