@@ -2,6 +2,7 @@
 use Prim.Native.Nat.{ℕ, zero, suc, pred, _+_, _*_, _≤_, _<_}
 use mathlib.Core.Path.{_≡_, refl, sym, ap, _∙_, subst}
 use mathlib.Core.Logic.{_≢_, inl, inr}
+use mathlib.Core.Bool.{Bool, true, false}
 use mathlib.Core.List.{List, [], _∷_}
 use mathlib.Core.Option.{Option, none, some}
 use native.Mathlib.Decide.{decLt}
@@ -15,12 +16,14 @@ use Rattle.sheet.specs.Tree.{ifLine, elseLine, endIf, repeat, endRepeat}
 use Rattle.sheet.specs.Rows.{less, Row, rowOf}
 use Rattle.sheet.specs.Answers.{rowSaid}
 use Rattle.sheet.specs.Reading.{rowAt}
-use Rattle.table.specs.TableRows.{whether, onTurn, TableLine, tableRowOf}
-use Rattle.run.specs.Actions.{Setting, Verdict}
+use Rattle.table.specs.TableRows.{TableTest, whether, onTurn, TableLine, tableRowOf}
+use Rattle.run.specs.Actions.{Setting, verdictOn}
 use Rattle.run.specs.Machine.{itsElse, itsEnd, oneMore, seek, Repeat, State, Step, step, stepAt, goTo, jump, afterTest, afterTurn}
-use Rattle.run.specs.inner.Buffers.{memoryOf, Sound, Compares, TakesTurn}
+use Rattle.run.specs.inner.RowAnswers.{branchOf, turnOf, heightBranched}
+use Rattle.run.specs.inner.Buffers.{memoryOf, Sound, Tests, Compares, TakesTurn}
 use Rattle.run.specs.inner.Runnable.{Reached, Jumps}
-use Rattle.run.specs.inner.RowSteps.{stuckThere, Opened, Opens, Closes, JumpsTo, BranchesTo, TurnsTo, buffersAt, stateAt, raised, within, moved, following, preceding, CrossedLeft, MeetsRow, MeetsCompare, Meets, Blocked, CrossedSays, BlockRow, CrossesBy}
+use Rattle.run.specs.inner.RowSteps.{stuckThere, Opened, Opens, Closes, JumpsTo, BranchesTo, TurnsTo, CrossedLeft, CrossedSays, BlockRow, CrossesBy}
+use Rattle.run.specs.inner.RowSteps.{buffersAt, stateAt, raised, within, moved, following, preceding, MeetsRow, MeetsCompare, Meets, Blocked}
 use Rattle.run.specs.inner.RunsRows.{Cells, cellsOf}
 use Rattle.run.specs.declared.Place.{Place}
 use Rattle.run.specs.declared.Branch.{Branch}
@@ -39,19 +42,33 @@ use Rattle.run.proofs.LineLaws.{blockOf, block-said}
 use Rattle.run.proofs.OpenedLaws.{opened-length}
 use Rattle.run.proofs.StraightLaws.{stands-there, words-there}
 
--- ---- the steps that are left after a row
+-- ---- the branch that a test picks
 
-branch-left : (beyond : List ℕ) (at : ℕ) (next : Place) (b : Branch) (answer : Crossed) → BranchesTo beyond at next b answer
-    → CrossedLeft (suc (next .left)) answer
-branch-left beyond at next branch.First answer is = rw is refl
-branch-left beyond at next branch.Second answer jumps = jumps .left
-branch-left beyond at next branch.Stuck answer is = rw is tt
+-- the place after a test that leaves the turn stack at a height
+abbrev lowered : Place → (height : ℕ) → Place
+lowered next height = raised next (next .values) height
 
-turn-left : (beyond : List ℕ) (at : ℕ) (next : Place) (b : Branched) (answer : Crossed) → TurnsTo beyond at next b answer
-    → CrossedLeft (suc (next .left)) answer
-turn-left beyond at next (branched.First height) answer is = rw is refl
-turn-left beyond at next (branched.Second height) answer jumps = jumps .left
-turn-left beyond at next branched.Stuck answer is = rw is tt
+module _ (beyond : List ℕ) (at : ℕ) (next : Place) where
+  abbrev PicksTo : (height : ℕ) → (picked : Option Bool) → Crossed → Type 0
+  PicksTo height (some true) answer = answer ≡ crossed.On (lowered next height)
+  PicksTo height (some false) answer = JumpsTo beyond at (lowered next height) answer
+  PicksTo height none answer = answer ≡ stuckThere
+
+  branch-picks : (b : Branch) (answer : Crossed) → BranchesTo beyond at next b answer → PicksTo (next .turns) (branchOf b) answer
+  branch-picks branch.First answer to = to
+  branch-picks branch.Second answer to = to
+  branch-picks branch.Stuck answer to = to
+
+  turn-picks : (b : Branched) (answer : Crossed) → TurnsTo beyond at next b answer → PicksTo (heightBranched b (next .turns)) (turnOf b) answer
+  turn-picks (branched.First height) answer to = to
+  turn-picks (branched.Second height) answer to = to
+  turn-picks branched.Stuck answer to = to
+
+  -- the steps that are left
+  picks-left : (height : ℕ) (picked : Option Bool) (answer : Crossed) → PicksTo height picked answer → CrossedLeft (suc (next .left)) answer
+  picks-left height (some true) answer is = rw is refl
+  picks-left height (some false) answer jumps = jumps .left
+  picks-left height none answer is = rw is tt
 
 -- ---- what the code reads at a place
 
@@ -93,40 +110,37 @@ module _ {A : Arithmetic} where
       → afterTurn A state (r ∷ outer) ≡ goTo A (suc (r .start)) (record { start = r .start; left = n } ∷ outer) (state .memory)
   turn-back state r n outer is = rw is
 
-  module _ (beyond : List ℕ) (at : ℕ) (next : Place) where
-    -- what is to be shown of one line
-    abbrev pub Crosses : Setting A → (line : TableLine) → (rest : List TableLine) → List Repeat → (before after : Cells A) → (held : List (A .Carrier))
-        → (bodies toCome : List ℕ) → Crossed → Type 0
-    Crosses setting line rest repeats before after held bodies toCome answer =
-        CrossedSays A setting (preceding next at) bodies toCome after held (stepAt A setting (stateAt A (preceding next at) repeats before held) (line ∷ rest))
-        answer
+  -- what is to be shown of one line
+  record Crosses (at : ℕ) (next : Place) (setting : Setting A) (line : TableLine) (rest : List TableLine) (repeats : List Repeat)
+      (before after : Cells A) (held : List (A .Carrier)) (bodies toCome : List ℕ) (answer : Crossed) : Type 0 where
+    says : CrossedSays A setting (preceding next at) bodies toCome after held
+        (stepAt A setting (stateAt A (preceding next at) repeats before held) (line ∷ rest)) answer
 
+  module _ {at : ℕ} {next : Place} {setting : Setting A} {line : TableLine} {rest : List TableLine} {repeats : List Repeat}
+      {before after : Cells A} {held : List (A .Carrier)} {bodies toCome : List ℕ} {answer : Crossed} where
     -- the step goes on to a place
-    goes-to : (setting : Setting A) (line : TableLine) (rest : List TableLine) (repeats : List Repeat) (before after : Cells A) (held : List (A .Carrier))
-        (bodies toCome : List ℕ) (answer : Crossed) (to : Place) (open-then : List Repeat)
+    goes-to : (to : Place) (open-then : List Repeat)
         → answer ≡ crossed.On to
         → to .left ≡ next .left
         → Opened (to .depth) bodies toCome open-then
         → Sound A setting (buffersAt A to after held)
         → stepAt A setting (stateAt A (preceding next at) repeats before held) (line ∷ rest)
         ≡ goTo A (to .at) open-then (memoryOf A (buffersAt A to after held))
-        → Crosses setting line rest repeats before after held bodies toCome answer
-    goes-to setting line rest repeats before after held bodies toCome answer to open-then is left opened sound found =
-        subst (λ (r : Crossed). Crosses setting line rest repeats before after held bodies toCome r) (sym is)
-        (record { repeats = open-then; opened = opened; goes = record { is = found; fewer = ap suc (sym left); sound = sound } })
+        → Crosses at next setting line rest repeats before after held bodies toCome answer
+    goes-to to open-then is left opened sound found =
+        subst (λ (r : Crossed). Crosses at next setting line rest repeats before after held bodies toCome r) (sym is)
+        (record {
+          says = record { repeats = open-then; opened = opened; goes = record { is = found; fewer = ap suc (sym left); sound = sound } };
+        })
 
     -- the step is stuck
-    sticks-there : (setting : Setting A) (line : TableLine) (rest : List TableLine) (repeats : List Repeat) (before after : Cells A) (held : List (A .Carrier))
-        (bodies toCome : List ℕ) (answer : Crossed)
-        → answer ≡ stuckThere
-        → Blocked A (stepAt A setting (stateAt A (preceding next at) repeats before held) (line ∷ rest))
-        → Crosses setting line rest repeats before after held bodies toCome answer
-    sticks-there setting line rest repeats before after held bodies toCome answer is blocked =
-        subst (λ (r : Crossed). Crosses setting line rest repeats before after held bodies toCome r) (sym is) (inr blocked)
+    sticks-there : answer ≡ stuckThere → Blocked A (stepAt A setting (stateAt A (preceding next at) repeats before held) (line ∷ rest))
+        → Crosses at next setting line rest repeats before after held bodies toCome answer
+    sticks-there is blocked =
+        subst (λ (r : Crossed). Crosses at next setting line rest repeats before after held bodies toCome r) (sym is) (record { says = inr blocked })
 
     -- a jump over as many lines as a search finds
-    jumps-there : (setting : Setting A) (line : TableLine) (rest : List TableLine) (repeats : List Repeat) (before after : Cells A) (held : List (A .Carrier))
-        (bodies toCome : List ℕ) (answer : Crossed) (from : Place) (search-found : Option ℕ)
+    jumps-there : {beyond : List ℕ} (from : Place) (search-found : Option ℕ)
         → from .left ≡ next .left
         → Reached (oneMore search-found) at (getD beyond at 0)
         → JumpsTo beyond at from answer
@@ -134,85 +148,49 @@ module _ {A : Arithmetic} where
         → Sound A setting (buffersAt A from after held)
         → stepAt A setting (stateAt A (preceding next at) repeats before held) (line ∷ rest)
         ≡ jump A (stateAt A (preceding next at) repeats before held) (memoryOf A (buffersAt A from after held)) (oneMore search-found)
-        → Crosses setting line rest repeats before after held bodies toCome answer
-    jumps-there setting line rest repeats before after held bodies toCome answer from search-found left reached jumps opened sound found =
+        → Crosses at next setting line rest repeats before after held bodies toCome answer
+    jumps-there {beyond} from search-found left reached jumps opened sound found =
         let memory = memoryOf A (buffersAt A from after held) in
         let state = stateAt A (preceding next at) repeats before held in
         let positive = one-more-some search-found (reached .far) (reached .finds) in
         let arrives = reached .arrives in
         let here : at < length beyond = listed beyond at (omega arith) in
-        goes-to setting line rest repeats before after held bodies toCome answer (moved from (getD beyond at 0)) repeats (jumps .there here) left opened sound
+        goes-to (moved from (getD beyond at 0)) repeats (jumps .there here) left opened sound
         (found ∙ ap (λ (o : Option ℕ). jump A state memory o) (reached .finds) ∙ ap (λ (n : ℕ). goTo A n repeats memory) (sym arrives))
 
-    -- ---- kind 7
-
-    module _ (setting : Setting A) (rest : List TableLine) (repeats : List Repeat) (a b : ℕ) (store values : List (A .Carrier)) (turns : List ℕ)
-        (copied held : List (A .Carrier)) (bodies toCome : List ℕ) (answer : Crossed) where
-      compare-crosses : (lines : List TableLine) (picked : Branch) → next .at ≡ suc at → drop at lines ≡ ifLine (whether (less a b)) ∷ rest
-          → Jumps lines beyond
-          → Opened (next .depth) bodies toCome repeats
-          → Sound A setting (buffersAt A next (cellsOf A store values turns copied) held)
-          → Compares A a b store picked
-          → BranchesTo beyond at next picked answer
-          → Crosses setting (ifLine (whether (less a b))) rest repeats (cellsOf A store values turns copied) (cellsOf A store values turns copied) held bodies
-          toCome answer
-      unfolding stepAt
-      compare-crosses lines branch.First follows here jumps opened sound compares is =
-          let cells = cellsOf A store values turns copied in
-          let tests = compares .tests setting values (next .values) turns (next .turns) held sound in
-          goes-to setting (ifLine (whether (less a b))) rest repeats cells cells held bodies toCome answer next repeats is refl opened sound
-          (ap (λ (v : Option (Verdict A)). afterTest A (stateAt A (preceding next at) repeats cells held) rest v) (sym (tests .meaning))
-          ∙ ap (λ (n : ℕ). goTo A n repeats (memoryOf A (buffersAt A next cells held))) (sym follows))
-      compare-crosses lines branch.Second follows here jumps opened sound compares is =
-          let cells = cellsOf A store values turns copied in
-          let tests = compares .tests setting values (next .values) turns (next .turns) held sound in
-          jumps-there setting (ifLine (whether (less a b))) rest repeats cells cells held bodies toCome answer next (seek itsElse 0 rest) refl
-          (jumps .fromIf at (whether (less a b)) rest here) is opened sound
-          (ap (λ (v : Option (Verdict A)). afterTest A (stateAt A (preceding next at) repeats cells held) rest v) (sym (tests .meaning)))
-      compare-crosses lines branch.Stuck follows here jumps opened sound compares is =
-          let cells = cellsOf A store values turns copied in
-          let tests = compares .tests setting values (next .values) turns (next .turns) held sound in
-          let found = ap (λ (v : Option (Verdict A)). afterTest A (stateAt A (preceding next at) repeats cells held) rest v) (sym (tests .meaning)) in
-          sticks-there setting (ifLine (whether (less a b))) rest repeats cells cells held bodies toCome answer is
-          (subst (λ (s : Step A). Blocked A s) (sym found) tt)
-
-      -- ---- kind 15
-
-      turn-crosses : (lines : List TableLine) (picked : Branched) (turnsAfter : List ℕ) → next .at ≡ suc at → drop at lines ≡ ifLine onTurn ∷ rest
-          → Jumps lines beyond
-          → Opened (next .depth) bodies toCome repeats
-          → Sound A setting (buffersAt A next (cellsOf A store values turns copied) held)
-          → TakesTurn A turns (next .turns) turnsAfter picked
-          → TurnsTo beyond at next picked answer
-          → Crosses setting (ifLine onTurn) rest repeats (cellsOf A store values turns copied) (cellsOf A store values turnsAfter copied) held bodies toCome
-          answer
-      unfolding stepAt
-      turn-crosses lines (branched.First height) turnsAfter follows here jumps opened sound takes is =
-          let before = cellsOf A store values turns copied in
-          let after = cellsOf A store values turnsAfter copied in
-          let to = raised next (next .values) height in
-          let tests = takes .tests setting store values (next .values) held sound in
-          goes-to setting (ifLine onTurn) rest repeats before after held bodies toCome answer to repeats is refl opened (tests .sound)
-          (ap (λ (v : Option (Verdict A)). afterTest A (stateAt A (preceding next at) repeats before held) rest v) (sym (tests .meaning))
-          ∙ ap (λ (n : ℕ). goTo A n repeats (memoryOf A (buffersAt A to after held))) (sym follows))
-      turn-crosses lines (branched.Second height) turnsAfter follows here jumps opened sound takes is =
-          let before = cellsOf A store values turns copied in
-          let after = cellsOf A store values turnsAfter copied in
-          let tests = takes .tests setting store values (next .values) held sound in
-          jumps-there setting (ifLine onTurn) rest repeats before after held bodies toCome answer (raised next (next .values) height) (seek itsElse 0 rest) refl
-          (jumps .fromIf at onTurn rest here) is opened (tests .sound)
-          (ap (λ (v : Option (Verdict A)). afterTest A (stateAt A (preceding next at) repeats before held) rest v) (sym (tests .meaning)))
-      turn-crosses lines branched.Stuck turnsAfter follows here jumps opened sound takes is =
-          let before = cellsOf A store values turns copied in
-          let after = cellsOf A store values turnsAfter copied in
-          let tests = takes .tests setting store values (next .values) held sound in
-          let found = ap (λ (v : Option (Verdict A)). afterTest A (stateAt A (preceding next at) repeats before held) rest v) (sym (tests .meaning)) in
-          sticks-there setting (ifLine onTurn) rest repeats before after held bodies toCome answer is (subst (λ (s : Step A). Blocked A s) (sym found) tt)
+  -- kinds 7 and 15
+  module _ {beyond : List ℕ} {at : ℕ} {next : Place} {setting : Setting A} {lines rest : List TableLine} {repeats : List Repeat}
+      {before after : Cells A} {held : List (A .Carrier)} {bodies toCome : List ℕ} {answer : Crossed}
+      (test : TableTest) (height : ℕ)
+      (follows : next .at ≡ suc at)
+      (here : drop at lines ≡ ifLine test ∷ rest)
+      (jumps : Jumps lines beyond)
+      (opened : Opened (next .depth) bodies toCome repeats) where
+    test-crosses : (picked : Option Bool)
+        → Tests A setting test (buffersAt A next before held) (buffersAt A (lowered next height) after held) picked
+        → PicksTo beyond at next height picked answer
+        → Crosses at next setting (ifLine test) rest repeats before after held bodies toCome answer
+    unfolding stepAt
+    test-crosses picked tests picks =
+        by-branch picked picks (tests .sound) (ap (afterTest A (stateAt A (preceding next at) repeats before held) rest) (sym (tests .meaning)))
+      where
+        by-branch : (picked : Option Bool) → PicksTo beyond at next height picked answer
+            → Sound A setting (buffersAt A (lowered next height) after held)
+            → stepAt A setting (stateAt A (preceding next at) repeats before held) (ifLine test ∷ rest)
+            ≡ afterTest A (stateAt A (preceding next at) repeats before held) rest
+            (verdictOn A (memoryOf A (buffersAt A (lowered next height) after held)) picked)
+            → Crosses at next setting (ifLine test) rest repeats before after held bodies toCome answer
+        by-branch (some true) is sound found =
+            goes-to (lowered next height) repeats is refl opened sound
+            (found ∙ ap (λ (n : ℕ). goTo A n repeats (memoryOf A (buffersAt A (lowered next height) after held))) (sym follows))
+        by-branch (some false) jumping sound found =
+            jumps-there (lowered next height) (seek itsElse 0 rest) refl (jumps .fromIf at test rest here) jumping opened sound found
+        by-branch none is sound found = sticks-there is (subst (λ (s : Step A). Blocked A s) (sym found) tt)
 
   -- ---- the line that a row's words say
 
   module _ {beyond : List ℕ} {at : ℕ} {next : Place} {row : Row} {turns bodies toCome : List ℕ} where
-    crosses-as : (line : TableLine) (turnsAfter bodiesAfter toComeAfter : List ℕ) (answer : Crossed) → blockOf row ≡ some line
+    crosses-as : (line : TableLine) {turnsAfter bodiesAfter toComeAfter : List ℕ} {answer : Crossed} → blockOf row ≡ some line
         → CrossedLeft (suc (next .left)) answer
         → ((setting : Setting A) (lines rest : List TableLine) (repeats : List Repeat) (store values copied held : List (A .Carrier))
         → tableRowOf line ≡ row
@@ -222,10 +200,10 @@ module _ {A : Arithmetic} where
         → Opened (next .depth) bodies toCome repeats
         → next .depth ≤ limit .depth
         → Sound A setting (buffersAt A next (cellsOf A store values turns copied) held)
-        → Crosses beyond at next setting line rest repeats (cellsOf A store values turns copied) (cellsOf A store values turnsAfter copied) held bodiesAfter toComeAfter
-        answer)
+        → Crosses at next setting line rest repeats (cellsOf A store values turns copied) (cellsOf A store values turnsAfter copied) held
+        bodiesAfter toComeAfter answer)
         → CrossesBy A row beyond at next turns bodies toCome turnsAfter bodiesAfter toComeAfter answer
-    crosses-as line turnsAfter bodiesAfter toComeAfter answer said left crosses =
+    crosses-as line {turnsAfter} {bodiesAfter} {toComeAfter} {answer} said left crosses =
         record {
           left = left;
           crosses = λ setting lines rest other repeats store values copied held words not-if follows here jumps none-straight opened shallow sound.
@@ -235,105 +213,90 @@ module _ {A : Arithmetic} where
               ∙ block-said other (λ basic-row is. none-straight basic-row rest (here ∙ ap (λ (l : TableLine). l ∷ rest) is)) in
               let same : line ≡ other = cc in
               subst
-              (λ (l : TableLine). Crosses beyond at next setting l rest repeats (cellsOf A store values turns copied) (cellsOf A store values turnsAfter copied)
-              held bodiesAfter toComeAfter answer)
+              (λ (l : TableLine). Crosses at next setting l rest repeats (cellsOf A store values turns copied)
+              (cellsOf A store values turnsAfter copied) held bodiesAfter toComeAfter answer)
               same
               (crosses setting lines rest repeats store values copied held (ap tableRowOf same ∙ words) follows
               (here ∙ ap (λ (l : TableLine). l ∷ rest) (sym same))
-              jumps opened shallow sound);
+              jumps opened shallow sound) .says;
         }
 
     pub else-crosses : {answer : Crossed} → row .kind ≡ 8 → JumpsTo beyond at next answer
         → CrossesBy A row beyond at next turns bodies toCome turns bodies toCome answer
     unfolding blockOf stepAt
-    else-crosses {answer} kind to =
-        crosses-as elseLine turns bodies toCome answer (rw kind) (to .left)
+    else-crosses kind to =
+        crosses-as elseLine (rw kind) (to .left)
         (λ setting lines rest repeats store values copied held words follows here jumps opened shallow sound.
-        let cells = cellsOf A store values turns copied in
-        jumps-there beyond at next setting elseLine rest repeats cells cells held bodies toCome answer next (seek itsEnd 0 rest) refl (jumps .fromElse at rest here) to opened sound refl)
+        jumps-there next (seek itsEnd 0 rest) refl (jumps .fromElse at rest here) to opened sound refl)
 
     pub end-if-crosses : row .kind ≡ 9 → CrossesBy A row beyond at next turns bodies toCome turns bodies toCome (crossed.On next)
     unfolding blockOf stepAt
     end-if-crosses kind =
-        crosses-as endIf turns bodies toCome (crossed.On next) (rw kind) refl
+        crosses-as endIf (rw kind) refl
         (λ setting lines rest repeats store values copied held words follows here jumps opened shallow sound.
-        let cells = cellsOf A store values turns copied in
-        goes-to beyond at next setting endIf rest repeats cells cells held bodies toCome (crossed.On next) next repeats refl refl opened sound
-        (ap (λ (n : ℕ). goTo A n repeats (memoryOf A (buffersAt A next cells held))) (sym follows)))
+        goes-to next repeats refl refl opened sound
+        (ap (λ (n : ℕ). goTo A n repeats (memoryOf A (buffersAt A next (cellsOf A store values turns copied) held))) (sym follows)))
 
     pub repeat-crosses : {bodiesAfter toComeAfter : List ℕ} {answer : Crossed} → row .kind ≡ 10
         → Opens (row .a) next bodies toCome bodiesAfter toComeAfter answer
         → CrossesBy A row beyond at next turns bodies toCome turns bodiesAfter toComeAfter answer
     unfolding blockOf stepAt tableRowOf rowOf
     repeat-crosses {bodiesAfter} {toComeAfter} {answer} kind opens =
-        crosses-as (repeat (pred (row .a))) turns bodiesAfter toComeAfter answer (rw kind) (opens .left)
+        crosses-as (repeat (pred (row .a))) (rw kind) (opens .left)
         (λ setting lines rest repeats store values copied held words follows here jumps opened shallow sound.
-        by-room setting rest repeats (cellsOf A store values turns copied) held (sym (ap (λ (r : Row). r .a) words)) follows opened sound
-        (decLt (next .depth) (limit .depth)))
+        by-room (sym (ap (λ (r : Row). r .a) words)) follows opened sound (decLt (next .depth) (limit .depth)))
       where
-        by-room : (setting : Setting A) (rest : List TableLine) (repeats : List Repeat) (cells : Cells A) (held : List (A .Carrier))
+        by-room : {setting : Setting A} {rest : List TableLine} {repeats : List Repeat} {cells : Cells A} {held : List (A .Carrier)}
             → row .a ≡ suc (pred (row .a))
             → next .at ≡ suc at
             → Opened (next .depth) bodies toCome repeats
             → Sound A setting (buffersAt A next cells held)
             → Dec (next .depth < limit .depth)
-            → Crosses beyond at next setting (repeat (pred (row .a))) rest repeats cells cells held bodiesAfter toComeAfter answer
-        by-room setting rest repeats cells held count follows opened sound (yes room) =
+            → Crosses at next setting (repeat (pred (row .a))) rest repeats cells cells held bodiesAfter toComeAfter answer
+        by-room {setting} {rest} {repeats} {cells} {held} count follows opened sound (yes room) =
             let m = pred (row .a) in
-            goes-to beyond at next setting (repeat m) rest repeats cells cells held bodiesAfter toComeAfter answer (within next (suc (next .depth)))
-            (record { start = at; left = m } ∷ repeats)
-            (opens .room room m count)
-            refl
-            (opens .opened room m at repeats count follows opened)
-            sound
+            goes-to (within next (suc (next .depth))) (record { start = at; left = m } ∷ repeats) (opens .room room m count) refl
+            (opens .opened room m at repeats count follows opened) sound
             (ap (λ (n : ℕ). goTo A n (record { start = at; left = m } ∷ repeats) (memoryOf A (buffersAt A next cells held))) (sym follows))
-        by-room setting rest repeats cells held count follows opened sound (no full) =
+        by-room {setting} {rest} {repeats} {cells} {held} count follows opened sound (no full) =
             let deep = opened-length (next .depth) bodies toCome repeats opened in
-            sticks-there beyond at next setting (repeat (pred (row .a))) rest repeats cells cells held bodiesAfter toComeAfter answer (opens .full (omega arith)) (omega arith)
+            sticks-there (opens .full (omega arith)) (omega arith)
 
     pub end-repeat-crosses : {bodiesAfter toComeAfter : List ℕ} {answer : Crossed} → row .kind ≡ 11
         → Closes next bodies toCome bodiesAfter toComeAfter answer
         → CrossesBy A row beyond at next turns bodies toCome turns bodiesAfter toComeAfter answer
     unfolding blockOf stepAt
     end-repeat-crosses {bodiesAfter} {toComeAfter} {answer} kind closes =
-        crosses-as endRepeat turns bodiesAfter toComeAfter answer (rw kind) (closes .left)
+        crosses-as endRepeat (rw kind) (closes .left)
         (λ setting lines rest repeats store values copied held words follows here jumps opened shallow sound.
-        by-repeats setting rest repeats (cellsOf A store values turns copied) held follows opened shallow sound)
+        by-repeats repeats follows opened shallow sound)
       where
-        by-left : (setting : Setting A) (rest : List TableLine) (r : Repeat) (outer : List Repeat) (cells : Cells A) (held : List (A .Carrier)) (left : ℕ)
+        by-left : {setting : Setting A} {rest : List TableLine} {cells : Cells A} {held : List (A .Carrier)}
+            (r : Repeat) (outer : List Repeat) (left : ℕ)
             → r .left ≡ left
             → next .at ≡ suc at
             → Opened (next .depth) bodies toCome (r ∷ outer)
             → next .depth ≤ limit .depth
             → Sound A setting (buffersAt A next cells held)
-            → Crosses beyond at next setting endRepeat rest (r ∷ outer) cells cells held bodiesAfter toComeAfter answer
-        by-left setting rest r outer cells held zero left follows opened shallow sound =
+            → Crosses at next setting endRepeat rest (r ∷ outer) cells cells held bodiesAfter toComeAfter answer
+        by-left {setting} {rest} {cells} {held} r outer zero left follows opened shallow sound =
             let out = closes .out shallow r outer opened left in
-            goes-to beyond at next setting endRepeat rest (r ∷ outer) cells cells held bodiesAfter toComeAfter answer (within next (pred (next .depth))) outer (out .0) refl
-            (out .1)
-            sound
+            goes-to (within next (pred (next .depth))) outer (out .0) refl (out .1) sound
             (turn-out (stateAt A (preceding next at) (r ∷ outer) cells held) r outer left
             ∙ ap (λ (n : ℕ). goTo A n outer (memoryOf A (buffersAt A next cells held))) (sym follows))
-        by-left setting rest r outer cells held (suc n) left follows opened shallow sound =
+        by-left {setting} {rest} {cells} {held} r outer (suc n) left follows opened shallow sound =
             let back = closes .back shallow r n outer opened left in
-            goes-to beyond at next setting endRepeat rest (r ∷ outer) cells cells held bodiesAfter toComeAfter answer (moved next (suc (r .start)))
-            (record { start = r .start; left = n } ∷ outer)
-            (back .0)
-            refl
-            (back .1)
-            sound
+            goes-to (moved next (suc (r .start))) (record { start = r .start; left = n } ∷ outer) (back .0) refl (back .1) sound
             (turn-back (stateAt A (preceding next at) (r ∷ outer) cells held) r n outer left)
 
-        by-repeats : (setting : Setting A) (rest : List TableLine) (repeats : List Repeat) (cells : Cells A) (held : List (A .Carrier))
+        by-repeats : {setting : Setting A} {rest : List TableLine} {cells : Cells A} {held : List (A .Carrier)} (repeats : List Repeat)
             → next .at ≡ suc at
             → Opened (next .depth) bodies toCome repeats
             → next .depth ≤ limit .depth
             → Sound A setting (buffersAt A next cells held)
-            → Crosses beyond at next setting endRepeat rest repeats cells cells held bodiesAfter toComeAfter answer
-        by-repeats setting rest [] cells held follows opened shallow sound =
-            sticks-there beyond at next setting endRepeat rest [] cells cells held bodiesAfter toComeAfter answer (closes .none opened) tt
-        by-repeats setting rest (r ∷ outer) cells held follows opened shallow sound =
-            by-left setting rest r outer cells held (r .left) refl follows opened shallow sound
+            → Crosses at next setting endRepeat rest repeats cells cells held bodiesAfter toComeAfter answer
+        by-repeats [] follows opened shallow sound = sticks-there (closes .none opened) tt
+        by-repeats (r ∷ outer) follows opened shallow sound = by-left r outer (r .left) refl follows opened shallow sound
 
     pub on-turn-crosses : {picked : Branched} {turnsAfter : List ℕ} {answer : Crossed} → row .kind ≡ 15
         → TakesTurn A turns (next .turns) turnsAfter picked
@@ -341,10 +304,11 @@ module _ {A : Arithmetic} where
         → CrossesBy A row beyond at next turns bodies toCome turnsAfter bodies toCome answer
     unfolding blockOf
     on-turn-crosses {picked} {turnsAfter} {answer} kind takes to =
-        crosses-as (ifLine onTurn) turnsAfter bodies toCome answer (rw kind) (turn-left beyond at next picked answer to)
+        let height = heightBranched picked (next .turns) in
+        let picks = turn-picks beyond at next picked answer to in
+        crosses-as (ifLine onTurn) (rw kind) (picks-left beyond at next height (turnOf picked) answer picks)
         (λ setting lines rest repeats store values copied held words follows here jumps opened shallow sound.
-        turn-crosses beyond at next setting rest repeats 0 0 store values turns copied held bodies toCome answer lines picked turnsAfter follows here jumps opened sound takes
-        to)
+        test-crosses onTurn height follows here jumps opened (turnOf picked) (takes .tests setting store values (next .values) held sound) picks)
 
     -- no line has another kind
     pub never-crosses : row .kind ≢ 8 → row .kind ≢ 9 → row .kind ≢ 10 → row .kind ≢ 11 → row .kind ≢ 15
@@ -374,22 +338,20 @@ module _ {A : Arithmetic} where
   -- ---- the row at a place
 
   -- the step at the line that stands there
-  found-there : (place : Place) (left : ℕ) (spends : place .left ≡ suc left) (beyond turns bodiesAfter toComeAfter turnsAfter : List ℕ) (answer : Crossed)
-      (setting : Setting A) (lines rest : List TableLine) (line : TableLine) (repeats : List Repeat) (store values copied held : List (A .Carrier))
+  found-there : (place : Place) {left : ℕ} (lines : List TableLine) {rest : List TableLine} {line : TableLine} (setting : Setting A)
+      (repeats : List Repeat) (before after : Cells A) (held : List (A .Carrier)) (bodies toCome : List ℕ) (answer : Crossed)
+      → place .left ≡ suc left
       → drop (place .at) lines ≡ line ∷ rest
-      → Crosses beyond (place .at) (following place (place .at + 1) left) setting line rest repeats (cellsOf A store values turns copied)
-      (cellsOf A store values turnsAfter copied) held bodiesAfter toComeAfter answer
-      → CrossedSays A setting place bodiesAfter toComeAfter (cellsOf A store values turnsAfter copied) held
-      (step A setting lines (stateAt A place repeats (cellsOf A store values turns copied) held)) answer
+      → Crosses (place .at) (following place (place .at + 1) left) setting line rest repeats before after held bodies toCome answer
+      → CrossedSays A setting place bodies toCome after held (step A setting lines (stateAt A place repeats before held)) answer
   unfolding step
-  found-there place left spends beyond turns bodiesAfter toComeAfter turnsAfter answer setting lines rest line repeats store values copied held here crosses =
+  found-there place {left} lines {rest} {line} setting repeats before after held bodies toCome answer spends here crosses =
       let same-place : preceding (following place (place .at + 1) left) (place .at) ≡ place = rw (sym spends) in
       rw here
       (subst
-      (λ (p : Place). CrossedSays A setting p bodiesAfter toComeAfter (cellsOf A store values turnsAfter copied) held
-      (stepAt A setting (stateAt A p repeats (cellsOf A store values turns copied) held) (line ∷ rest)) answer)
+      (λ (p : Place). CrossedSays A setting p bodies toCome after held (stepAt A setting (stateAt A p repeats before held) (line ∷ rest)) answer)
       same-place
-      crosses)
+      (crosses .says))
 
   module _ {table : List ℕ} {rows : ℕ} {beyond : List ℕ} {place : Place} {store : List (A .Carrier)} {turns bodies toCome : List ℕ} {met : Met} where
     pub block-leaves : {how : Ended} → Meets table rows place met → met ≡ met-as.Out how
@@ -427,10 +389,12 @@ module _ {A : Arithmetic} where
           steps = λ setting lines repeats values copied held holds count jumps none-straight opened shallow sound.
               let line = stands-there lines (place .at) (rw count (there .within)) in
               let words = words-there table lines (line .rest) (line .line) (place .at) (rowSaid row) holds (there .said) (line .is) in
-              found-there place left spends beyond turns bodiesAfter toComeAfter turnsAfter answer setting lines (line .rest) (line .line) repeats store values
-              copied held (line .is)
-              (done .crosses setting lines (line .rest) (line .line) repeats store values copied held words not-if (add-one (place .at)) (line .is) jumps
-              none-straight opened shallow sound);
+              found-there place lines setting repeats (cellsOf A store values turns copied) (cellsOf A store values turnsAfter copied) held
+              bodiesAfter toComeAfter answer spends (line .is)
+              (record {
+                says = done .crosses setting lines (line .rest) (line .line) repeats store values copied held words not-if (add-one (place .at))
+                    (line .is) jumps none-straight opened shallow sound;
+              });
         }
 
     pub block-compares : {a b : Variable} {next : Place} {picked : Branch} {answer : Crossed} → Meets table rows place met
@@ -446,8 +410,9 @@ module _ {A : Arithmetic} where
         let spends = there .meets .follows .spends in
         let goes = rw (there .meets .follows .is) at to in
         let follow = following place (place .at + 1) left in
+        let picks = branch-picks beyond (place .at) follow picked answer goes in
         record {
-          left = rw spends (branch-left beyond (place .at) follow picked answer goes);
+          left = rw spends (picks-left beyond (place .at) follow (place .turns) (branchOf picked) answer picks);
           steps = λ setting lines repeats values copied held holds count jumps none-straight opened shallow sound.
               let line = stands-there lines (place .at) (rw count (there .meets .within)) in
               let words = words-there table lines (line .rest) (line .line) (place .at) row holds (there .meets .said) (line .is) in
@@ -459,8 +424,8 @@ module _ {A : Arithmetic} where
               (λ basic-row is. none-straight basic-row (line .rest) (line .is ∙ ap (λ (l : TableLine). l ∷ line .rest) is)) in
               let same : ifLine (whether (less (a .0) (b .0))) ≡ line .line = cc in
               let here = line .is ∙ ap (λ (l : TableLine). l ∷ line .rest) (sym same) in
-              found-there place left spends beyond turns bodies toCome turns answer setting lines (line .rest) (ifLine (whether (less (a .0) (b .0)))) repeats
-              store values copied held here
-              (compare-crosses beyond (place .at) follow setting (line .rest) repeats (a .0) (b .0) store values turns copied held bodies toCome answer lines
-              picked (add-one (place .at)) here jumps opened sound compares goes);
+              let cells = cellsOf A store values turns copied in
+              found-there place lines setting repeats cells cells held bodies toCome answer spends here
+              (test-crosses (whether (less (a .0) (b .0))) (place .turns) (add-one (place .at)) here jumps opened (branchOf picked)
+              (compares .tests setting values (place .values) turns (place .turns) held sound) picks);
         }
