@@ -31,6 +31,7 @@ use Rattle.claims.proofs.RunInTheLarge.{knownIn, marksOf, turningOf, me
 use Rattle.claims.proofs.WholeRunMatches.{own-run-matches}
 use Rattle.claims.proofs.RunsAnswer.{unstuck-run}
 use Rattle.claims.proofs.AtTurningRound.{forward-lines, saved-exactly}
+use Rattle.claims.proofs.SavesOnlyRecorded.{saves-only-recorded}
 
 module _ (A : Arithmetic) (words : List ℕ) (sheet : Sheet) (accepted : read words ≡ given sheet) (starts seeds : List (A .Carrier))
     (n : length starts ≡ variablesOf sheet) where
@@ -149,6 +150,7 @@ module _ (A : Arithmetic) (words : List ℕ) (sheet : Sheet) (accepted : read wo
   all-of-it valueRoom turnRoom values turns =
       record {
         never = never-stuck valueRoom turnRoom values turns;
+        savesOnly = saves-only-recorded sheet;
         saves = saved-at-turning valueRoom turnRoom values turns;
         replays = replays-in-reverse valueRoom turnRoom values turns;
         ends = matches valueRoom turnRoom values turns;

@@ -36,6 +36,7 @@ pub mod RunInTheLarge
 pub mod WholeRunMatches
 pub mod RunsAnswer
 pub mod AtTurningRound
+pub mod SavesOnlyRecorded
 pub mod DemandThreeHolds
 pub mod DemandOneHolds
 -- demand 2: equation (2)

@@ -2,19 +2,19 @@
 -- crates/sets/specs/Equations.antt.
 use Prim.Native.Nat.{ℕ, _≤_, _<_}
 use mathlib.Core.Path.{_≡_}
-use mathlib.Core.Bool.{cond}
+use mathlib.Core.Bool.{true, cond}
 use mathlib.Core.List.{List, [], _∷_, _++_, map}
 use lib.ListN.{length, getD, take, drop}
 use Rattle.number.specs.Arithmetic.{Arithmetic}
 use Rattle.number.specs.Residues.{modulus, residues}
-use Rattle.sheet.specs.Tree.{Tree, done, one, fork, again, basic, RowNumber}
+use Rattle.sheet.specs.Tree.{Tree, done, one, fork, again, basic, flat, RowNumber}
 use Rattle.sheet.specs.Refusals.{given}
-use Rattle.sheet.specs.Rows.{Assignment, Test, isIndependent}
+use Rattle.sheet.specs.Rows.{Assignment, Test, SheetLine, isIndependent}
 use Rattle.sheet.specs.Reading.{Sheet, variablesOf, read}
 use Rattle.sets.specs.Equations.{Least}
 use Rattle.sets.specs.Marks.{marked, varied, useful, required, variedEquations, usefulEquations, requiredEquations, activityAt}
-use Rattle.table.specs.TableRows.{TableLine, TableRow, Origin, ofTurningRound, turnRound, turnWord, linesOf, tableWords}
-use Rattle.table.specs.Adjoint.{tableOf}
+use Rattle.table.specs.TableRows.{TableLine, TableRow, Origin, ofRow, ofTurningRound, saving, save, turnRound, turnWord, linesOf, tableWords}
+use Rattle.table.specs.Adjoint.{targetOf, tableOf}
 use Rattle.table.specs.Sizes.{valuesNeeded, turnsNeeded}
 use Rattle.table.specs.Calls.{checkedSaid, check, writtenOf, write}
 use Rattle.table.specs.declared.Checked as declared
@@ -130,6 +130,16 @@ WithoutIf (one b k) = WithoutIf k
 WithoutIf (fork f a b k) = ⊥
 WithoutIf (again n a k) = WithoutIf a × WithoutIf k
 
+-- a table row of this origin that saves d comes from a recorded assignment of the sheet, whose target d is
+pub record SavesRecorded (sheet : Sheet) (origin : Origin) (d : ℕ) : Type 0 where
+  pub row : RowNumber
+  pub assignment : Assignment
+  pub below : List SheetLine
+  pub there : drop (row .index) (flat (sheet .body) []) ≡ basic assignment ∷ below
+  pub comesFrom : origin ≡ ofRow row saving
+  pub target : targetOf assignment ≡ d
+  pub recorded : recordedIn sheet (row .index) assignment ≡ true
+
 module _ (A : Arithmetic) (sheet : Sheet) (starts seeds : List (A .Carrier)) (valueRoom turnRoom : ℕ) where
   abbrev pub setting : Setting A
   setting = settingOf A sheet seeds valueRoom turnRoom
@@ -170,6 +180,9 @@ module _ (A : Arithmetic) (sheet : Sheet) (starts seeds : List (A .Carrier)) (va
   -- All of it, unless a double leaves the finite range while the sheet itself is executed. "both stacks end empty" is in `ends`.
   pub record DemandThree : Type 0 where
     pub never : NeverStuck
+    -- "only recorded values .. are saved", of every row of the table, whether or not a run comes to it
+    pub savesOnly : (i d : ℕ) (origin : Origin) (rest : List TableLine)
+        → drop i lines ≡ basic (record { origin = origin; action = save d }) ∷ rest → SavesRecorded sheet origin d
     pub saves : (progress : Progress A) → execution A sheet starts ≡ through progress → SavedAtTurning progress
     pub replays : (progress : Progress A) → execution A sheet starts ≡ through progress → ReplaysInReverse progress
     pub ends : Matches A (variablesOf sheet) (ideal A sheet setting starts) (runOf A (tableOf sheet) setting (startOf A sheet starts))
