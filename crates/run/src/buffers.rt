@@ -109,20 +109,20 @@ fn put_residue_adjoints(roles: &[u16], adjoints: &[u32], into: &mut [u32])
 }
 
 // The result of a run that has finished: what row 17 copied, then each independent's adjoint.
-pub fn write_doubles(roles: &[u16], copied: &[f64], vals: &[f64], result: &mut [f64])
-    requires { ⌜ ResultFits (now roles) (now copied) (now vals) (now result) ⌝ }
-    ensures { λ r. ⌜ now (result .exit) ≡ resultFrom doubles (now (roles .entry)) (now (copied .entry)) (now (vals .entry)) ⌝ }
+pub fn write_doubles(roles: &[u16], copied: &[f64], store: &[f64], result: &mut [f64])
+    requires { ⌜ ResultFits (now roles) (now copied) (now store) (now result) ⌝ }
+    ensures { λ r. ⌜ now (result .exit) ≡ resultFrom doubles (now (roles .entry)) (now (copied .entry)) (now (store .entry)) ⌝ }
 {
     let variables = roles.len();
     copy_doubles(copied, result);
-    put_double_adjoints(roles, &vals[variables..], &mut result[variables..]);
+    put_double_adjoints(roles, &store[variables..], &mut result[variables..]);
 }
 
-pub fn write_residues(roles: &[u16], copied: &[u32], vals: &[u32], result: &mut [u32])
-    requires { ⌜ ResultFits (now roles) (now copied) (now vals) (now result) ⌝ }
-    ensures { λ r. ⌜ now (result .exit) ≡ resultFrom residues (now (roles .entry)) (now (copied .entry)) (now (vals .entry)) ⌝ }
+pub fn write_residues(roles: &[u16], copied: &[u32], store: &[u32], result: &mut [u32])
+    requires { ⌜ ResultFits (now roles) (now copied) (now store) (now result) ⌝ }
+    ensures { λ r. ⌜ now (result .exit) ≡ resultFrom residues (now (roles .entry)) (now (copied .entry)) (now (store .entry)) ⌝ }
 {
     let variables = roles.len();
     copy_residues(copied, result);
-    put_residue_adjoints(roles, &vals[variables..], &mut result[variables..]);
+    put_residue_adjoints(roles, &store[variables..], &mut result[variables..]);
 }

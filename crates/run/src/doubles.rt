@@ -54,12 +54,12 @@ fn read_of(outcome: Outcome) -> DoubleRead
 }
 
 // Kind 1.
-pub fn copied(vals: &[f64], a: Variable) -> DoubleRead
-    ensures { λ r. ⌜ Evaluates doubles (copy (a .0)) (now (vals .entry)) (readDouble r) ⌝ }
+pub fn copied(store: &[f64], a: Variable) -> DoubleRead
+    ensures { λ r. ⌜ Evaluates doubles (copy (a .0)) (now (store .entry)) (readDouble r) ⌝ }
 {
     let first = a.0;
-    if first < vals.len() {
-        DoubleRead::Is(vals[first])
+    if first < store.len() {
+        DoubleRead::Is(store[first])
     } else {
         DoubleRead::Stuck
     }
@@ -77,87 +77,87 @@ pub fn fixed(constants: &[u16], c: usize) -> DoubleRead
 }
 
 // Both operands of kinds 3 to 5 and 7.
-fn operands(vals: &[f64], a: Variable, b: Variable) -> DoublePair
-    ensures { λ r. ⌜ Operands doubles (a .0) (b .0) (now (vals .entry)) (pairOfDoubles r) ⌝ }
+fn operands(store: &[f64], a: Variable, b: Variable) -> DoublePair
+    ensures { λ r. ⌜ Operands doubles (a .0) (b .0) (now (store .entry)) (pairOfDoubles r) ⌝ }
 {
     let first = a.0;
     let second = b.0;
-    if vals.len() <= first {
+    if store.len() <= first {
         return DoublePair::Missing;
     }
-    if vals.len() <= second {
+    if store.len() <= second {
         return DoublePair::Missing;
     }
-    DoublePair::Are(vals[first], vals[second])
+    DoublePair::Are(store[first], store[second])
 }
 
 // Kind 3.
-pub fn added(vals: &[f64], a: Variable, b: Variable) -> DoubleRead
-    ensures { λ r. ⌜ Evaluates doubles (sum (a .0) (b .0)) (now (vals .entry)) (readDouble r) ⌝ }
+pub fn added(store: &[f64], a: Variable, b: Variable) -> DoubleRead
+    ensures { λ r. ⌜ Evaluates doubles (sum (a .0) (b .0)) (now (store .entry)) (readDouble r) ⌝ }
 {
-    match operands(vals, a, b) {
+    match operands(store, a, b) {
         DoublePair::Are(x, y) => read_of(double::sum(x, y)),
         DoublePair::Missing => DoubleRead::Stuck,
     }
 }
 
 // Kind 4.
-pub fn subtracted(vals: &[f64], a: Variable, b: Variable) -> DoubleRead
-    ensures { λ r. ⌜ Evaluates doubles (difference (a .0) (b .0)) (now (vals .entry)) (readDouble r) ⌝ }
+pub fn subtracted(store: &[f64], a: Variable, b: Variable) -> DoubleRead
+    ensures { λ r. ⌜ Evaluates doubles (difference (a .0) (b .0)) (now (store .entry)) (readDouble r) ⌝ }
 {
-    match operands(vals, a, b) {
+    match operands(store, a, b) {
         DoublePair::Are(x, y) => read_of(double::difference(x, y)),
         DoublePair::Missing => DoubleRead::Stuck,
     }
 }
 
 // Kind 5.
-pub fn multiplied(vals: &[f64], a: Variable, b: Variable) -> DoubleRead
-    ensures { λ r. ⌜ Evaluates doubles (product (a .0) (b .0)) (now (vals .entry)) (readDouble r) ⌝ }
+pub fn multiplied(store: &[f64], a: Variable, b: Variable) -> DoubleRead
+    ensures { λ r. ⌜ Evaluates doubles (product (a .0) (b .0)) (now (store .entry)) (readDouble r) ⌝ }
 {
-    match operands(vals, a, b) {
+    match operands(store, a, b) {
         DoublePair::Are(x, y) => read_of(double::product(x, y)),
         DoublePair::Missing => DoubleRead::Stuck,
     }
 }
 
 // Kind 6.
-pub fn negated(vals: &[f64], a: Variable) -> DoubleRead
-    ensures { λ r. ⌜ Evaluates doubles (negation (a .0)) (now (vals .entry)) (readDouble r) ⌝ }
+pub fn negated(store: &[f64], a: Variable) -> DoubleRead
+    ensures { λ r. ⌜ Evaluates doubles (negation (a .0)) (now (store .entry)) (readDouble r) ⌝ }
 {
     let first = a.0;
-    if first < vals.len() {
-        read_of(double::negation(vals[first]))
+    if first < store.len() {
+        read_of(double::negation(store[first]))
     } else {
         DoubleRead::Stuck
     }
 }
 
-pub fn evaluate(source: RightSide, constants: &[u16], vals: &[f64]) -> DoubleRead
-    ensures { λ r. ⌜ EvaluatesSaid doubles (sourceSaid source) (now (constants .entry)) (now (vals .entry)) (readDouble r) ⌝ }
+pub fn evaluate(source: RightSide, constants: &[u16], store: &[f64]) -> DoubleRead
+    ensures { λ r. ⌜ EvaluatesSaid doubles (sourceSaid source) (now (constants .entry)) (now (store .entry)) (readDouble r) ⌝ }
 {
     match source {
-        RightSide::Copy(a) => copied(vals, a),
+        RightSide::Copy(a) => copied(store, a),
         RightSide::Constant(c) => fixed(constants, c),
-        RightSide::Sum(a, b) => added(vals, a, b),
-        RightSide::Difference(a, b) => subtracted(vals, a, b),
-        RightSide::Product(a, b) => multiplied(vals, a, b),
-        RightSide::Negation(a) => negated(vals, a),
+        RightSide::Sum(a, b) => added(store, a, b),
+        RightSide::Difference(a, b) => subtracted(store, a, b),
+        RightSide::Product(a, b) => multiplied(store, a, b),
+        RightSide::Negation(a) => negated(store, a),
         RightSide::None => DoubleRead::Stuck,
     }
 }
 
 // Kinds 1 to 6, from what the right side came to.
-fn assign(vals: &mut [f64], d: Variable, read: DoubleRead) -> Did
-    ensures { λ r. ⌜ Assigns doubles (d .0) (readDouble read) (now (vals .entry)) (now (vals .exit)) (whetherDid r) ⌝ }
+fn assign(store: &mut [f64], d: Variable, read: DoubleRead) -> Did
+    ensures { λ r. ⌜ Assigns doubles (d .0) (readDouble read) (now (store .entry)) (now (store .exit)) (whetherDid r) ⌝ }
 {
     let to = d.0;
     match read {
         DoubleRead::Is(x) => {
-            if vals.len() <= to {
+            if store.len() <= to {
                 return Did::Stuck;
             }
-            vals[to] = x;
+            store[to] = x;
             return Did::On;
         }
         DoubleRead::Stopped => {
@@ -170,38 +170,38 @@ fn assign(vals: &mut [f64], d: Variable, read: DoubleRead) -> Did
 }
 
 // Kind 16.
-pub fn clear(vals: &mut [f64], d: Variable) -> Went
-    ensures { λ r. ⌜ Clears doubles (d .0) (now (vals .entry)) (now (vals .exit)) r ⌝ }
+pub fn clear(store: &mut [f64], d: Variable) -> Went
+    ensures { λ r. ⌜ Clears doubles (d .0) (now (store .entry)) (now (store .exit)) r ⌝ }
 {
     let to = d.0;
-    if vals.len() <= to {
+    if store.len() <= to {
         return Went::Stuck;
     }
-    vals[to] = double::zero();
+    store[to] = double::zero();
     Went::On
 }
 
 // Kind 12.
-pub fn save(vals: &[f64], d: Variable, values: &mut [f64], height: usize) -> Moved
-    ensures { λ r. ⌜ MovesValues doubles (save (d .0)) (now (vals .entry)) (now (values .entry)) height (now (vals .entry)) (now (values .exit)) r ⌝ }
+pub fn save(store: &[f64], d: Variable, values: &mut [f64], height: usize) -> Moved
+    ensures { λ r. ⌜ MovesValues doubles (save (d .0)) (now (store .entry)) (now (values .entry)) height (now (store .entry)) (now (values .exit)) r ⌝ }
 {
     let from = d.0;
-    if vals.len() <= from {
+    if store.len() <= from {
         return Moved::Stuck;
     }
     if values.len() <= height {
         return Moved::Stuck;
     }
-    values[height] = vals[from];
+    values[height] = store[from];
     Moved::To(height + 1)
 }
 
 // Kind 13. The place that is taken back is cleared, so that a stack's cells above its height are zeros always.
-pub fn take_back(vals: &mut [f64], d: Variable, values: &mut [f64], height: usize) -> Moved
-    ensures { λ r. ⌜ MovesValues doubles (takeBack (d .0)) (now (vals .entry)) (now (values .entry)) height (now (vals .exit)) (now (values .exit)) r ⌝ }
+pub fn take_back(store: &mut [f64], d: Variable, values: &mut [f64], height: usize) -> Moved
+    ensures { λ r. ⌜ MovesValues doubles (takeBack (d .0)) (now (store .entry)) (now (values .entry)) height (now (store .exit)) (now (values .exit)) r ⌝ }
 {
     let to = d.0;
-    if vals.len() <= to {
+    if store.len() <= to {
         return Moved::Stuck;
     }
     if height == 0 {
@@ -212,16 +212,16 @@ pub fn take_back(vals: &mut [f64], d: Variable, values: &mut [f64], height: usiz
         return Moved::Stuck;
     }
     let x = values[top];
-    vals[to] = x;
+    store[to] = x;
     values[top] = double::zero();
     Moved::To(top)
 }
 
 // Kind 7.
-pub fn test(vals: &[f64], a: Variable, b: Variable) -> Branch
-    ensures { λ r. ⌜ Compares doubles (a .0) (b .0) (now (vals .entry)) r ⌝ }
+pub fn test(store: &[f64], a: Variable, b: Variable) -> Branch
+    ensures { λ r. ⌜ Compares doubles (a .0) (b .0) (now (store .entry)) r ⌝ }
 {
-    let DoublePair::Are(x, y) = operands(vals, a, b) else {
+    let DoublePair::Are(x, y) = operands(store, a, b) else {
         return Branch::Stuck;
     };
     if double::less(x, y) {
@@ -243,9 +243,9 @@ fn seed_or_zero(role: u16, seed: f64) -> f64
 }
 
 // Kind 17. An adjoint's 0 and its seed are set at once.
-pub fn turn_round(roles: &[u16], seeds: &[f64], vals: &mut [f64], copied: &mut [f64]) -> Went
-    ensures { λ r. ⌜ TurnsRound doubles (now (roles .entry)) (now (seeds .entry)) (now (vals .entry)) (now (copied .entry))
-        (now (vals .exit)) (now (copied .exit)) r ⌝ }
+pub fn turn_round(roles: &[u16], seeds: &[f64], store: &mut [f64], copied: &mut [f64]) -> Went
+    ensures { λ r. ⌜ TurnsRound doubles (now (roles .entry)) (now (seeds .entry)) (now (store .entry)) (now (copied .entry))
+        (now (store .exit)) (now (copied .exit)) r ⌝ }
 {
     let variables = roles.len();
     if seeds.len() != variables {
@@ -254,13 +254,13 @@ pub fn turn_round(roles: &[u16], seeds: &[f64], vals: &mut [f64], copied: &mut [
     if copied.len() != variables {
         return Went::Stuck;
     }
-    if vals.len() < variables + variables {
+    if store.len() < variables + variables {
         return Went::Stuck;
     }
     let mut i: usize = 0;
     while i < variables {
-        copied[i] = vals[i];
-        vals[variables + i] = seed_or_zero(roles[i], seeds[i]);
+        copied[i] = store[i];
+        store[variables + i] = seed_or_zero(roles[i], seeds[i]);
         i += 1;
     }
     Went::On
@@ -272,24 +272,24 @@ fn act(
     roles: &[u16],
     constants: &[u16],
     seeds: &[f64],
-    vals: &mut [f64],
+    store: &mut [f64],
     values: &mut [f64],
     turns: &mut [u16],
     copied: &mut [f64],
     next: Place,
 ) -> Acted
     ensures { λ r. ⌜ ActsBy doubles what (now (roles .entry)) (now (constants .entry)) (now (seeds .entry)) next
-        (cellsOf doubles (now (vals .entry)) (now (values .entry)) (now (turns .entry)) (now (copied .entry)))
-        (cellsOf doubles (now (vals .exit)) (now (values .exit)) (now (turns .exit)) (now (copied .exit))) r ⌝ }
+        (cellsOf doubles (now (store .entry)) (now (values .entry)) (now (turns .entry)) (now (copied .entry)))
+        (cellsOf doubles (now (store .exit)) (now (values .exit)) (now (turns .exit)) (now (copied .exit))) r ⌝ }
 {
     match what {
-        Straight::Save(d) => values_to(save(vals, d, values, next.values), next),
-        Straight::TakeBack(d) => values_to(take_back(vals, d, values, next.values), next),
+        Straight::Save(d) => values_to(save(store, d, values, next.values), next),
+        Straight::TakeBack(d) => values_to(take_back(store, d, values, next.values), next),
         Straight::SaveTurn(first) => turns_to(save_turn(first, turns, next.turns), next),
-        Straight::Clear(d) => went_to(clear(vals, d), next),
-        Straight::TurnRound => went_to(turn_round(roles, seeds, vals, copied), next),
+        Straight::Clear(d) => went_to(clear(store, d), next),
+        Straight::TurnRound => went_to(turn_round(roles, seeds, store, copied), next),
         Straight::Assign(d, source) => did_to(
-            assign(vals, d, evaluate(source, constants, vals)),
+            assign(store, d, evaluate(source, constants, store)),
             next,
         ),
     }
@@ -302,15 +302,15 @@ fn straight_row(
     roles: &[u16],
     constants: &[u16],
     seeds: &[f64],
-    vals: &mut [f64],
+    store: &mut [f64],
     values: &mut [f64],
     turns: &mut [u16],
     copied: &mut [f64],
     place: Place,
 ) -> Acted
     ensures { λ r. ⌜ StraightRow doubles (now (table .entry)) rows (now (roles .entry)) (now (constants .entry)) (now (seeds .entry)) place
-        (cellsOf doubles (now (vals .entry)) (now (values .entry)) (now (turns .entry)) (now (copied .entry)))
-        (cellsOf doubles (now (vals .exit)) (now (values .exit)) (now (turns .exit)) (now (copied .exit))) r ⌝ }
+        (cellsOf doubles (now (store .entry)) (now (values .entry)) (now (turns .entry)) (now (copied .entry)))
+        (cellsOf doubles (now (store .exit)) (now (values .exit)) (now (turns .exit)) (now (copied .exit))) r ⌝ }
 {
     match straight_at(table, rows, place) {
         Found::Row(row, next) => act(
@@ -318,7 +318,7 @@ fn straight_row(
             roles,
             constants,
             seeds,
-            vals,
+            store,
             values,
             turns,
             copied,
@@ -334,19 +334,19 @@ fn block_row(
     table: &[u16],
     rows: usize,
     beyond: &[u16],
-    vals: &[f64],
+    store: &[f64],
     turns: &mut [u16],
     bodies: &mut [usize; MAX_DEPTH],
     to_come: &mut [u16; MAX_DEPTH],
     place: Place,
 ) -> Crossed
-    ensures { λ r. ⌜ BlockRow doubles (now (table .entry)) rows (now (beyond .entry)) place (now (vals .entry))
+    ensures { λ r. ⌜ BlockRow doubles (now (table .entry)) rows (now (beyond .entry)) place (now (store .entry))
         (now (turns .entry)) (now (bodies .entry)) (now («to_come» .entry)) (now (turns .exit)) (now (bodies .exit)) (now («to_come» .exit)) r ⌝ }
 {
     let at = RowNumber(place.at);
     match block_at(table, rows, place) {
         Met::Out(ended) => Crossed::Out(ended),
-        Met::Compare(a, b, next) => branch_to(test(vals, a, b), beyond, at, next),
+        Met::Compare(a, b, next) => branch_to(test(store, a, b), beyond, at, next),
         Met::Other(row, next) => cross(row, beyond, at, next, turns, bodies, to_come),
     }
 }
@@ -359,15 +359,15 @@ pub fn run_rows(
     roles: &[u16],
     constants: &[u16],
     seeds: &[f64],
-    vals: &mut [f64],
+    store: &mut [f64],
     values: &mut [f64],
     turns: &mut [u16],
     copied: &mut [f64],
     steps: usize,
 ) -> Ended
     ensures { λ r. ⌜ RunsRows doubles (now (table .entry)) rows (now (beyond .entry)) (now (roles .entry)) (now (constants .entry)) (now (seeds .entry)) steps
-        (cellsOf doubles (now (vals .entry)) (now (values .entry)) (now (turns .entry)) (now (copied .entry)))
-        (cellsOf doubles (now (vals .exit)) (now (values .exit)) (now (turns .exit)) (now (copied .exit))) r ⌝ }
+        (cellsOf doubles (now (store .entry)) (now (values .entry)) (now (turns .entry)) (now (copied .entry)))
+        (cellsOf doubles (now (store .exit)) (now (values .exit)) (now (turns .exit)) (now (copied .exit))) r ⌝ }
 {
     let mut bodies = [0usize; MAX_DEPTH];
     let mut to_come = [0u16; MAX_DEPTH];
@@ -380,7 +380,7 @@ pub fn run_rows(
                 roles,
                 constants,
                 seeds,
-                vals,
+                store,
                 values,
                 turns,
                 copied,
@@ -396,7 +396,7 @@ pub fn run_rows(
             table,
             rows,
             beyond,
-            vals,
+            store,
             turns,
             &mut bodies,
             &mut to_come,

@@ -40,12 +40,12 @@ use sheet::Variable;
 use sheet::is_dependent;
 
 // Kind 1.
-pub fn copied(vals: &[u32], a: Variable) -> ResidueRead
-    ensures { λ r. ⌜ Evaluates residues (copy (a .0)) (now (vals .entry)) (readResidue r) ⌝ }
+pub fn copied(store: &[u32], a: Variable) -> ResidueRead
+    ensures { λ r. ⌜ Evaluates residues (copy (a .0)) (now (store .entry)) (readResidue r) ⌝ }
 {
     let first = a.0;
-    if first < vals.len() {
-        ResidueRead::Is(vals[first])
+    if first < store.len() {
+        ResidueRead::Is(store[first])
     } else {
         ResidueRead::Stuck
     }
@@ -63,124 +63,124 @@ pub fn fixed(constants: &[u16], c: usize) -> ResidueRead
 }
 
 // Both operands of kinds 3 to 5 and 7.
-fn operands(vals: &[u32], a: Variable, b: Variable) -> ResiduePair
-    ensures { λ r. ⌜ Operands residues (a .0) (b .0) (now (vals .entry)) (pairOfResidues r) ⌝ }
+fn operands(store: &[u32], a: Variable, b: Variable) -> ResiduePair
+    ensures { λ r. ⌜ Operands residues (a .0) (b .0) (now (store .entry)) (pairOfResidues r) ⌝ }
 {
     let first = a.0;
     let second = b.0;
-    if vals.len() <= first {
+    if store.len() <= first {
         return ResiduePair::Missing;
     }
-    if vals.len() <= second {
+    if store.len() <= second {
         return ResiduePair::Missing;
     }
-    ResiduePair::Are(vals[first], vals[second])
+    ResiduePair::Are(store[first], store[second])
 }
 
 // Kind 3.
-pub fn added(vals: &[u32], a: Variable, b: Variable) -> ResidueRead
-    ensures { λ r. ⌜ Evaluates residues (sum (a .0) (b .0)) (now (vals .entry)) (readResidue r) ⌝ }
+pub fn added(store: &[u32], a: Variable, b: Variable) -> ResidueRead
+    ensures { λ r. ⌜ Evaluates residues (sum (a .0) (b .0)) (now (store .entry)) (readResidue r) ⌝ }
 {
-    match operands(vals, a, b) {
+    match operands(store, a, b) {
         ResiduePair::Are(x, y) => ResidueRead::Is(residue::sum(x, y)),
         ResiduePair::Missing => ResidueRead::Stuck,
     }
 }
 
 // Kind 4.
-pub fn subtracted(vals: &[u32], a: Variable, b: Variable) -> ResidueRead
-    ensures { λ r. ⌜ Evaluates residues (difference (a .0) (b .0)) (now (vals .entry)) (readResidue r) ⌝ }
+pub fn subtracted(store: &[u32], a: Variable, b: Variable) -> ResidueRead
+    ensures { λ r. ⌜ Evaluates residues (difference (a .0) (b .0)) (now (store .entry)) (readResidue r) ⌝ }
 {
-    match operands(vals, a, b) {
+    match operands(store, a, b) {
         ResiduePair::Are(x, y) => ResidueRead::Is(residue::difference(x, y)),
         ResiduePair::Missing => ResidueRead::Stuck,
     }
 }
 
 // Kind 5.
-pub fn multiplied(vals: &[u32], a: Variable, b: Variable) -> ResidueRead
-    ensures { λ r. ⌜ Evaluates residues (product (a .0) (b .0)) (now (vals .entry)) (readResidue r) ⌝ }
+pub fn multiplied(store: &[u32], a: Variable, b: Variable) -> ResidueRead
+    ensures { λ r. ⌜ Evaluates residues (product (a .0) (b .0)) (now (store .entry)) (readResidue r) ⌝ }
 {
-    match operands(vals, a, b) {
+    match operands(store, a, b) {
         ResiduePair::Are(x, y) => ResidueRead::Is(residue::product(x, y)),
         ResiduePair::Missing => ResidueRead::Stuck,
     }
 }
 
 // Kind 6.
-pub fn negated(vals: &[u32], a: Variable) -> ResidueRead
-    ensures { λ r. ⌜ Evaluates residues (negation (a .0)) (now (vals .entry)) (readResidue r) ⌝ }
+pub fn negated(store: &[u32], a: Variable) -> ResidueRead
+    ensures { λ r. ⌜ Evaluates residues (negation (a .0)) (now (store .entry)) (readResidue r) ⌝ }
 {
     let first = a.0;
-    if first < vals.len() {
-        ResidueRead::Is(residue::negation(vals[first]))
+    if first < store.len() {
+        ResidueRead::Is(residue::negation(store[first]))
     } else {
         ResidueRead::Stuck
     }
 }
 
-pub fn evaluate(source: RightSide, constants: &[u16], vals: &[u32]) -> ResidueRead
-    ensures { λ r. ⌜ EvaluatesSaid residues (sourceSaid source) (now (constants .entry)) (now (vals .entry)) (readResidue r) ⌝ }
+pub fn evaluate(source: RightSide, constants: &[u16], store: &[u32]) -> ResidueRead
+    ensures { λ r. ⌜ EvaluatesSaid residues (sourceSaid source) (now (constants .entry)) (now (store .entry)) (readResidue r) ⌝ }
 {
     match source {
-        RightSide::Copy(a) => copied(vals, a),
+        RightSide::Copy(a) => copied(store, a),
         RightSide::Constant(c) => fixed(constants, c),
-        RightSide::Sum(a, b) => added(vals, a, b),
-        RightSide::Difference(a, b) => subtracted(vals, a, b),
-        RightSide::Product(a, b) => multiplied(vals, a, b),
-        RightSide::Negation(a) => negated(vals, a),
+        RightSide::Sum(a, b) => added(store, a, b),
+        RightSide::Difference(a, b) => subtracted(store, a, b),
+        RightSide::Product(a, b) => multiplied(store, a, b),
+        RightSide::Negation(a) => negated(store, a),
         RightSide::None => ResidueRead::Stuck,
     }
 }
 
 // Kinds 1 to 6, from what the right side came to.
-fn assign(vals: &mut [u32], d: Variable, read: ResidueRead) -> Went
-    ensures { λ r. ⌜ Assigns residues (d .0) (readResidue read) (now (vals .entry)) (now (vals .exit)) (whetherWent r) ⌝ }
+fn assign(store: &mut [u32], d: Variable, read: ResidueRead) -> Went
+    ensures { λ r. ⌜ Assigns residues (d .0) (readResidue read) (now (store .entry)) (now (store .exit)) (whetherWent r) ⌝ }
 {
     let to = d.0;
     let ResidueRead::Is(x) = read else {
         return Went::Stuck;
     };
-    if vals.len() <= to {
+    if store.len() <= to {
         return Went::Stuck;
     }
-    vals[to] = x;
+    store[to] = x;
     Went::On
 }
 
 // Kind 16.
-pub fn clear(vals: &mut [u32], d: Variable) -> Went
-    ensures { λ r. ⌜ Clears residues (d .0) (now (vals .entry)) (now (vals .exit)) r ⌝ }
+pub fn clear(store: &mut [u32], d: Variable) -> Went
+    ensures { λ r. ⌜ Clears residues (d .0) (now (store .entry)) (now (store .exit)) r ⌝ }
 {
     let to = d.0;
-    if vals.len() <= to {
+    if store.len() <= to {
         return Went::Stuck;
     }
-    vals[to] = 0;
+    store[to] = 0;
     Went::On
 }
 
 // Kind 12.
-pub fn save(vals: &[u32], d: Variable, values: &mut [u32], height: usize) -> Moved
-    ensures { λ r. ⌜ MovesValues residues (save (d .0)) (now (vals .entry)) (now (values .entry)) height (now (vals .entry)) (now (values .exit)) r ⌝ }
+pub fn save(store: &[u32], d: Variable, values: &mut [u32], height: usize) -> Moved
+    ensures { λ r. ⌜ MovesValues residues (save (d .0)) (now (store .entry)) (now (values .entry)) height (now (store .entry)) (now (values .exit)) r ⌝ }
 {
     let from = d.0;
-    if vals.len() <= from {
+    if store.len() <= from {
         return Moved::Stuck;
     }
     if values.len() <= height {
         return Moved::Stuck;
     }
-    values[height] = vals[from];
+    values[height] = store[from];
     Moved::To(height + 1)
 }
 
 // Kind 13. The place that is taken back is cleared, so that a stack's cells above its height are zeros always.
-pub fn take_back(vals: &mut [u32], d: Variable, values: &mut [u32], height: usize) -> Moved
-    ensures { λ r. ⌜ MovesValues residues (takeBack (d .0)) (now (vals .entry)) (now (values .entry)) height (now (vals .exit)) (now (values .exit)) r ⌝ }
+pub fn take_back(store: &mut [u32], d: Variable, values: &mut [u32], height: usize) -> Moved
+    ensures { λ r. ⌜ MovesValues residues (takeBack (d .0)) (now (store .entry)) (now (values .entry)) height (now (store .exit)) (now (values .exit)) r ⌝ }
 {
     let to = d.0;
-    if vals.len() <= to {
+    if store.len() <= to {
         return Moved::Stuck;
     }
     if height == 0 {
@@ -191,16 +191,16 @@ pub fn take_back(vals: &mut [u32], d: Variable, values: &mut [u32], height: usiz
         return Moved::Stuck;
     }
     let x = values[top];
-    vals[to] = x;
+    store[to] = x;
     values[top] = 0;
     Moved::To(top)
 }
 
 // Kind 7.
-pub fn test(vals: &[u32], a: Variable, b: Variable) -> Branch
-    ensures { λ r. ⌜ Compares residues (a .0) (b .0) (now (vals .entry)) r ⌝ }
+pub fn test(store: &[u32], a: Variable, b: Variable) -> Branch
+    ensures { λ r. ⌜ Compares residues (a .0) (b .0) (now (store .entry)) r ⌝ }
 {
-    let ResiduePair::Are(x, y) = operands(vals, a, b) else {
+    let ResiduePair::Are(x, y) = operands(store, a, b) else {
         return Branch::Stuck;
     };
     if residue::less(x, y) {
@@ -218,9 +218,9 @@ fn seed_or_zero(role: u16, seed: u32) -> u32
 }
 
 // Kind 17. An adjoint's 0 and its seed are set at once.
-pub fn turn_round(roles: &[u16], seeds: &[u32], vals: &mut [u32], copied: &mut [u32]) -> Went
-    ensures { λ r. ⌜ TurnsRound residues (now (roles .entry)) (now (seeds .entry)) (now (vals .entry)) (now (copied .entry))
-        (now (vals .exit)) (now (copied .exit)) r ⌝ }
+pub fn turn_round(roles: &[u16], seeds: &[u32], store: &mut [u32], copied: &mut [u32]) -> Went
+    ensures { λ r. ⌜ TurnsRound residues (now (roles .entry)) (now (seeds .entry)) (now (store .entry)) (now (copied .entry))
+        (now (store .exit)) (now (copied .exit)) r ⌝ }
 {
     let variables = roles.len();
     if seeds.len() != variables {
@@ -229,13 +229,13 @@ pub fn turn_round(roles: &[u16], seeds: &[u32], vals: &mut [u32], copied: &mut [
     if copied.len() != variables {
         return Went::Stuck;
     }
-    if vals.len() < variables + variables {
+    if store.len() < variables + variables {
         return Went::Stuck;
     }
     let mut i: usize = 0;
     while i < variables {
-        copied[i] = vals[i];
-        vals[variables + i] = seed_or_zero(roles[i], seeds[i]);
+        copied[i] = store[i];
+        store[variables + i] = seed_or_zero(roles[i], seeds[i]);
         i += 1;
     }
     Went::On
@@ -247,24 +247,24 @@ fn act(
     roles: &[u16],
     constants: &[u16],
     seeds: &[u32],
-    vals: &mut [u32],
+    store: &mut [u32],
     values: &mut [u32],
     turns: &mut [u16],
     copied: &mut [u32],
     next: Place,
 ) -> Acted
     ensures { λ r. ⌜ ActsBy residues what (now (roles .entry)) (now (constants .entry)) (now (seeds .entry)) next
-        (cellsOf residues (now (vals .entry)) (now (values .entry)) (now (turns .entry)) (now (copied .entry)))
-        (cellsOf residues (now (vals .exit)) (now (values .exit)) (now (turns .exit)) (now (copied .exit))) r ⌝ }
+        (cellsOf residues (now (store .entry)) (now (values .entry)) (now (turns .entry)) (now (copied .entry)))
+        (cellsOf residues (now (store .exit)) (now (values .exit)) (now (turns .exit)) (now (copied .exit))) r ⌝ }
 {
     match what {
-        Straight::Save(d) => values_to(save(vals, d, values, next.values), next),
-        Straight::TakeBack(d) => values_to(take_back(vals, d, values, next.values), next),
+        Straight::Save(d) => values_to(save(store, d, values, next.values), next),
+        Straight::TakeBack(d) => values_to(take_back(store, d, values, next.values), next),
         Straight::SaveTurn(first) => turns_to(save_turn(first, turns, next.turns), next),
-        Straight::Clear(d) => went_to(clear(vals, d), next),
-        Straight::TurnRound => went_to(turn_round(roles, seeds, vals, copied), next),
+        Straight::Clear(d) => went_to(clear(store, d), next),
+        Straight::TurnRound => went_to(turn_round(roles, seeds, store, copied), next),
         Straight::Assign(d, source) => went_to(
-            assign(vals, d, evaluate(source, constants, vals)),
+            assign(store, d, evaluate(source, constants, store)),
             next,
         ),
     }
@@ -277,15 +277,15 @@ fn straight_row(
     roles: &[u16],
     constants: &[u16],
     seeds: &[u32],
-    vals: &mut [u32],
+    store: &mut [u32],
     values: &mut [u32],
     turns: &mut [u16],
     copied: &mut [u32],
     place: Place,
 ) -> Acted
     ensures { λ r. ⌜ StraightRow residues (now (table .entry)) rows (now (roles .entry)) (now (constants .entry)) (now (seeds .entry)) place
-        (cellsOf residues (now (vals .entry)) (now (values .entry)) (now (turns .entry)) (now (copied .entry)))
-        (cellsOf residues (now (vals .exit)) (now (values .exit)) (now (turns .exit)) (now (copied .exit))) r ⌝ }
+        (cellsOf residues (now (store .entry)) (now (values .entry)) (now (turns .entry)) (now (copied .entry)))
+        (cellsOf residues (now (store .exit)) (now (values .exit)) (now (turns .exit)) (now (copied .exit))) r ⌝ }
 {
     match straight_at(table, rows, place) {
         Found::Row(row, next) => act(
@@ -293,7 +293,7 @@ fn straight_row(
             roles,
             constants,
             seeds,
-            vals,
+            store,
             values,
             turns,
             copied,
@@ -309,19 +309,19 @@ fn block_row(
     table: &[u16],
     rows: usize,
     beyond: &[u16],
-    vals: &[u32],
+    store: &[u32],
     turns: &mut [u16],
     bodies: &mut [usize; MAX_DEPTH],
     to_come: &mut [u16; MAX_DEPTH],
     place: Place,
 ) -> Crossed
-    ensures { λ r. ⌜ BlockRow residues (now (table .entry)) rows (now (beyond .entry)) place (now (vals .entry))
+    ensures { λ r. ⌜ BlockRow residues (now (table .entry)) rows (now (beyond .entry)) place (now (store .entry))
         (now (turns .entry)) (now (bodies .entry)) (now («to_come» .entry)) (now (turns .exit)) (now (bodies .exit)) (now («to_come» .exit)) r ⌝ }
 {
     let at = RowNumber(place.at);
     match block_at(table, rows, place) {
         Met::Out(ended) => Crossed::Out(ended),
-        Met::Compare(a, b, next) => branch_to(test(vals, a, b), beyond, at, next),
+        Met::Compare(a, b, next) => branch_to(test(store, a, b), beyond, at, next),
         Met::Other(row, next) => cross(row, beyond, at, next, turns, bodies, to_come),
     }
 }
@@ -334,15 +334,15 @@ pub fn run_rows(
     roles: &[u16],
     constants: &[u16],
     seeds: &[u32],
-    vals: &mut [u32],
+    store: &mut [u32],
     values: &mut [u32],
     turns: &mut [u16],
     copied: &mut [u32],
     steps: usize,
 ) -> Ended
     ensures { λ r. ⌜ RunsRows residues (now (table .entry)) rows (now (beyond .entry)) (now (roles .entry)) (now (constants .entry)) (now (seeds .entry)) steps
-        (cellsOf residues (now (vals .entry)) (now (values .entry)) (now (turns .entry)) (now (copied .entry)))
-        (cellsOf residues (now (vals .exit)) (now (values .exit)) (now (turns .exit)) (now (copied .exit))) r ⌝ }
+        (cellsOf residues (now (store .entry)) (now (values .entry)) (now (turns .entry)) (now (copied .entry)))
+        (cellsOf residues (now (store .exit)) (now (values .exit)) (now (turns .exit)) (now (copied .exit))) r ⌝ }
 {
     let mut bodies = [0usize; MAX_DEPTH];
     let mut to_come = [0u16; MAX_DEPTH];
@@ -355,7 +355,7 @@ pub fn run_rows(
                 roles,
                 constants,
                 seeds,
-                vals,
+                store,
                 values,
                 turns,
                 copied,
@@ -371,7 +371,7 @@ pub fn run_rows(
             table,
             rows,
             beyond,
-            vals,
+            store,
             turns,
             &mut bodies,
             &mut to_come,

@@ -10,11 +10,11 @@ enum-known-read c = search needs
 returns : tie.Need-returns
 returns c = rw (c .before .before .read .given .1) (assign-nowhere (c .if1 .taken))
 
-mul-vals : tie.Need-mul-vals
-mul-vals c = search needs
+mul-store : tie.Need-mul-store
+mul-store c = search needs
 
-slice-write-vals : tie.Need-slice-write-vals
-slice-write-vals c = search needs
+slice-write-store : tie.Need-slice-write-store
+slice-write-store c = search needs
 
 same-length : tie.Need-same-length
 same-length c = search needs
@@ -40,8 +40,8 @@ assign-spec =
     (tie.spec
     enum-known-read
     returns
-    mul-vals
-    slice-write-vals
+    mul-store
+    slice-write-store
     same-length
     returns-2
     enum-told

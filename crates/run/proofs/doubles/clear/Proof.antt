@@ -10,11 +10,11 @@ returns c = clear-nowhere (c .if1 .taken)
 zero-requires : tie.Need-zero-requires
 zero-requires c κs = search needs
 
-mul-vals : tie.Need-mul-vals
-mul-vals c = search needs
+mul-store : tie.Need-mul-store
+mul-store c = search needs
 
-slice-write-vals : tie.Need-slice-write-vals
-slice-write-vals c = search needs
+slice-write-store : tie.Need-slice-write-store
+slice-write-store c = search needs
 
 same-length : tie.Need-same-length
 same-length c = search needs
@@ -24,4 +24,4 @@ returns-2 c = clear-goes (c .zero .ensures) (search needs)
 
 pub clear-spec : {M : Type 1} → statement M
 clear-spec =
-    tie.close (tie.spec returns zero-requires mul-vals slice-write-vals same-length returns-2)
+    tie.close (tie.spec returns zero-requires mul-store slice-write-store same-length returns-2)

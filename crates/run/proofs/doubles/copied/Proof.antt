@@ -17,13 +17,13 @@ returns : tie.Need-returns
 unfolding evaluated
 returns c constants =
     let args = c .before .before .args in
-    sym (look-there (args .vals .now) (args .a .0) nan (c .before .if1 .taken))
+    sym (look-there (args .store .now) (args .a .0) nan (c .before .if1 .taken))
 
 returns-2 : tie.Need-returns-2
 unfolding evaluated
 returns-2 c constants =
     let args = c .before .args in
-    sym (look-missing (args .vals .now) (args .a .0) (c .if1 .left))
+    sym (look-missing (args .store .now) (args .a .0) (c .if1 .left))
 
 pub copied-spec : {M : Type 1} → statement M
 copied-spec = tie.close (tie.spec mul-t7 shared-slice-read-t9 returns returns-2)

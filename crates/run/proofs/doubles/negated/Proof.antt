@@ -24,14 +24,14 @@ returns : tie.Need-returns
 unfolding evaluated
 returns c constants =
     let args = c .before .before .before .before .before .args in
-    rw (look-there (args .vals .now) (args .a .0) nan (c .before .before .before .if1 .taken))
+    rw (look-there (args .store .now) (args .a .0) nan (c .before .before .before .if1 .taken))
     (c .read-of .ensures ∙ ap fromOutcome (c .before .negation .ensures))
 
 returns-2 : tie.Need-returns-2
 unfolding evaluated
 returns-2 c constants =
     let args = c .before .before .args in
-    rw (look-missing (args .vals .now) (args .a .0) (c .if1 .left))
+    rw (look-missing (args .store .now) (args .a .0) (c .if1 .left))
 
 pub negated-spec : {M : Type 1} → statement M
 negated-spec =

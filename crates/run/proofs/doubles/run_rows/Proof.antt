@@ -13,32 +13,32 @@ use Rattle.run.proofs.doubles.straight_row.Reads as straight-row-reads
 use Rattle.run.proofs.doubles.block_row.Reads as block-row-reads
 
 abbrev Inv-loop : tie.InvT-loop
-Inv-loop table rows beyond roles constants seeds vals₀ values₀ turns₀ copied₀ steps bodies to-come place₀ vals values turns copied place =
+Inv-loop table rows beyond roles constants seeds store₀ values₀ turns₀ copied₀ steps bodies to-come place₀ store values turns copied place =
     Inner
     (record { table = table; rows = rows; beyond = beyond; roles = roles; constants = constants; seeds = seeds; steps = steps })
     place₀
-    (cellsOf doubles vals₀ values₀ turns₀ copied₀)
+    (cellsOf doubles store₀ values₀ turns₀ copied₀)
     place
-    (cellsOf doubles vals values turns copied)
+    (cellsOf doubles store values turns copied)
     bodies
     to-come
 
 abbrev μ-loop : tie.MeasureT-loop
-μ-loop table rows beyond roles constants seeds vals₀ values₀ turns₀ copied₀ steps bodies to-come place₀ vals values turns copied place =
+μ-loop table rows beyond roles constants seeds store₀ values₀ turns₀ copied₀ steps bodies to-come place₀ store values turns copied place =
     place .left
 
 abbrev Inv-run : tie.InvT-run
-Inv-run table rows beyond roles constants seeds vals₀ values₀ turns₀ copied₀ steps bodies₀ to-come₀ place₀ vals values turns copied bodies to-come place =
+Inv-run table rows beyond roles constants seeds store₀ values₀ turns₀ copied₀ steps bodies₀ to-come₀ place₀ store values turns copied bodies to-come place =
     Invariant
     (record { table = table; rows = rows; beyond = beyond; roles = roles; constants = constants; seeds = seeds; steps = steps })
-    (cellsOf doubles vals₀ values₀ turns₀ copied₀)
+    (cellsOf doubles store₀ values₀ turns₀ copied₀)
     place
-    (cellsOf doubles vals values turns copied)
+    (cellsOf doubles store values turns copied)
     bodies
     to-come
 
 abbrev μ-run : tie.MeasureT-run
-μ-run table rows beyond roles constants seeds vals₀ values₀ turns₀ copied₀ steps bodies₀ to-come₀ place₀ vals values turns copied bodies to-come place =
+μ-run table rows beyond roles constants seeds store₀ values₀ turns₀ copied₀ steps bodies₀ to-come₀ place₀ store values turns copied bodies to-come place =
     place .left
 
 -- what is known once a straight row's code has answered

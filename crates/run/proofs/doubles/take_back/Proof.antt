@@ -23,11 +23,11 @@ mul-x c = search needs
 slice-read-x : tie.Need-slice-read-x
 slice-read-x c = search needs
 
-mul-vals : tie.Need-mul-vals
-mul-vals c = search needs
+mul-store : tie.Need-mul-store
+mul-store c = search needs
 
-slice-write-vals : tie.Need-slice-write-vals
-slice-write-vals c = search needs
+slice-write-store : tie.Need-slice-write-store
+slice-write-store c = search needs
 
 zero-requires : tie.Need-zero-requires
 zero-requires c κs = search needs
@@ -57,8 +57,8 @@ take-back-spec =
     returns-3
     mul-x
     slice-read-x
-    mul-vals
-    slice-write-vals
+    mul-store
+    slice-write-store
     zero-requires
     mul-values
     slice-write-values

@@ -9,10 +9,10 @@ use Rattle.run.proofs.doubles.turn_round.Statement.{statement}
 use Rattle.run.proofs.doubles.turn_round.Tie as tie
 
 abbrev Inv-loop : tie.InvT-loop
-Inv-loop roles seeds vals₀ copied₀ variables i₀ vals copied i = Turning doubles roles seeds vals₀ copied₀ i vals copied
+Inv-loop roles seeds store₀ copied₀ variables i₀ store copied i = Turning doubles roles seeds store₀ copied₀ i store copied
 
 abbrev μ-loop : tie.MeasureT-loop
-μ-loop roles seeds vals₀ copied₀ variables i₀ vals copied i = length roles - i
+μ-loop roles seeds store₀ copied₀ variables i₀ store copied i = length roles - i
 
 returns : tie.Need-returns Inv-loop μ-loop
 returns c = round-refused (λ sizes. omega (arith, sizes .seedsFit))
@@ -56,14 +56,14 @@ shared-slice-read-seed-or-zero-2 c = omega arith
 seed-or-zero-requires : tie.Need-seed-or-zero-requires Inv-loop μ-loop
 seed-or-zero-requires c κs = search needs
 
-add-vals : tie.Need-add-vals Inv-loop μ-loop
-add-vals c = omega arith
+add-store : tie.Need-add-store Inv-loop μ-loop
+add-store c = omega arith
 
-mul-vals : tie.Need-mul-vals Inv-loop μ-loop
-mul-vals c = omega arith
+mul-store : tie.Need-mul-store Inv-loop μ-loop
+mul-store c = omega arith
 
-slice-write-vals : tie.Need-slice-write-vals Inv-loop μ-loop
-slice-write-vals c = omega arith
+slice-write-store : tie.Need-slice-write-store Inv-loop μ-loop
+slice-write-store c = omega arith
 
 add-i : tie.Need-add-i Inv-loop μ-loop
 add-i c = omega arith
@@ -103,9 +103,9 @@ turn-round-spec =
     mul-seed-or-zero-2
     shared-slice-read-seed-or-zero-2
     seed-or-zero-requires
-    add-vals
-    mul-vals
-    slice-write-vals
+    add-store
+    mul-store
+    slice-write-store
     add-i
     loop-less
     loop-again

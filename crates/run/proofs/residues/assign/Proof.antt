@@ -16,11 +16,11 @@ returns c = rw (c .enum-told .given .1) assign-sticks
 returns-2 : tie.Need-returns-2
 returns-2 c = rw (c .before .before .read .given .1) (assign-nowhere (c .if1 .taken))
 
-mul-vals : tie.Need-mul-vals
-mul-vals c = search needs
+mul-store : tie.Need-mul-store
+mul-store c = search needs
 
-slice-write-vals : tie.Need-slice-write-vals
-slice-write-vals c = search needs
+slice-write-store : tie.Need-slice-write-store
+slice-write-store c = search needs
 
 same-length : tie.Need-same-length
 same-length c = search needs
@@ -36,7 +36,7 @@ assign-spec =
     enum-told
     returns
     returns-2
-    mul-vals
-    slice-write-vals
+    mul-store
+    slice-write-store
     same-length
     returns-3)

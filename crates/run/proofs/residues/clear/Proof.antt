@@ -8,11 +8,11 @@ use Rattle.run.proofs.residues.clear.Tie as tie
 returns : tie.Need-returns
 returns c = clear-nowhere (c .if1 .taken)
 
-mul-vals : tie.Need-mul-vals
-mul-vals c = search needs
+mul-store : tie.Need-mul-store
+mul-store c = search needs
 
-slice-write-vals : tie.Need-slice-write-vals
-slice-write-vals c = search needs
+slice-write-store : tie.Need-slice-write-store
+slice-write-store c = search needs
 
 same-length : tie.Need-same-length
 same-length c = search needs
@@ -21,4 +21,4 @@ returns-2 : tie.Need-returns-2
 returns-2 c = clear-goes refl (search needs)
 
 pub clear-spec : {M : Type 1} → statement M
-clear-spec = tie.close (tie.spec returns mul-vals slice-write-vals same-length returns-2)
+clear-spec = tie.close (tie.spec returns mul-store slice-write-store same-length returns-2)

@@ -24,11 +24,11 @@ mul-x c = search needs
 slice-read-x : tie.Need-slice-read-x
 slice-read-x c = search needs
 
-mul-vals : tie.Need-mul-vals
-mul-vals c = search needs
+mul-store : tie.Need-mul-store
+mul-store c = search needs
 
-slice-write-vals : tie.Need-slice-write-vals
-slice-write-vals c = search needs
+slice-write-store : tie.Need-slice-write-store
+slice-write-store c = search needs
 
 mul-values : tie.Need-mul-values
 mul-values c = search needs
@@ -55,8 +55,8 @@ take-back-spec =
     returns-3
     mul-x
     slice-read-x
-    mul-vals
-    slice-write-vals
+    mul-store
+    slice-write-store
     mul-values
     slice-write-values
     same-length
