@@ -1,4 +1,5 @@
-// The partners of a block's rows: where an equation takes a set from besides the row's own point. One pass finds them all.
+// The partners of a block's rows: where an equation takes a set from besides the row's own point. One pass finds them all: `came` has for an "else" its
+// "if", for an "end if" its "else" and for a "repeat" its "end repeat", `goes` the other way.
 ghost use mathlib.Core.Path.{_≡_};
 ghost use Prim.Native.Nat.{_<_};
 ghost use lib.ListN.{getD, set};
