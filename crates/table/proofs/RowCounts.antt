@@ -21,17 +21,17 @@ module _ (v : ℕ) (r : Row) (mark : ℕ) where
 
   module _ {first : Bool} (varied-a : first ≡ knownBy mark .variedA) where
     pub copy-count : r .kind ≡ 1 → length (partRows v r mark) ≡ cond first 1 0
-    copy-count e = ap length (copy-rows v r mark varied-a e) ∙ one-if first _
+    copy-count e = ap length (copy-rows v r mark varied-a refl e) ∙ one-if first _
 
     pub negation-count : r .kind ≡ 6 → length (partRows v r mark) ≡ cond first 1 0
-    negation-count e = ap length (negation-rows v r mark varied-a e) ∙ one-if first _
+    negation-count e = ap length (negation-rows v r mark varied-a refl e) ∙ one-if first _
 
     module _ {second : Bool} (varied-b : second ≡ knownBy mark .variedB) where
       pub product-count : r .kind ≡ 5 → length (partRows v r mark) ≡ 2 * cond first 1 0 + 2 * cond second 1 0
       product-count e = ap length (product-rows v r mark varied-a varied-b e) ∙ simp (length-append, one-if) (omega arith)
 
       pub two-count : (3 ≤ r .kind) × (r .kind ≤ 4) → length (partRows v r mark) ≡ cond first 1 0 + cond second 1 0
-      two-count h = ap length (two-rows v r mark varied-a varied-b h) ∙ simp (length-append, one-if)
+      two-count h = ap length (two-rows v r mark varied-a varied-b refl h) ∙ simp (length-append, one-if)
 
   -- an assignment's rows backward: the take back if it is saved, two more where it is active
   module _ {saved : Bool} (is-saved : saved ≡ savedBy mark) where
@@ -39,7 +39,7 @@ module _ (v : ℕ) (r : Row) (mark : ℕ) where
     taken-count = ap length (assignment-rows v r mark is-saved) ∙ simp (length-append, one-if)
 
     pub active-count : knownBy mark .active ≡ true → length (assignmentBack v r mark) ≡ cond saved 1 0 + (2 + length (partRows v r mark))
-    active-count e = omega (arith, taken-count, ap length (active-rows v r mark e))
+    active-count e = omega (arith, taken-count, ap length (active-rows v r mark refl e))
 
     pub inactive-count : knownBy mark .active ≡ false → length (assignmentBack v r mark) ≡ cond saved 1 0 + 1
     inactive-count e = omega (arith, taken-count, ap length (inactive-rows v r mark e))

@@ -6,6 +6,7 @@ ghost use Rattle.sheet.specs.Bounds.{limit};
 ghost use Prim.Native.Nat.{_≤_};
 ghost use mathlib.Core.List.{[], _∷_};
 ghost use Rattle.sets.specs.MarkBytes.{bitOf};
+ghost use Rattle.table.specs.TableRows.{t};
 ghost use Rattle.table.specs.inner.MarkedRows.{rowWith, Room, Wrote, rowIf, Small, scaledRows, partRows, derivativesOf, assignmentBack, Assigns, Says, forwardOfLine, backwardOfLine};
 use super::kinds;
 use sheet::RowWords;
@@ -48,6 +49,13 @@ pub fn bit(mark: u8, weight: u8) -> bool
     mark / weight % 2 == 1
 }
 
+fn t_of(variables: u16) -> u16
+    requires { ⌜ variables ≤ limit .variables ⌝ }
+    ensures { λ r. ⌜ r ≡ t variables ⌝ }
+{
+    2 * variables
+}
+
 // A product's part: u := operand × t, and u into the adjoint of the other operand, only if given.
 fn scaled(
     given: bool,
@@ -60,7 +68,7 @@ fn scaled(
     requires { ⌜ Room (now table) place (scaledRows variables given operand other) ⌝ ∗ ⌜ (variables ≤ limit .variables) × (other ≤ limit .turns) ⌝ }
     ensures { λ r. ⌜ Wrote (now (table .entry)) place (scaledRows variables given operand other) (now (table .exit)) r ⌝ }
 {
-    let t = 2 * variables;
+    let t = t_of(variables);
     let u = t + 1;
     let adjoint = variables + other;
     let added = put_if(given, table, place, sheet::kinds::PRODUCT, u, operand, t);
@@ -72,7 +80,7 @@ fn parts(table: &mut [u16], place: usize, variables: u16, row: RowWords, mark: u
     requires { ⌜ Room (now table) place (partRows variables (rowSaid row) mark) ⌝ ∗ ⌜ Small variables (rowSaid row) ⌝ ∗ ⌜ Assigns (row .kind) ⌝ }
     ensures { λ r. ⌜ Wrote (now (table .entry)) place (partRows variables (rowSaid row) mark) (now (table .exit)) r ⌝ }
 {
-    let t = 2 * variables;
+    let t = t_of(variables);
     let to_a = variables + row.a;
     let to_b = variables + row.b;
     let first = bit(mark, sets::VARIED_A);
@@ -103,7 +111,7 @@ fn derivatives(table: &mut [u16], place: usize, variables: u16, row: RowWords, m
     let adjoint = variables + row.d;
     let active = bit(mark, sets::ACTIVE);
     if active {
-        let t = 2 * variables;
+        let t = t_of(variables);
         let held = put(table, place, sheet::kinds::COPY, t, adjoint, 0);
         let cleared = put(table, held, kinds::CLEAR, adjoint, 0, 0);
         return parts(table, cleared, variables, row, mark);

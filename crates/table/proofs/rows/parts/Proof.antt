@@ -1,22 +1,27 @@
 -- `table::rows::parts` meets its contract, kind by kind.
 use Prim.Native.Nat.{_≤_}
+use mathlib.Core.Path.{_≡_}
 use borrow.Author.Needs.{needs}
 use native.Mathlib.Omega.{arith}
 use Rattle.sheet.specs.Answers.{rowSaid}
+use Rattle.table.specs.TableRows.{t}
 use Rattle.table.proofs.WritingLaws.{wrote-none, wrote-then, room-first, room-after}
 use Rattle.table.proofs.AssignmentRows.{constant-rows, copy-rows, negation-rows, two-rows, product-rows}
 use Rattle.table.proofs.rows.parts.Statement.{statement}
 use Rattle.table.proofs.rows.parts.Tie as tie
 
 abbrev start : tie.After-bit2 → tie.Start
-start c = c .before .before .before .before .before
+start c = c .before .before .before .before .before .before
+
+is-t : (c : tie.After-bit2) → c .before .before .before .before .t-of .result ≡ t (start c .args .variables)
+is-t c = c .before .before .before .before .t-of .ensures
 
 -- what is left of an assignment's kinds after the tests
 sum-or-difference : (c : tie.Else4) → let kind = start (c .before .before .before .before .before .before .before .before) .args .row .kind in (3 ≤ kind) × (kind ≤ 4)
 sum-or-difference c = (omega arith, omega arith)
 
-mul-t : tie.Need-mul-t
-mul-t c = search needs
+t-of-requires : tie.Need-t-of-requires
+t-of-requires c κs = search needs
 
 add-to-a : tie.Need-add-to-a
 add-to-a c = search needs
@@ -34,7 +39,7 @@ put-if-requires : tie.Need-put-if-requires
 put-if-requires c κs =
     let known = c .before .before .before in
     let x = start known .args in
-    let rows = copy-rows (x .variables) (rowSaid (x .row)) (x .mark) (known .before .bit .ensures) (c .before .if1 .taken) in
+    let rows = copy-rows (x .variables) (rowSaid (x .row)) (x .mark) (known .before .bit .ensures) (is-t known) (c .before .if1 .taken) in
     rw rows at (start known .pre .0)
 
 same-length : tie.Need-same-length
@@ -45,7 +50,7 @@ returns c =
     let done = c .before .before in
     let known = c .before .before .before .before .before .before in
     let x = start known .args in
-    let rows = copy-rows (x .variables) (rowSaid (x .row)) (x .mark) (known .before .bit .ensures) (done .before .before .if1 .taken) in
+    let rows = copy-rows (x .variables) (rowSaid (x .row)) (x .mark) (known .before .bit .ensures) (is-t known) (done .before .before .if1 .taken) in
     rw rows (done .put-if .ensures)
 
 returns-2 : tie.Need-returns-2
@@ -57,7 +62,7 @@ put-if-requires-2 : tie.Need-put-if-requires-2
 put-if-requires-2 c κs =
     let known = c .before .before .before .before .before .before .before in
     let x = start known .args in
-    let rows = negation-rows (x .variables) (rowSaid (x .row)) (x .mark) (known .before .bit .ensures) (c .before .if3 .taken) in
+    let rows = negation-rows (x .variables) (rowSaid (x .row)) (x .mark) (known .before .bit .ensures) (is-t known) (c .before .if3 .taken) in
     rw rows at (start known .pre .0)
 
 same-length-2 : tie.Need-same-length-2
@@ -68,7 +73,7 @@ returns-3 c =
     let done = c .before .before in
     let known = c .before .before .before .before .before .before .before .before .before .before in
     let x = start known .args in
-    let rows = negation-rows (x .variables) (rowSaid (x .row)) (x .mark) (known .before .bit .ensures) (done .before .before .if3 .taken) in
+    let rows = negation-rows (x .variables) (rowSaid (x .row)) (x .mark) (known .before .bit .ensures) (is-t known) (done .before .before .if3 .taken) in
     rw rows (done .put-if2 .ensures)
 
 scaled-requires : tie.Need-scaled-requires
@@ -104,7 +109,7 @@ put-if-requires-3 : tie.Need-put-if-requires-3
 put-if-requires-3 c κs =
     let known = c .before .before .before .before .before .before .before .before .before in
     let x = start known .args in
-    let rows = two-rows (x .variables) (rowSaid (x .row)) (x .mark) (known .before .bit .ensures) (known .bit2 .ensures) (sum-or-difference (c .before)) in
+    let rows = two-rows (x .variables) (rowSaid (x .row)) (x .mark) (known .before .bit .ensures) (known .bit2 .ensures) (is-t known) (sum-or-difference (c .before)) in
     room-first _ _ (rw rows at (start known .pre .0))
 
 put-if-requires-4 : tie.Need-put-if-requires-4
@@ -112,7 +117,7 @@ put-if-requires-4 c κs =
     let added = c .before .before .before in
     let known = added .before .before .before .before .before .before .before .before .before .before in
     let x = start known .args in
-    let rows = two-rows (x .variables) (rowSaid (x .row)) (x .mark) (known .before .bit .ensures) (known .bit2 .ensures) (sum-or-difference (added .before .before)) in
+    let rows = two-rows (x .variables) (rowSaid (x .row)) (x .mark) (known .before .bit .ensures) (known .bit2 .ensures) (is-t known) (sum-or-difference (added .before .before)) in
     room-after _ (added .put-if3 .ensures) (rw rows at (start known .pre .0))
 
 same-length-4 : tie.Need-same-length-4
@@ -124,14 +129,14 @@ returns-5 c =
     let added = done .before .before .before .before in
     let known = added .before .before .before .before .before .before .before .before .before .before in
     let x = start known .args in
-    let rows = two-rows (x .variables) (rowSaid (x .row)) (x .mark) (known .before .bit .ensures) (known .bit2 .ensures) (sum-or-difference (added .before .before)) in
+    let rows = two-rows (x .variables) (rowSaid (x .row)) (x .mark) (known .before .bit .ensures) (known .bit2 .ensures) (is-t known) (sum-or-difference (added .before .before)) in
     rw rows (wrote-then (added .put-if3 .ensures) (done .put-if4 .ensures))
 
 pub parts-spec : {M : Type 1} → statement M
 parts-spec =
     tie.close
     (tie.spec
-    mul-t
+    t-of-requires
     add-to-a
     add-to-b
     bit-requires

@@ -4,8 +4,8 @@ use Rattle.table.proofs.WritingLaws.{wrote-then, room-first, room-after
 use Rattle.table.proofs.rows.scaled.Statement.{statement}
 use Rattle.table.proofs.rows.scaled.Tie as tie
 
-mul-t : tie.Need-mul-t
-mul-t c = search needs
+t-of-requires : tie.Need-t-of-requires
+t-of-requires c κs = search needs
 
 add-u : tie.Need-add-u
 add-u c = search needs
@@ -14,22 +14,28 @@ add-adjoint : tie.Need-add-adjoint
 add-adjoint c = search needs
 
 put-if-requires : tie.Need-put-if-requires
-put-if-requires c κs = room-first _ _ (c .before .before .pre .0)
+put-if-requires c κs = rw (c .before .t-of .ensures) (room-first _ _ (c .before .before .before .pre .0))
 
 put-if-requires-2 : tie.Need-put-if-requires-2
-put-if-requires-2 c κs = room-after _ (c .before .before .before .put-if .ensures) (c .before .before .before .before .before .before .pre .0)
+put-if-requires-2 c κs =
+    let put = c .before .before .before in
+    let counted = put .before .before in
+    rw (counted .t-of .ensures) (room-after _ (rw (counted .t-of .ensures) at (put .put-if .ensures)) (counted .before .before .pre .0))
 
 same-length : tie.Need-same-length
 same-length c = search needs
 
 returns : tie.Need-returns
-returns c = wrote-then (c .before .before .before .before .before .before .put-if .ensures) (c .before .before .put-if2 .ensures)
+returns c =
+    let put = c .before .before .before .before .before .before in
+    let is-t = put .before .before .t-of .ensures in
+    wrote-then (rw is-t at (put .put-if .ensures)) (rw is-t at (c .before .before .put-if2 .ensures))
 
 pub scaled-spec : {M : Type 1} → statement M
 scaled-spec =
     tie.close
     (tie.spec
-    mul-t
+    t-of-requires
     add-u
     add-adjoint
     put-if-requires
