@@ -1,5 +1,5 @@
 -- For an accepted sheet the code's equations are the definitions', with the partners that were found and the marks that were written.
-use Prim.Native.Nat.{ℕ, zero, suc, _+_, _≤_, _<_}
+use Prim.Native.Nat.{ℕ, suc, _+_, _≤_, _<_}
 use native.Mathlib.Omega.{arith}
 use mathlib.Core.Path.{_≡_, refl, sym, ap, subst, _∙_}
 use mathlib.Core.Bool.{false}
@@ -10,7 +10,7 @@ use Rattle.sheet.specs.Tree.{Tree, rows, flat, basic}
 use Rattle.sheet.specs.Rows.{Assignment, Test, _≔_, copy, fixed, sum, difference, product, negation}
 use Rattle.sheet.specs.Rows.{SheetLine, sheetRowOf, treeRows, isIndependent, isDependent}
 use Rattle.sheet.specs.Reading.{Sheet, rowsAt, variablesOf}
-use Rattle.sheet.proofs.RowsCounted.{lines-counted}
+use Rattle.sheet.proofs.RowsCounted.{rows-counted, lines-counted}
 use Rattle.sheet.proofs.ReadingParts.{accepted, same-given}
 use Rattle.sheet.proofs.ReadingExact.{reading-exact}
 use Rattle.sheet.proofs.NamesPresent.{count-judged, counts, names-present}
@@ -35,11 +35,6 @@ use Rattle.sets.proofs.PartnersRight.{passed-over}
 use Rattle.sets.proofs.MarkByteLaws.{read-back, written-at, written-same}
 use Rattle.sets.proofs.MarksListed.{marks-listed}
 use Rattle.sets.proofs.SetsLeast.{varied-proper, useful-proper, required-proper}
-
-rows-at-length : (words : List ℕ) (place n : ℕ) → length (rowsAt words place n) ≡ n
-unfolding rowsAt
-rows-at-length words place zero = refl
-rows-at-length words place (suc n) = ap suc (rows-at-length words (place + limit .rowWords) n)
 
 nothing-placed : {A : Type 0} (xs : List A) → places (λ x. false) xs ≡ empty
 unfolding places
@@ -82,7 +77,7 @@ module _ (words : List ℕ) (variables first count : ℕ) (laid : Laid words var
       reading-exact words sheet (laid .accepted) .says ∙ parts .rows ∙ ap (λ p. rowsAt words p (parts .n)) at in
       let size : rows (sheet .body) ≡ parts .n =
       sym (lines-counted (sheet .body)) ∙ sym (length-map (flat (sheet .body) []) sheetRowOf) ∙ ap length says
-      ∙ rows-at-length words first (parts .n) in
+      ∙ rows-counted words first (parts .n) in
       let few : count ≤ limit .rows = omega (arith, laid .rowsAre, size, ns .most) in
       let present = names-present words sheet (laid .accepted) in
       record {

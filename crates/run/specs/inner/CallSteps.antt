@@ -10,7 +10,7 @@ use Rattle.sheet.specs.Refusals.{Refusal, Answer, refused, given, _>>=_, number
 use Rattle.sheet.specs.Refusals.{smallTable, smallValueStack, smallTurnStack, wrongStarts, wrongSeeds, wrongResult, notFiniteGiven, notFiniteResult}
 use Rattle.sheet.specs.Reading.{Sheet, variablesOf, unless}
 use Rattle.sets.specs.Marks.{marked}
-use Rattle.table.specs.Sizes.{valuesNeeded, turnsNeeded}
+use Rattle.table.specs.Sizes.{valuesNeeded, turnsNeeded, valuesFor, turnsFor}
 use Rattle.table.specs.Calls.{tableRoom, readFor}
 use Rattle.table.specs.inner.Plans.{PlanMade}
 use Rattle.table.specs.declared.Answer as answered
@@ -57,7 +57,7 @@ unfoldable pub readWithRoom : (words : List ℕ) → Rooms → Answer Sheet
 unfolding readFor marked valuesNeeded turnsNeeded
 readWithRoom words rooms = do
   sheet ← readFor words (rooms .table)
-  _ ← stacksFit (valuesNeeded (marked sheet)) (rooms .values) (turnsNeeded (marked sheet)) (rooms .turns)
+  _ ← stacksFit (valuesFor sheet) (rooms .values) (turnsFor sheet) (rooms .turns)
   _ ← lengthsFit (variablesOf sheet) (rooms .starts) (rooms .seeds) (rooms .result)
   given sheet
 
