@@ -15,19 +15,18 @@ use Rattle.sheet.proofs.NamesPresent.{names-present}
 use Rattle.sets.specs.Marks.{varied, useful, activityAt}
 use Rattle.sets.proofs.SetsLeast.{varied-least, useful-least}
 use Rattle.run.specs.Attempts.{through}
-use Rattle.run.specs.Actions.{Setting, counting, seeded}
+use Rattle.run.specs.Actions.{Setting, counting}
 use Rattle.run.specs.Calls.{Lent, Ran, settingOf, independentAdjoints, lentAfter, run}
 use Rattle.claims.specs.ExactlyWhen.{Runnable}
 use Rattle.claims.specs.Execution.{Progress, beginning, execution}
-use Rattle.claims.specs.IdealSweep.{swept, Ideal, ideal}
+use Rattle.claims.specs.IdealSweep.{swept, firstAdjoints, Ideal, ideal}
 use Rattle.claims.specs.EquationTwo.{Instance, valueNo, EquationTwo}
-use Rattle.claims.specs.WholeRun.{AnswersAs}
 use Rattle.claims.specs.Demands.{AuditSolves}
 use Rattle.run.proofs.AttemptLaws.{same-through, went}
 use Rattle.claims.proofs.Runs.{runs}
 use Rattle.claims.proofs.RunsKeepSizes.{runs-keep}
 use Rattle.claims.proofs.StartExactlyWhen.{accepted-to-run}
-use Rattle.claims.proofs.RunsAnswer.{run-answers}
+use Rattle.claims.proofs.RunsAnswer.{AnswersAs, run-answers}
 use Rattle.claims.proofs.EquationTwoSolved.{equation-two-solvable}
 use Rattle.claims.proofs.EquationTwoHolds.{Sound, Given, ideal-goes, ideal-solves}
 
@@ -73,7 +72,7 @@ module _ (words starts seeds : List ℕ) (lent : Lent residues) (sheet : Sheet) 
   executes i goes =
       let run-is = went (execution residues sheet starts) _ i goes in
       let lean = went (swept residues setting (activityAt (varied sheet) (useful sheet)) (run-is .0 .trace)
-      (seeded residues (setting .roles) (setting .seeds) ++ (0 ∷ 0 ∷ []))) _ i (run-is .2) in
+      (firstAdjoints residues (setting .roles) (setting .seeds))) _ i (run-is .2) in
       run-is .1 ∙ ap through (ap (λ (x : Ideal residues). x .progress) (same-through (lean .2)))
 
   keeps : (progress : Progress residues) → execution residues sheet starts ≡ through progress → length (progress .store) ≡ variablesOf sheet

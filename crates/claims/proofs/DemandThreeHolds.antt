@@ -96,6 +96,7 @@ module _ (A : Arithmetic) (words : List ℕ) (sheet : Sheet) (accepted : read wo
     is-marked = refl
 
     prepared : Prepared A words sheet (recordedIn sheet) starts valueRoom turnRoom
+    unfolding markBy
     prepared =
         record {
           accepted = accepted;

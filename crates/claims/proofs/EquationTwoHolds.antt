@@ -3,7 +3,7 @@
 use Prim.Native.Nat.{ℕ, zero, suc, _<_}
 use mathlib.Core.Path.{_≡_, refl, sym, ap, subst, _∙_}
 use mathlib.Core.Bool.{Bool, true, false, cond}
-use mathlib.Core.List.{List, [], _∷_, _++_}
+use mathlib.Core.List.{List, [], _∷_}
 use lib.ListN.{length, getD, drop, List·getD-eq-default}
 use lib.Dec.{T}
 use native.Mathlib.Decide.{decLt}
@@ -25,7 +25,7 @@ use Rattle.run.specs.Actions.{counting, seeded}
 use Rattle.run.specs.Calls.{settingOf}
 use Rattle.run.specs.InTheLarge.{Stop}
 use Rattle.claims.specs.Execution.{Progress, beginning, execution, executed}
-use Rattle.claims.specs.IdealSweep.{swept, Ideal, ideal}
+use Rattle.claims.specs.IdealSweep.{swept, firstAdjoints, Ideal, ideal}
 use Rattle.claims.specs.EquationTwo.{Instance, valueNo, Trace, EquationTwo}
 use Rattle.run.proofs.AttemptLaws.{same-through, went}
 use Rattle.claims.proofs.Runs.{runs}
@@ -46,7 +46,7 @@ getD-tail : (xs : List ℕ) (x : ℕ) → getD (drop 1 xs) x 0 ≡ getD xs (suc 
 getD-tail [] x = refl
 getD-tail (y ∷ xs) x = refl
 
-seeded-at : (roles seeds : List ℕ) (x : ℕ) → getD (seeded residues roles seeds ++ (0 ∷ 0 ∷ [])) x 0 ≡ seedAt roles seeds x
+seeded-at : (roles seeds : List ℕ) (x : ℕ) → getD (firstAdjoints residues roles seeds) x 0 ≡ seedAt roles seeds x
 unfolding counting seedAt
 seeded-at [] seeds x = nothing-past x
 seeded-at (role ∷ roles) seeds zero = refl
@@ -69,7 +69,7 @@ unseeded true seed no-dependent = absurd (no-dependent tt)
 unseeded false seed no-dependent = refl
 
 seeds-agree : (varied : VariableSet) (roles seeds : List ℕ) → ((x : ℕ) → x < length roles → getD seeds x 0 < modulus)
-    → Agrees varied (places isDependent roles) (length roles) (seedAt roles seeds) (seeded residues roles seeds ++ (0 ∷ 0 ∷ []))
+    → Agrees varied (places isDependent roles) (length roles) (seedAt roles seeds) (firstAdjoints residues roles seeds)
 unfolding seedAt
 seeds-agree varied roles seeds below =
     record {
@@ -86,7 +86,7 @@ seeds-agree varied roles seeds below =
 abbrev pub leanSweep : Sheet → (seeds : List ℕ) → (valueRoom turnRoom : ℕ) → Trace → Attempt (Stop residues) (List ℕ)
 leanSweep sheet seeds valueRoom turnRoom trace =
     swept residues (settingOf residues sheet seeds valueRoom turnRoom) (activityAt (varied sheet) (useful sheet)) trace
-    (seeded residues (sheet .roles) seeds ++ (0 ∷ 0 ∷ []))
+    (firstAdjoints residues (sheet .roles) seeds)
 
 -- what an accepted sheet gives: its sets satisfy 01's equations, and it names nothing that isn't there
 pub record Sound (sheet : Sheet) : Type 0 where
@@ -112,7 +112,7 @@ module _ (sheet : Sheet) (starts seeds : List ℕ) (valueRoom turnRoom : ℕ) (s
       let variedSets = varied sheet in
       let usefulSets = useful sheet in
       let full = seedAt (sheet .roles) seeds in
-      let lean = seeded residues (sheet .roles) seeds ++ (0 ∷ 0 ∷ []) in
+      let lean = firstAdjoints residues (sheet .roles) seeds in
       let end = rows body in
       let variedAlong = forward-along (λ p. variedAfter) (setAt variedSets) body 0 [] (sound .varies .1) .0 in
       let usefulAlong = backward-along (λ p. usefulBefore) (setAt usefulSets) body 0 [] (sound .uses .1) .0 in

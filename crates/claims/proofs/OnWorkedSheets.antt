@@ -2,15 +2,14 @@
 use Prim.Native.Nat.{ℕ, zero, suc, _<_}
 use mathlib.Core.Path.{_≡_, refl, sym}
 use mathlib.Core.Bool.{true}
-use mathlib.Core.List.{List, [], _∷_, _++_, map}
+use mathlib.Core.List.{[], _∷_, map}
 use lib.ListN.{getD, replicate}
 use native.Mathlib.Omega.{arith}
 use Rattle.number.specs.Residues.{modulus, residues, residue}
 use Rattle.sheet.specs.Refusals.{Answer, refused, given}
 use Rattle.sheet.specs.Tree.{done}
 use Rattle.sheet.specs.Reading.{Sheet, variablesOf, read}
-use Rattle.sets.specs.Transfers.{recordedBy}
-use Rattle.sets.specs.Marks.{marked, varied, useful, required, activityAt}
+use Rattle.sets.specs.Marks.{marked, markBy, varied, useful, required, activityAt}
 use Rattle.table.specs.Sizes.{valuesNeeded, turnsNeeded}
 use Rattle.run.specs.Attempts.{Attempt, through, halted, stuck}
 use Rattle.run.specs.Actions.{counting, seeded}
@@ -18,9 +17,11 @@ use Rattle.run.specs.Calls.{Lent, settingOf, readToRun, run}
 use Rattle.run.specs.InTheLarge.{Stop}
 use Rattle.claims.specs.ExactlyWhen.{Runnable}
 use Rattle.claims.specs.Execution.{Progress, execution}
+use Rattle.claims.specs.IdealSweep.{firstAdjoints}
 use Rattle.claims.specs.ReadLog.{sweptLog}
 use Rattle.claims.specs.EquationTwo.{Instance, valueNo, EquationTwo}
 use Rattle.claims.specs.SavedRows.{savedValues, recordedIn}
+use Rattle.claims.specs.WorkedSheets.{wordsD, wordsE}
 use Rattle.claims.specs.Demands.{AuditSolves, DemandThree, SameAsAllSaved}
 use Rattle.sheet.proofs.Settled.{given-exactly}
 use Rattle.claims.proofs.StartExactlyWhen.{start-settled}
@@ -40,15 +41,12 @@ below zero = omega arith
 below (suc zero) = omega arith
 below (suc (suc x)) = omega arith
 
-wordsE : List ℕ
-wordsE = 2 ∷ 3 ∷ 0 ∷ 0 ∷ 4 ∷ 10 ∷ 0 ∷ 2 ∷ 0 ∷ 5 ∷ 1 ∷ 0 ∷ 0 ∷ 3 ∷ 0 ∷ 0 ∷ 1 ∷ 11 ∷ 0 ∷ 0 ∷ 0 ∷ []
-
 sheetE : Sheet
-unfolding sheetIn wordsE read
+unfolding sheetIn read
 sheetE = sheetIn (read wordsE)
 
 E-accepted : read wordsE ≡ given sheetE
-unfolding wordsE sheetE read
+unfolding sheetE read
 E-accepted = refl
 
 E-demand-three : DemandThree residues sheetE (1 ∷ 0 ∷ []) (1 ∷ 0 ∷ []) 2 0
@@ -75,13 +73,13 @@ E-executes = refl
 
 -- two values are saved, 2 on top of 1
 E-saves : savedValues residues (recordedIn sheetE) (progressE .trace) ≡ 2 ∷ 1 ∷ []
-unfolding savedValues recordedBy required progressE
+unfolding savedValues markBy required progressE
 E-saves = refl
 
 -- Each turn's sum reads no original; each turn's product reads x twice: 2 in the second turn, which is taken back first, and 1 in the first.
 E-reads : map (λ entry. entry .reads)
     (sweptLog residues (settingOf residues sheetE (1 ∷ 0 ∷ []) 2 0) (activityAt (varied sheetE) (useful sheetE)) (progressE .trace)
-    (seeded residues (sheetE .roles) (1 ∷ 0 ∷ []) ++ (0 ∷ 0 ∷ [])))
+    (firstAdjoints residues (sheetE .roles) (1 ∷ 0 ∷ [])))
     ≡ [] ∷ [] ∷ [] ∷ [] ∷ [] ∷ [] ∷ (2 ∷ []) ∷ [] ∷ (2 ∷ []) ∷ [] ∷ [] ∷ [] ∷ [] ∷ [] ∷ [] ∷ [] ∷ (1 ∷ []) ∷ [] ∷ (1 ∷ []) ∷ [] ∷ []
 unfolding sweptLog settingOf activityAt varied useful progressE counting residue
 E-reads = refl
@@ -90,7 +88,7 @@ lentE : Lent residues
 lentE = record { table = replicate 77 7; values = 7 ∷ 7 ∷ []; turns = []; result = 7 ∷ 7 ∷ 7 ∷ 7 ∷ [] }
 
 E-runs : Runnable residues wordsE (1 ∷ 0 ∷ []) (1 ∷ 0 ∷ []) lentE sheetE
-unfolding readToRun wordsE sheetE lentE
+unfolding readToRun sheetE lentE
 E-runs = given-exactly (start-settled residues wordsE (1 ∷ 0 ∷ []) (1 ∷ 0 ∷ []) lentE) sheetE .0 refl
 
 E-audit : AuditSolves sheetE (1 ∷ 0 ∷ []) (1 ∷ 0 ∷ []) (run residues wordsE (1 ∷ 0 ∷ []) (1 ∷ 0 ∷ []) lentE)
@@ -101,20 +99,17 @@ E-audit = audit-solves wordsE (1 ∷ 0 ∷ []) (1 ∷ 0 ∷ []) lentE sheetE E-r
 
 -- equation (2) has 15 at x's start value, as 01 says
 E-equation-two : (bar : Instance → ℕ) → EquationTwo (sheetE .roles) (1 ∷ 0 ∷ []) (E-audit .progress .trace) bar → bar (valueNo 0 0) ≡ 15
-unfolding sheetE run wordsE lentE residue
+unfolding sheetE run lentE residue
 E-equation-two bar solves = sym (E-audit .adjoints bar solves 0 (omega arith))
 
 -- ---- D: the branch taken is saved
 
-wordsD : List ℕ
-wordsD = 2 ∷ 3 ∷ 0 ∷ 0 ∷ 4 ∷ 7 ∷ 0 ∷ 1 ∷ 0 ∷ 1 ∷ 0 ∷ 1 ∷ 0 ∷ 8 ∷ 0 ∷ 0 ∷ 0 ∷ 9 ∷ 0 ∷ 0 ∷ 0 ∷ []
-
 sheetD : Sheet
-unfolding sheetIn wordsD read
+unfolding sheetIn read
 sheetD = sheetIn (read wordsD)
 
 D-accepted : read wordsD ≡ given sheetD
-unfolding wordsD sheetD read
+unfolding sheetD read
 D-accepted = refl
 
 D-demand-three : DemandThree residues sheetD (5 ∷ 2 ∷ []) (1 ∷ 0 ∷ []) 0 1

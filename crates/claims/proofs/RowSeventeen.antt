@@ -8,6 +8,7 @@ use native.Mathlib.Nat.{suc-add, zero-add}
 use native.Mathlib.Omega.{arith}
 use Rattle.number.specs.Arithmetic.{Arithmetic}
 use Rattle.run.specs.Actions.{Setting, counting, seeded, turnedRound}
+use Rattle.claims.specs.IdealSweep.{firstAdjoints}
 
 module _ (A : Arithmetic) where
   drop-zeros : (n m : ℕ) → drop n (replicate (n + m) (A .zero)) ≡ replicate m (A .zero)
@@ -19,16 +20,12 @@ module _ (A : Arithmetic) where
   seeded-length [] seeds = refl
   seeded-length (role ∷ roles) seeds = ap suc (seeded-length roles (drop 1 seeds))
 
-  -- the adjoints, t and u as row 17 leaves them
-  abbrev pub firstAdjoints : (roles : List ℕ) → (seeds : List (A .Carrier)) → List (A .Carrier)
-  firstAdjoints roles seeds = seeded A roles seeds ++ (A .zero ∷ A .zero ∷ [])
-
-  pub first-size : (roles : List ℕ) (seeds : List (A .Carrier)) → length (firstAdjoints roles seeds) ≡ length roles + 2
+  pub first-size : (roles : List ℕ) (seeds : List (A .Carrier)) → length (firstAdjoints A roles seeds) ≡ length roles + 2
   first-size roles seeds = length-append (seeded A roles seeds) (A .zero ∷ A .zero ∷ []) ∙ ap (λ k. k + 2) (seeded-length roles seeds)
 
   pub turns-round : (setting : Setting A) (store values : List (A .Carrier)) (turns : List ℕ) → length store ≡ setting .variables
       → turnedRound A setting (record { store = store ++ replicate (setting .variables + 2) (A .zero); values = values; turns = turns; copied = [] })
-      ≡ record { store = store ++ firstAdjoints (setting .roles) (setting .seeds); values = values; turns = turns; copied = store }
+      ≡ record { store = store ++ firstAdjoints A (setting .roles) (setting .seeds); values = values; turns = turns; copied = store }
   unfolding turnedRound
   turns-round setting store values turns n =
       let v = setting .variables in

@@ -30,7 +30,7 @@ use Rattle.run.specs.RowReads.{tableLog, onThrough}
 use Rattle.run.proofs.AttemptLaws.{Ready, gives, stops}
 use Rattle.run.proofs.MachineFollows.{EndsAs, run-follows}
 use Rattle.claims.specs.Execution.{Progress, beginning, execution}
-use Rattle.claims.specs.IdealSweep.{swept, Ideal, ideal}
+use Rattle.claims.specs.IdealSweep.{swept, firstAdjoints, Ideal, ideal}
 use Rattle.claims.specs.ReadLog.{sweptLog}
 use Rattle.claims.specs.SavedRows.{savedValues}
 use Rattle.claims.specs.WholeRun.{Matches}
@@ -42,7 +42,7 @@ use Rattle.claims.proofs.Forward.{body, memoryWith, forward-executes}
 use Rattle.claims.proofs.ForwardLog.{forward-notes-nothing}
 use Rattle.claims.proofs.Undoing.{Covers}
 use Rattle.claims.proofs.Replay.{Requires, Retraces, retraced, cutShort, retraces}
-use Rattle.claims.proofs.RowSeventeen.{firstAdjoints, first-size, turns-round}
+use Rattle.claims.proofs.RowSeventeen.{first-size, turns-round}
 
 abbrev pub knownIn : Sheet → ℕ → Assignment → Activity
 knownIn sheet = activityAt (varied sheet) (useful sheet)

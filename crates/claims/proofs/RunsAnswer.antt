@@ -3,21 +3,21 @@ use Prim.Native.Nat.{ℕ}
 use mathlib.Core.Path.{_≡_, refl, sym, ap, subst, _∙_}
 use mathlib.Core.Logic.{_⊎_, inl, inr}
 use mathlib.Core.Bool.{Bool}
-use mathlib.Core.List.{List}
+use mathlib.Core.List.{List, _++_}
 use lib.ListN.{length}
 use native.Mathlib.Omega.{arith}
 use Rattle.number.specs.Arithmetic.{Arithmetic}
 use Rattle.number.specs.Residues.{residues}
 use Rattle.sheet.specs.Tree.{RowNumber}
-use Rattle.sheet.specs.Refusals.{given, numberOf}
+use Rattle.sheet.specs.Refusals.{given, numberOf, placeOf, notFiniteResult}
 use Rattle.sheet.specs.Reading.{Sheet, variablesOf, read}
 use Rattle.run.specs.Attempts.{Attempt, through, halted, stuck}
 use Rattle.run.specs.Machine.{Ending, gotStuck}
-use Rattle.run.specs.Calls.{Lent, Ran, settingOf, resultOf, ranTo, run}
+use Rattle.run.specs.Calls.{Lent, Ran, settingOf, independentAdjoints, resultOf, lentAfter, ranTo, run}
 use Rattle.run.specs.InTheLarge.{Stop}
 use Rattle.claims.specs.ExactlyWhen.{Runnable}
 use Rattle.claims.specs.IdealSweep.{Ideal, ideal}
-use Rattle.claims.specs.WholeRun.{runSaving, Room, Matches, AnswersAs, SameOutcome, bothEnd, bothStop}
+use Rattle.claims.specs.WholeRun.{runSaving, Room, Matches, SameOutcome, bothEnd, bothStop}
 use Rattle.claims.proofs.IdealRooms.{ideal-in-any-room}
 use Rattle.claims.proofs.StartExactlyWhen.{accepted-to-run, started}
 use Rattle.claims.proofs.WholeRunMatches.{run-matches, own-run-matches}
@@ -25,8 +25,29 @@ use Rattle.claims.proofs.WholeRunMatches.{run-matches, own-run-matches}
 module _ (A : Arithmetic) where
   -- ---- the call
 
+  -- what the call run answers: 0 with the values of the execution and, at the independents, the adjoints of the ideal sweep; or 12 at
+  -- some table row, the result unchanged
+  unfoldable pub AnswersAs : Sheet → Lent A → Attempt (Stop A) (Ideal A) → Ran A → Type 0
+  unfolding lentAfter independentAdjoints numberOf placeOf
+  AnswersAs sheet lent (through i) ran =
+      ran
+      ≡ record {
+        number = 0;
+        place = 0;
+        lent = lentAfter A sheet lent (i .progress .store ++ independentAdjoints A (sheet .roles) (i .adjoints));
+      }
+  AnswersAs sheet lent (halted stop) ran =
+      (row : RowNumber)
+      × (ran
+      ≡ record {
+        number = numberOf (notFiniteResult (row .index));
+        place = placeOf (notFiniteResult (row .index));
+        lent = lentAfter A sheet lent (lent .result);
+      })
+  AnswersAs sheet lent stuck ran = ⊥
+
   answers-as : (sheet : Sheet) (lent : Lent A) (i : Attempt (Stop A) (Ideal A)) (ending : Ending A) → Matches A (variablesOf sheet) i ending
-      → AnswersAs A sheet lent i (ranTo A sheet lent ending)
+      → AnswersAs sheet lent i (ranTo A sheet lent ending)
   unfolding Matches AnswersAs ranTo resultOf
   answers-as sheet lent (through i) ending m = rw (m .ends, m .values, m .adjoints) refl
   answers-as sheet lent (halted stop) ending m = (m .0, rw (m .1) refl)
@@ -37,7 +58,7 @@ module _ (A : Arithmetic) where
     abbrev idealRun : Attempt (Stop A) (Ideal A)
     idealRun = ideal A sheet (settingOf A sheet seeds (length (lent .values)) (length (lent .turns))) starts
 
-    pub run-answers : AnswersAs A sheet lent idealRun answer
+    pub run-answers : AnswersAs sheet lent idealRun answer
     run-answers =
         let stacks = ready .lengths .stacks in
         let accepted = accepted-to-run A words starts seeds lent sheet ready in
@@ -48,7 +69,7 @@ module _ (A : Arithmetic) where
     unfolding AnswersAs numberOf
     zero-or-twelve = by-ideal idealRun run-answers
       where
-        by-ideal : (i : Attempt (Stop A) (Ideal A)) → AnswersAs A sheet lent i answer → (answer .number ≡ 0) ⊎ (answer .number ≡ 12)
+        by-ideal : (i : Attempt (Stop A) (Ideal A)) → AnswersAs sheet lent i answer → (answer .number ≡ 0) ⊎ (answer .number ≡ 12)
         by-ideal (through i) a = inl (ap (λ r. r .number) a)
         by-ideal (halted stop) a = inr (ap (λ r. r .number) (a .1))
         by-ideal stuck a = absurd a

@@ -76,7 +76,7 @@ module _ (A : Arithmetic) (words : List ℕ) (sheet : Sheet) (accepted : read wo
 
   pub run-matches : (choice : RowNumber → Bool) (valueRoom turnRoom : ℕ) → Room A choice sheet valueRoom turnRoom
       → Like valueRoom turnRoom (runSaving A choice sheet starts seeds valueRoom turnRoom)
-  unfolding runSaving
+  unfolding runSaving markBy
   run-matches choice valueRoom turnRoom room =
       rw (also-body sheet choice)
       (matches-ideal A {words = words} seeds

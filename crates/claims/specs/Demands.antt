@@ -3,7 +3,7 @@
 use Prim.Native.Nat.{ℕ, _≤_, _<_}
 use mathlib.Core.Path.{_≡_}
 use mathlib.Core.Bool.{true, cond}
-use mathlib.Core.List.{List, [], _∷_, _++_, map}
+use mathlib.Core.List.{List, [], _∷_, map}
 use lib.ListN.{length, getD, take, drop}
 use Rattle.number.specs.Arithmetic.{Arithmetic}
 use Rattle.number.specs.Residues.{modulus, residues}
@@ -20,14 +20,14 @@ use Rattle.table.specs.Calls.{checkedSaid, check, writtenOf, write}
 use Rattle.table.specs.declared.Checked as declared
 use Rattle.table.specs.declared.Answer.{Answer}
 use Rattle.run.specs.Attempts.{through, halted}
-use Rattle.run.specs.Actions.{Memory, Setting, acted, seeded}
+use Rattle.run.specs.Actions.{Memory, Setting, acted}
 use Rattle.run.specs.Machine.{State, Step, goesOn, sticks, stateAfter, stepsOf, Ending, finished, stoppedAt}
 use Rattle.run.specs.Calls.{Lent, Ran, settingOf, startOf, runOf, resultOf, run, ranOf}
 use Rattle.run.specs.RowReads.{machineLog}
 use Rattle.claims.specs.ExactlyWhen.{Writable, Runnable}
 use Rattle.claims.specs.CallsExactly.{CheckExactly, StartsWith, WriteExactly, RunExactly}
 use Rattle.claims.specs.Execution.{Progress, execution}
-use Rattle.claims.specs.IdealSweep.{ideal}
+use Rattle.claims.specs.IdealSweep.{firstAdjoints, ideal}
 use Rattle.claims.specs.ReadLog.{sweptLog}
 use Rattle.claims.specs.EquationTwo.{Instance, valueNo, EquationTwo, Solvable}
 use Rattle.claims.specs.SavedRows.{every, savedValues, recordedIn}
@@ -175,7 +175,7 @@ module _ (A : Arithmetic) (sheet : Sheet) (starts seeds : List (A .Carrier)) (va
   ReplaysInReverse progress =
       (n : ℕ) → stepsOf (tableOf sheet) ≤ n
       → machineLog A n setting lines (startOf A sheet starts)
-      ≡ sweptLog A setting (activityAt (varied sheet) (useful sheet)) (progress .trace) (seeded A (sheet .roles) seeds ++ (A .zero ∷ A .zero ∷ []))
+      ≡ sweptLog A setting (activityAt (varied sheet) (useful sheet)) (progress .trace) (firstAdjoints A (sheet .roles) seeds)
 
   -- All of it, unless a double leaves the finite range while the sheet itself is executed. "both stacks end empty" is in `ends`.
   pub record DemandThree : Type 0 where

@@ -33,6 +33,10 @@ module _ (A : Arithmetic) where
     next ← derivedBy setting (e .assignment) (e .row) (known (e .row .index) (e .assignment)) (e .before) adjoints
     swept setting known earlier next
 
+  -- the adjoints, t and u as row 17 leaves them
+  abbrev pub firstAdjoints : (roles : List ℕ) → (seeds : List (A .Carrier)) → List (A .Carrier)
+  firstAdjoints roles seeds = seeded A roles seeds ++ (A .zero ∷ A .zero ∷ [])
+
   pub record Ideal : Type 0 where
     pub progress : Progress A
     pub adjoints : List (A .Carrier)
@@ -41,6 +45,5 @@ module _ (A : Arithmetic) where
   unfolding execution swept counting varied useful activityAt
   ideal sheet setting starts = do
     progress ← execution A sheet starts
-    adjoints ← swept setting (activityAt (varied sheet) (useful sheet)) (progress .trace)
-        (seeded A (setting .roles) (setting .seeds) ++ (A .zero ∷ A .zero ∷ []))
+    adjoints ← swept setting (activityAt (varied sheet) (useful sheet)) (progress .trace) (firstAdjoints (setting .roles) (setting .seeds))
     through (record { progress = progress; adjoints = adjoints })

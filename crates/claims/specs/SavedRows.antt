@@ -7,9 +7,7 @@ use Rattle.number.specs.Arithmetic.{Arithmetic}
 use Rattle.sheet.specs.Tree.{done, one, fork, again, RowNumber}
 use Rattle.sheet.specs.Rows.{Assignment}
 use Rattle.sheet.specs.Reading.{Sheet}
-use Rattle.sets.specs.Equations.{setAt}
-use Rattle.sets.specs.Transfers.{recordedBy}
-use Rattle.sets.specs.Marks.{varied, useful, required, activityAt}
+use Rattle.sets.specs.Marks.{varied, useful, required, markBy}
 use Rattle.table.specs.Adjoint.{Body, targetOf}
 use Rattle.claims.specs.Execution.{Executed}
 
@@ -40,4 +38,4 @@ module _ (A : Arithmetic) (saved : ℕ → Assignment → Bool) where
 
 -- the rows that the sheet's own table saves
 abbrev pub recordedIn : Sheet → ℕ → Assignment → Bool
-recordedIn sheet p b = recordedBy b (activityAt (varied sheet) (useful sheet) p b) (setAt (required sheet) p)
+recordedIn sheet p b = markBy (varied sheet) (useful sheet) (required sheet) p b .saved

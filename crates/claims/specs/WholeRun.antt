@@ -2,19 +2,18 @@
 use Prim.Native.Nat.{ℕ, _≤_}
 use mathlib.Core.Path.{_≡_}
 use mathlib.Core.Bool.{Bool}
-use mathlib.Core.List.{List, [], _++_}
+use mathlib.Core.List.{List, []}
 use lib.ListN.{drop}
 use Rattle.number.specs.Arithmetic.{Arithmetic}
 use Rattle.sheet.specs.Tree.{RowNumber}
-use Rattle.sheet.specs.Refusals.{numberOf, placeOf, notFiniteResult}
 use Rattle.sheet.specs.Reading.{Sheet, variablesOf}
 use Rattle.sets.specs.Marks.{marked}
 use Rattle.table.specs.Adjoint.{adjointTable}
 use Rattle.table.specs.Sizes.{valuesNeeded, turnsNeeded}
 use Rattle.run.specs.Attempts.{Attempt, through, halted, stuck}
-use Rattle.run.specs.Actions.{Memory, counting}
+use Rattle.run.specs.Actions.{Memory}
 use Rattle.run.specs.Machine.{Ending, finished, stoppedAt}
-use Rattle.run.specs.Calls.{Lent, Ran, settingOf, startOf, runOf, independentAdjoints, lentAfter}
+use Rattle.run.specs.Calls.{settingOf, startOf, runOf}
 use Rattle.run.specs.InTheLarge.{Stop}
 use Rattle.claims.specs.IdealSweep.{Ideal}
 use Rattle.claims.specs.SavedRows.{alsoSaving}
@@ -46,27 +45,6 @@ module _ (A : Arithmetic) where
   Matches v (through i) ending = Ended v i ending
   Matches v (halted stop) ending = (row : RowNumber) × (ending ≡ stoppedAt row (stop .origin) (stop .why))
   Matches v stuck ending = ⊥
-
-  -- what the call run answers: 0 with the values of the execution and, at the independents, the adjoints of the ideal sweep; or 12 at
-  -- some table row, the result unchanged
-  unfoldable pub AnswersAs : Sheet → Lent A → Attempt (Stop A) (Ideal A) → Ran A → Type 0
-  unfolding lentAfter counting numberOf placeOf
-  AnswersAs sheet lent (through i) ran =
-      ran
-      ≡ record {
-        number = 0;
-        place = 0;
-        lent = lentAfter A sheet lent (i .progress .store ++ independentAdjoints A (sheet .roles) (i .adjoints));
-      }
-  AnswersAs sheet lent (halted stop) ran =
-      (row : RowNumber)
-      × (ran
-      ≡ record {
-        number = numberOf (notFiniteResult (row .index));
-        place = placeOf (notFiniteResult (row .index));
-        lent = lentAfter A sheet lent (lent .result);
-      })
-  AnswersAs sheet lent stuck ran = ⊥
 
   -- Two runs that give the same values and the same adjoints, or stop: "A stop is compared by the sheet row and the operation it comes from",
   -- which are its origin.
