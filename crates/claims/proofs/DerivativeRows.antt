@@ -3,12 +3,13 @@
 use Prim.Native.Nat.{ℕ, zero, _+_, _-_, _≤_, _<_}
 use mathlib.Core.Path.{_≡_, refl, sym, ap, _∙_}
 use mathlib.Core.Logic.{_⊎_, inl, inr}
-use mathlib.Core.Bool.{true, cond}
+use mathlib.Core.Bool.{cond}
 use mathlib.Core.List.{List, [], _∷_, _++_}
 use mathlib.Core.Option.{some}
 use lib.ListN.{length, set, getElem?, length-append, length-set}
 use lib.Dec.{T, ltb}
 use native.Mathlib.Omega.{arith}
+use borrow.Author.Tests.{lt-ltb}
 use Rattle.number.specs.Arithmetic.{Arithmetic, Outcome}
 use Rattle.sheet.specs.Rows.{_≔_, Source, copy, fixed, sum, difference, product, negation}
 use Rattle.sets.specs.VariableSets.{VariableSet, has}
@@ -17,7 +18,7 @@ use Rattle.run.specs.Attempts.{through, halted, _>>=_, fromOutcome, look}
 use Rattle.run.specs.Actions.{Memory, Setting, evaluated, acted, stored, withStore}
 use Rattle.run.specs.RowReads.{originalAt, readsOf}
 use Rattle.run.proofs.AttemptLaws.{Ready, gives, stops, from-outcome-ready}
-use Rattle.claims.proofs.Stores.{is-below, same-default, at-known, at-first-part, at-second-part, set-second-part}
+use Rattle.claims.proofs.Stores.{same-default, at-known, at-first-part, at-second-part, set-second-part}
 
 -- ---- rows that work on the adjoints
 
@@ -96,11 +97,8 @@ module _ (A : Arithmetic) where
       stored-adjoint : (memory : Memory A) (d : ℕ) (x : A .Carrier) → v ≤ d → d < tableVariables v
           → stored A (withStore A memory (originals ++ adjoints)) d x ≡ through (withStore A memory (originals ++ set adjoints (d - v) x))
       stored-adjoint memory d x low high =
-          let there : ltb d (length (originals ++ adjoints)) ≡ true = passes (omega (arith, store-size originals adjoints n m)) in
+          let there = lt-ltb d (length (originals ++ adjoints)) (omega (arith, store-size originals adjoints n m)) in
           rw (there, set-adjoint originals adjoints d x n low)
-        where
-          passes : d < length (originals ++ adjoints) → ltb d (length (originals ++ adjoints)) ≡ true
-          passes h = is-below d (length (originals ++ adjoints)) h
 
     -- ---- two stores that agree on what is needed, with the same adjoints
 

@@ -1,6 +1,6 @@
 -- In residues the lean reverse sweep (only active rows, only varied operands) goes through and gives, at every independent, the adjoint
 -- that equation (2) defines over all executed assignments.
-use Prim.Native.Nat.{ℕ, zero, suc, _<_}
+use Prim.Native.Nat.{ℕ, zero, suc, _+_, _<_}
 use mathlib.Core.Path.{_≡_, refl, sym, ap, subst, _∙_}
 use mathlib.Core.Bool.{Bool, true, false, cond}
 use mathlib.Core.List.{List, [], _∷_}
@@ -28,6 +28,7 @@ use Rattle.claims.specs.Execution.{Progress, beginning, execution, execu
 use Rattle.claims.specs.IdealSweep.{swept, firstAdjoints, Ideal, ideal}
 use Rattle.claims.specs.EquationTwo.{Instance, valueNo, Trace, EquationTwo}
 use Rattle.run.proofs.AttemptLaws.{same-through, went}
+use lib.Seq.{getD-drop}
 use Rattle.claims.proofs.Runs.{runs}
 use Rattle.claims.proofs.ResiduesGo.{execution-goes}
 use Rattle.claims.proofs.EquationTwoSolved.{fullSwept, seedAt, full-sweep-solves}
@@ -42,15 +43,13 @@ nothing-past zero = refl
 nothing-past (suc zero) = refl
 nothing-past (suc (suc x)) = refl
 
-getD-tail : (xs : List ℕ) (x : ℕ) → getD (drop 1 xs) x 0 ≡ getD xs (suc x) 0
-getD-tail [] x = refl
-getD-tail (y ∷ xs) x = refl
-
 seeded-at : (roles seeds : List ℕ) (x : ℕ) → getD (firstAdjoints residues roles seeds) x 0 ≡ seedAt roles seeds x
 unfolding counting seedAt
 seeded-at [] seeds x = nothing-past x
 seeded-at (role ∷ roles) seeds zero = refl
-seeded-at (role ∷ roles) seeds (suc x) = seeded-at roles (drop 1 seeds) x ∙ ap (λ y. cond (isDependent (getD roles x 0)) y 0) (getD-tail seeds x)
+seeded-at (role ∷ roles) seeds (suc x) =
+    let e : 1 + x ≡ suc x = omega arith in
+    seeded-at roles (drop 1 seeds) x ∙ ap (λ y. cond (isDependent (getD roles x 0)) y 0) (getD-drop 1 seeds x 0 ∙ ap (λ k. getD seeds k 0) e)
 
 seed-below : (roles seeds : List ℕ) → ((x : ℕ) → x < length roles → getD seeds x 0 < modulus) → (x : ℕ) → seedAt roles seeds x < modulus
 unfolding seedAt

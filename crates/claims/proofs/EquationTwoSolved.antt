@@ -2,32 +2,20 @@
 use Prim.Native.Nat.{ℕ, suc, _+_, _*_, _<_}
 use mathlib.Core.Path.{_≡_, refl, sym, ap, _∙_}
 use mathlib.Core.Logic.{_≢_}
-use mathlib.Core.Bool.{Bool, true, false, _&&_, cond, and-true, and-false}
+use mathlib.Core.Bool.{true, false, _&&_, cond, and-true, and-false}
 use mathlib.Core.List.{List, [], _∷_}
 use mathlib.Core.Option.{Option, none, some}
 use lib.ListN.{getD}
-use lib.Dec.{T, eqb, eqb→eq, eqb-refl}
+use lib.Dec.{eqb}
 use native.Mathlib.Decide.{ℕ-discrete}
 use native.Mathlib.Nat.{add-assoc, add-zero, zero-add}
 use native.Mathlib.Omega.{arith}
+use borrow.Author.Tests.{eq-eqb, ne-eqb}
 use Rattle.number.specs.Residues.{modulus, residue, opposite}
 use Rattle.number.proofs.ResidueLaws.{residue-sum-left, residue-same}
 use Rattle.sheet.specs.Rows.{Assignment, _≔_, Source, copy, fixed, sum, difference, product, negation, isDependent}
 use Rattle.sets.specs.Transfers.{firstRead, secondRead}
-use Rattle.sets.proofs.Truths.{of-T}
 use Rattle.claims.specs.EquationTwo.{Instance, valueNo, sameInstance, Trace, assigns, timesAssigned, current, Node, partialsOf, nodeOf, nodesOf, termsOf, allTerms, startsAt, EquationTwo, Solvable}
-
--- ---- equal numbers, as tests
-
-pub eqb-same : (n : ℕ) → eqb n n ≡ true
-eqb-same n = of-T (eqb n n) (eqb-refl n)
-
-pub eqb-other : (m n : ℕ) → m ≢ n → eqb m n ≡ false
-eqb-other m n h = is-false (eqb m n) (λ t. h (eqb→eq m n t))
-  where
-    is-false : (b : Bool) → (T b → ⊥) → b ≡ false
-    is-false true f = absurd (f tt)
-    is-false false f = refl
 
 -- ---- what an assignment reads no more, and not yet
 
@@ -37,8 +25,8 @@ unfolding sameInstance
 read-is-current earlier a x n h = by-case (ℕ-discrete a x)
   where
     by-case : Dec (a ≡ x) → (eqb a x && eqb (timesAssigned earlier a) n) ≡ false
-    by-case (yes e) = rw (e, eqb-same x, eqb-other (timesAssigned earlier x) n h)
-    by-case (no d) = rw (eqb-other a x d)
+    by-case (yes e) = rw (e, eq-eqb x x refl, ne-eqb (timesAssigned earlier x) n h)
+    by-case (no d) = rw (ne-eqb a x d)
 
 pub others-unread : (source : Source) (before : List ℕ) (earlier : Trace) (x n bar : ℕ) → timesAssigned earlier x ≢ n
     → termsOf (valueNo x n) bar (partialsOf source before earlier) ≡ 0
@@ -187,8 +175,8 @@ unfolding sameInstance
 read-now earlier a x = by-case (ℕ-discrete a x)
   where
     by-case : Dec (a ≡ x) → (eqb a x && eqb (timesAssigned earlier a) (timesAssigned earlier x)) ≡ eqb a x
-    by-case (yes e) = rw (e, eqb-same x, eqb-same (timesAssigned earlier x))
-    by-case (no d) = rw (eqb-other a x d)
+    by-case (yes e) = rw (e, eq-eqb x x refl, eq-eqb (timesAssigned earlier x) (timesAssigned earlier x) refl)
+    by-case (no d) = rw (ne-eqb a x d)
 
 two-terms : (m n : ℕ) → m + (n + 0) ≡ m + n
 two-terms m n = omega arith
@@ -222,16 +210,16 @@ keeps-back (d ≔ source) before earlier start full keeps = record { now = λ x.
     bar = residue (start (valueNo d (suc (times d))))
 
     latest : full d ≡ bar
-    latest = keeps .now d ∙ ap (λ n. residue (start (valueNo d n))) (ap (λ b. cond b 1 0 + times d) (eqb-same d) ∙ omega arith)
+    latest = keeps .now d ∙ ap (λ n. residue (start (valueNo d n))) (ap (λ b. cond b 1 0 + times d) (eq-eqb d d refl) ∙ omega arith)
 
     by-case : (x : ℕ) → Dec (d ≡ x) → residue (cond (eqb d x) 0 (full x) + gain source before (full d) x)
         ≡ residue (start (valueNo x (times x)) + termsOf (valueNo x (times x)) bar (partialsOf source before earlier))
     by-case x (yes e) =
-        let same : eqb d x ≡ true = rw e (eqb-same x) in
+        let same : eqb d x ≡ true = rw e (eq-eqb x x refl) in
         let starts-at-0 = keeps .past x (times x) (rw same (omega arith)) in
         rw (latest, terms-are-gain source before earlier bar x, same, starts-at-0)
     by-case x (no h) =
-        let other = eqb-other d x h in
+        let other = ne-eqb d x h in
         let kept : full x ≡ residue (start (valueNo x (times x))) =
         keeps .now x ∙ ap (λ n. residue (start (valueNo x n))) (ap (λ b. cond b 1 0 + times x) other ∙ zero-add (times x)) in
         rw (latest, terms-are-gain source before earlier bar x, other, kept) (residue-sum-left _ _)
@@ -259,8 +247,8 @@ seeds-keep : (roles seeds : List ℕ) (trace : Trace) → ((x : ℕ) → seedAt 
 unfolding seedAt startsAt
 seeds-keep roles seeds trace below =
     record {
-      now = λ x. rw (eqb-same (timesAssigned trace x), and-true (isDependent (getD roles x 0))) (sym (residue-same _ (below x)));
-      past = λ x n h. rw (eqb-other n (timesAssigned trace x) (λ q. absurd (omega arith)), and-false (isDependent (getD roles x 0)));
+      now = λ x. rw (eq-eqb (timesAssigned trace x) (timesAssigned trace x) refl, and-true (isDependent (getD roles x 0))) (sym (residue-same _ (below x)));
+      past = λ x n h. rw (ne-eqb n (timesAssigned trace x) (λ q. absurd (omega arith)), and-false (isDependent (getD roles x 0)));
     }
 
 -- over all executed assignments, from the seeds, the sweep gives the adjoints that equation (2) defines

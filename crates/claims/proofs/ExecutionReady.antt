@@ -15,25 +15,25 @@ use Rattle.run.specs.Actions.{evaluated, compared}
 use Rattle.run.specs.InTheLarge.{Stop}
 use Rattle.claims.specs.Execution.{Progress, performed, turned, executed}
 use Rattle.run.proofs.AttemptLaws.{Ready, gives, ready-then, stops, from-outcome-ready}
+use Rattle.run.proofs.PlaceLaws.{place-there}
 use Rattle.claims.proofs.Runs.{runs}
 use Rattle.claims.proofs.RunsKeepSizes.{performed-keeps, runs-keep}
-use Rattle.claims.proofs.Stores.{known-at}
 use Rattle.claims.proofs.Originals.{replaced-alone}
 
 module _ (A : Arithmetic) (constants : List ℕ) (v : ℕ) where
   both-ready : (f : A .Carrier → A .Carrier → Outcome (A .Carrier) (A .Why)) (a b : ℕ) (store : List (A .Carrier)) → length store ≡ v
       → a < v → b < v → Ready (look store a >>= λ x. look store b >>= λ y. fromOutcome (f x y))
-  both-ready f a b store n p q = rw (known-at store a (A .zero) (omega arith), known-at store b (A .zero) (omega arith)) (from-outcome-ready (f _ _))
+  both-ready f a b store n p q = rw (place-there store a (A .zero) (omega arith), place-there store b (A .zero) (omega arith)) (from-outcome-ready (f _ _))
 
   evaluated-ready : (source : Source) (store : List (A .Carrier)) → length store ≡ v → SourcePresent v (length constants) source
       → Ready (evaluated A constants source store)
   unfolding evaluated SourcePresent
-  evaluated-ready (copy a) store n p = rw (known-at store a (A .zero) (omega arith)) (gives _ refl)
-  evaluated-ready (fixed c) store n p = rw (known-at constants c 0 p) (gives _ refl)
+  evaluated-ready (copy a) store n p = rw (place-there store a (A .zero) (omega arith)) (gives _ refl)
+  evaluated-ready (fixed c) store n p = rw (place-there constants c 0 p) (gives _ refl)
   evaluated-ready (sum a b) store n p = both-ready (A .sum) a b store n (p .0) (p .1)
   evaluated-ready (difference a b) store n p = both-ready (A .difference) a b store n (p .0) (p .1)
   evaluated-ready (product a b) store n p = both-ready (A .product) a b store n (p .0) (p .1)
-  evaluated-ready (negation a) store n p = rw (known-at store a (A .zero) (omega arith)) (from-outcome-ready (A .negation _))
+  evaluated-ready (negation a) store n p = rw (place-there store a (A .zero) (omega arith)) (from-outcome-ready (A .negation _))
 
   performed-ready : (p : ℕ) (b : Assignment) (now : Progress A) → length (now .store) ≡ v → AssignmentPresent v (length constants) b
       → Ready (performed A constants p b now)
@@ -47,8 +47,8 @@ module _ (A : Arithmetic) (constants : List ℕ) (v : ℕ) where
   compared-ready : (f : Test) (store : List (A .Carrier)) → length store ≡ v → TestPresent v f → (first : Bool) × (compared A f store ≡ some first)
   unfolding compared TestPresent
   compared-ready (less a b) store n p =
-      let first = known-at store a (A .zero) (omega arith) in
-      (A .less (getD store a (A .zero)) (getD store b (A .zero)), rw (first, known-at store b (A .zero) (omega arith)) refl)
+      let first = place-there store a (A .zero) (omega arith) in
+      (A .less (getD store a (A .zero)) (getD store b (A .zero)), rw (first, place-there store b (A .zero) (omega arith)) refl)
 
   pub executed-ready : (t : Tree Assignment Test) (p : ℕ) (now : Progress A) → length (now .store) ≡ v → Present v (length constants) t
       → Ready (executed A constants t p now)

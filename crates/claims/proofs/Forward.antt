@@ -7,6 +7,7 @@ use mathlib.Core.Option.{Option, none, some}
 use lib.ListN.{length, length-map, getD}
 use native.Mathlib.Nat.{suc-mul}
 use native.Mathlib.Omega.{arith}
+use borrow.Author.Tests.{lt-ltb}
 use Rattle.number.specs.Arithmetic.{Arithmetic}
 use Rattle.sheet.specs.Tree.{Tree, done, one, fork, again, rows, RowNumber}
 use Rattle.sheet.specs.Rows.{Assignment, _≔_, Source, Test}
@@ -23,7 +24,6 @@ use Rattle.claims.specs.Execution.{Progress, onward, performed, turned, 
 use Rattle.claims.specs.SavedRows.{onto, savedValues}
 use Rattle.run.proofs.AttemptLaws.{bind-assoc, bind-same}
 use Rattle.claims.proofs.Runs.{was-performed, Runs, stay, row, left, right, last, more, runs}
-use Rattle.claims.proofs.Stores.{is-below}
 use Rattle.claims.proofs.RunsKeepSizes.{performed-keeps, runs-keep}
 use Rattle.claims.proofs.Originals.{evaluated-originals, compared-originals, replaced-original, replaced-alone, looked-up}
 
@@ -154,7 +154,7 @@ module _ (known : ℕ → Assignment → Activity) (saved : ℕ → Assignment �
           })
       unfolding tableRun acted
       saved-first rest r d now n h room =
-          let fits = is-below (length (savedValues A saved (now .trace))) (setting .valueRoom) room in
+          let fits = lt-ltb (length (savedValues A saved (now .trace))) (setting .valueRoom) room in
           rw (looked-up A (setting .variables) k (now .store) tail n d h, fits)
 
       -- an assignment's rows: the save, if it is saved, and itself
@@ -181,7 +181,7 @@ module _ (known : ℕ → Assignment → Activity) (saved : ℕ → Assignment �
       unfolding tableRun acted
       turn-saved rest r first now room =
           let enough : length (map turnWord (now .turns)) < setting .turnRoom = omega (arith, length-map (now .turns) turnWord) in
-          rw (is-below (length (map turnWord (now .turns))) (setting .turnRoom) enough)
+          rw (lt-ltb (length (map turnWord (now .turns))) (setting .turnRoom) enough)
 
       -- a branch with its turn saved
       branch-executes : (t : Tree Assignment Test) (at : ℕ) (r : RowNumber) (first : Bool) (now : Progress A)

@@ -11,6 +11,7 @@ use lib.Dec.{T, eqb}
 use native.Mathlib.Decide.{ℕ-discrete}
 use native.Mathlib.Nat.{mul-zero}
 use native.Mathlib.Omega.{arith}
+use borrow.Author.Tests.{eq-eqb, ne-eqb}
 use Rattle.number.specs.Residues.{modulus, residue}
 use Rattle.number.proofs.ResidueLaws.{residue-zero}
 use Rattle.sheet.specs.Rows.{_≔_, Source}
@@ -18,7 +19,7 @@ use Rattle.sets.specs.VariableSets.{VariableSet, has, _∪_, single, without, h
 use Rattle.sets.specs.Transfers.{firstRead, secondRead, anyRead, reads, variedAfter, usefulBefore, Activity, activityOf}
 use Rattle.sets.proofs.Truths.{of-T}
 use Rattle.sets.proofs.VariableSetLaws.{single-has, without-has, union-left, union-right}
-use Rattle.claims.proofs.EquationTwoSolved.{eqb-same, eqb-other, firstFactor, secondFactor, share, gain, fullStep}
+use Rattle.claims.proofs.EquationTwoSolved.{firstFactor, secondFactor, share, gain, fullStep}
 use Rattle.claims.proofs.LeanGain.{variedGain, leanGain, cleared, Grown}
 
 -- the full and the lean adjoints at a point of the sheet, of so many variables; lean ones with t and u
@@ -60,8 +61,8 @@ unread-share none amount x unread = refl
 unread-share (some a) amount x unread = by-case (ℕ-discrete a x)
   where
     by-case : Dec (a ≡ x) → cond (eqb a x) amount 0 ≡ 0
-    by-case (yes e) = absurd (unread (rw (e, single-has x x, eqb-same x) tt))
-    by-case (no d) = rw (eqb-other a x d)
+    by-case (yes e) = absurd (unread (rw (e, single-has x x, eq-eqb x x refl) tt))
+    by-case (no d) = rw (ne-eqb a x d)
 
 -- what isn't read gains nothing
 gain-unread : (source : Source) (before : List ℕ) (bar x : ℕ) → (T (has (reads source) x) → ⊥) → gain source before bar x ≡ 0
@@ -81,7 +82,7 @@ varied-share s (some a) amount x m = by-case (ℕ-discrete a x)
   where
     by-case : Dec (a ≡ x) → cond (has s a) (cond (eqb a x) amount 0) 0 ≡ cond (eqb a x) amount 0
     by-case (yes e) = rw (e, of-T (has s x) m)
-    by-case (no d) = rw (eqb-other a x d) (cond-zero (has s a))
+    by-case (no d) = rw (ne-eqb a x d) (cond-zero (has s a))
 
 -- where no operand is varied, a variable that is varied is none of them
 still-share : (s : VariableSet) (o : Option ℕ) (amount x : ℕ) → T (has s x) → hasSome s o ≡ false → share o amount x ≡ 0
@@ -121,12 +122,12 @@ module _ (d : ℕ) (source : Source) (before : List ℕ) (varied useful : Variab
     where
       by-test : (b : Bool) → T (has (cond b (varied ∪ single d) (without d varied)) x)
       by-test true = union-left varied (single d) x m
-      by-test false = rw (without-has d varied x, eqb-other x d (λ e. h (sym e)), and-true (has varied x)) m
+      by-test false = rw (without-has d varied x, ne-eqb x d (λ e. h (sym e)), and-true (has varied x)) m
 
   -- d is varied where a read is
   becomes-varied : anyRead varied source ≡ true → T (has (variedAfter (d ≔ source) varied) d)
   unfolding variedAfter
-  becomes-varied e = rw e (union-right varied (single d) d (rw (single-has d d, eqb-same d) tt))
+  becomes-varied e = rw e (union-right varied (single d) d (rw (single-has d d, eq-eqb d d refl) tt))
 
   -- a variable but d that was useful is
   stays-useful : (x : ℕ) → d ≢ x → T (has useful x) → T (has (usefulBefore (d ≔ source) useful) x)
@@ -135,7 +136,7 @@ module _ (d : ℕ) (source : Source) (before : List ℕ) (varied useful : Variab
     where
       by-test : (b : Bool) → T (has (cond b (without d useful ∪ reads source) useful) x)
       by-test true =
-          union-left (without d useful) (reads source) x (rw (without-has d useful x, eqb-other x d (λ e. h (sym e)), and-true (has useful x)) m)
+          union-left (without d useful) (reads source) x (rw (without-has d useful x, ne-eqb x d (λ e. h (sym e)), and-true (has useful x)) m)
       by-test false = m
 
   -- what is read for a useful d is useful
@@ -150,7 +151,7 @@ module _ (d : ℕ) (source : Source) (before : List ℕ) (varied useful : Variab
     useless-before x k unused = rw (kept (ℕ-discrete d x), gains (has useful d) refl) residue-zero
       where
         kept : Dec (d ≡ x) → cond (eqb d x) 0 (full x) ≡ 0
-        kept (yes e) = rw (e, eqb-same x)
+        kept (yes e) = rw (e, eq-eqb x x refl)
         kept (no q) = rw (A .useless x k (λ m. unused (stays-useful x q m))) (cond-zero (eqb d x))
 
         gains : (b : Bool) → has useful d ≡ b → gain source before (full d) x ≡ 0
@@ -163,7 +164,7 @@ module _ (d : ℕ) (source : Source) (before : List ℕ) (varied useful : Variab
     varies-before x k m = ap₂ (λ y z. y + z) (kept (ℕ-discrete d x)) (gains (has useful d) (anyRead varied source) refl refl)
       where
         kept : Dec (d ≡ x) → cleared d lean x ≡ cond (eqb d x) 0 (full x)
-        kept (yes e) = rw (e, eqb-same x)
+        kept (yes e) = rw (e, eq-eqb x x refl)
         kept (no q) = rw (A .varies x k (stays-varied x q m))
 
         gains : (a b : Bool) → has useful d ≡ a → anyRead varied source ≡ b

@@ -10,10 +10,11 @@ use Rattle.number.specs.Arithmetic.{Arithmetic}
 use Rattle.sheet.specs.Tree.{done, one, fork, again, basic, ifLine, elseLine, endIf, repeat, endRepeat}
 use Rattle.sheet.specs.Rows.{_≔_}
 use Rattle.table.specs.TableRows.{Action, assign, save, takeBack, saveTurn, clear, turnRound, turnWord, TableLine, Table}
-use Rattle.run.specs.Attempts.{Attempt, through, halted, stuck, _>>=_, present, look, pushed}
+use Rattle.run.specs.Attempts.{Attempt, through, stuck, present, look, pushed}
 use Rattle.run.specs.Actions.{Memory, Setting, saved, turnedRound, acted, tested}
 use Rattle.run.specs.Machine.{State, Step, goesOn, ended, stops, sticks, afterAction, stepAt, step, ifItGoesOn, stateAfter}
 use Rattle.run.specs.InTheLarge.{Stop, stoppingAt, tableRun}
+use Rattle.run.proofs.AttemptLaws.{bind-unless}
 
 -- ---- the same, unless the first is a thing that means stuck
 
@@ -25,16 +26,6 @@ same-under f bad x y same unlike = ap f (same (λ e. unlike (ap f e)))
 
 abbrev Alike : {W X : Type 0} → Attempt W X → Attempt W X → Type 0
 Alike x y = SameUnless stuck x y
-
-alike-then : {W X Y : Type 0} (x x′ : Attempt W X) (next next′ : X → Attempt W Y) → Alike x x′ → ((v : X) → Alike (next v) (next′ v))
-    → Alike (x >>= next) (x′ >>= next′)
-alike-then {W} {X} {Y} x x′ next next′ same sameAfter unstuck =
-    ap (λ y. y >>= next′) (same (λ e. unstuck (ap (λ y. y >>= next) e))) ∙ by-first x unstuck
-  where
-    by-first : (y : Attempt W X) → Alike (y >>= next) (y >>= next′)
-    by-first (through v) = sameAfter v
-    by-first (halted why) = λ unstuck′. refl
-    by-first stuck = λ unstuck′. refl
 
 pushed-alike : {W X : Type 0} (room more : ℕ) (x : X) (stack : List X) → room ≤ more
     → Alike (pushed {Why = W} room x stack) (pushed {Why = W} more x stack)
@@ -68,13 +59,13 @@ module _ (A : Arithmetic) where
     unfolding acted turnedRound
     acted-alike (assign (d ≔ source)) memory = λ unstuck. refl
     acted-alike (save d) memory =
-        alike-then (look (memory .store) d) (look (memory .store) d) (λ x. saved A (setting .valueRoom) memory x) (λ x. saved A values memory x)
+        bind-unless (look (memory .store) d) (look (memory .store) d) (λ x. saved A (setting .valueRoom) memory x) (λ x. saved A values memory x)
         (λ unstuck. refl)
-        (λ x. alike-then (pushed (setting .valueRoom) x (memory .values)) (pushed values x (memory .values)) _ _
+        (λ x. bind-unless (pushed (setting .valueRoom) x (memory .values)) (pushed values x (memory .values)) _ _
         (pushed-alike (setting .valueRoom) values x (memory .values) moreValues) (λ stack unstuck. refl))
     acted-alike (takeBack d) memory = λ unstuck. refl
     acted-alike (saveTurn first) memory =
-        alike-then (pushed (setting .turnRoom) (turnWord first) (memory .turns)) (pushed turns (turnWord first) (memory .turns)) _ _
+        bind-unless (pushed (setting .turnRoom) (turnWord first) (memory .turns)) (pushed turns (turnWord first) (memory .turns)) _ _
         (pushed-alike (setting .turnRoom) turns (turnWord first) (memory .turns) moreTurns) (λ stack unstuck. refl)
     acted-alike (clear d) memory = λ unstuck. refl
     acted-alike turnRound memory = λ unstuck. refl
@@ -122,18 +113,18 @@ module _ (A : Arithmetic) where
     unfolding tableRun
     tree-alike done memory = λ unstuck. refl
     tree-alike (one row k) memory =
-        alike-then (stoppingAt A (row .origin) (acted A setting (row .action) memory)) (stoppingAt A (row .origin) (acted A roomier (row .action) memory)) _ _
+        bind-unless (stoppingAt A (row .origin) (acted A setting (row .action) memory)) (stoppingAt A (row .origin) (acted A roomier (row .action) memory)) _ _
         (same-under (stoppingAt A (row .origin)) stuck (acted A setting (row .action) memory) (acted A roomier (row .action) memory)
         (acted-alike (row .action) memory))
         (λ next. tree-alike k next)
     tree-alike (fork f a b k) memory =
-        alike-then (present (tested A f memory)) (present (tested A f memory)) _ _ (λ unstuck. refl)
-        (λ v. alike-then (cond (v .first) (tableRun A setting a (v .memory)) (tableRun A setting b (v .memory))) _ _ _
+        bind-unless (present (tested A f memory)) (present (tested A f memory)) _ _ (λ unstuck. refl)
+        (λ v. bind-unless (cond (v .first) (tableRun A setting a (v .memory)) (tableRun A setting b (v .memory))) _ _ _
         (chosen-alike (v .first) _ _ _ _ (tree-alike a (v .memory)) (tree-alike b (v .memory))) (λ next. tree-alike k next))
     tree-alike (again zero a k) memory =
-        alike-then (tableRun A setting a memory) (tableRun A roomier a memory) _ _ (tree-alike a memory) (λ next. tree-alike k next)
+        bind-unless (tableRun A setting a memory) (tableRun A roomier a memory) _ _ (tree-alike a memory) (λ next. tree-alike k next)
     tree-alike (again (suc m) a k) memory =
-        alike-then (tableRun A setting a memory) (tableRun A roomier a memory) _ _ (tree-alike a memory) (λ next. tree-alike (again m a k) next)
+        bind-unless (tableRun A setting a memory) (tableRun A roomier a memory) _ _ (tree-alike a memory) (λ next. tree-alike (again m a k) next)
 
     pub more-room-same-in-the-large : (t : Table) (memory : Memory A) → (tableRun A setting t memory ≡ stuck → ⊥)
         → tableRun A (withRooms setting values turns) t memory ≡ tableRun A setting t memory

@@ -6,12 +6,14 @@ use mathlib.Core.Option.{some}
 use lib.ListN.{length, set, getD, getElem?, length-append}
 use lib.Seq.{set-append-left}
 use native.Mathlib.Omega.{arith}
+use borrow.Author.Tests.{lt-ltb}
 use Rattle.number.specs.Arithmetic.{Arithmetic}
 use Rattle.sheet.specs.Rows.{Source, copy, fixed, sum, difference, product, negation, Test, less}
 use Rattle.sheet.specs.Names.{SourcePresent, TestPresent}
 use Rattle.run.specs.Attempts.{through, replaced}
 use Rattle.run.specs.Actions.{evaluated, compared}
-use Rattle.claims.proofs.Stores.{is-below, at-first-part, known-at}
+use Rattle.run.proofs.PlaceLaws.{place-there}
+use Rattle.claims.proofs.Stores.{at-first-part}
 
 module _ (A : Arithmetic) where
   module _ (v k : ℕ) (store tail : List (A .Carrier)) (n : length store ≡ v) where
@@ -36,12 +38,12 @@ module _ (A : Arithmetic) where
     pub replaced-original : {W : Type 0} (d : ℕ) (x : A .Carrier) → d < v → replaced {Why = W} (store ++ tail) d x ≡ through (set store d x ++ tail)
     replaced-original d x h =
         let there : d < length (store ++ tail) = omega (arith, length-append store tail) in
-        rw (is-below d (length (store ++ tail)) there, set-append-left store tail d x (omega arith))
+        rw (lt-ltb d (length (store ++ tail)) there, set-append-left store tail d x (omega arith))
 
     pub replaced-alone : {W : Type 0} (d : ℕ) (x : A .Carrier) → d < v → replaced {Why = W} store d x ≡ through (set store d x)
     replaced-alone d x h =
         let there : d < length store = omega arith in
-        rw (is-below d (length store) there)
+        rw (lt-ltb d (length store) there)
 
     pub looked-up : (d : ℕ) → d < v → getElem? (store ++ tail) d ≡ some (getD store d (A .zero))
-    looked-up d h = same-original d h ∙ known-at store d (A .zero) (omega arith)
+    looked-up d h = same-original d h ∙ place-there store d (A .zero) (omega arith)

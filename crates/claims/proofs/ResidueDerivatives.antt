@@ -9,6 +9,7 @@ use lib.Dec.{eqb}
 use native.Mathlib.Decide.{ℕ-discrete}
 use native.Mathlib.Nat.{add-zero, add-assoc}
 use native.Mathlib.Omega.{arith}
+use borrow.Author.Tests.{lt-ltb, eq-eqb, ne-eqb}
 use Rattle.number.specs.Residues.{modulus, residue, opposite, residues}
 use Rattle.number.proofs.ResidueLaws.{residue-below, residue-same, residue-sum-left, residue-sum-right, opposite-of-one}
 use Rattle.sheet.specs.Tree.{done, RowNumber}
@@ -21,9 +22,9 @@ use Rattle.run.specs.Attempts.{through, look, replaced}
 use Rattle.run.specs.Actions.{Memory, Setting, acted}
 use Rattle.run.specs.InTheLarge.{tableRun}
 use Rattle.claims.specs.IdealSweep.{derivedBy}
+use Rattle.run.proofs.PlaceLaws.{place-there}
 use Rattle.claims.proofs.LeanGain.{variedGain, leanGain, cleared, Grown}
-use Rattle.claims.proofs.Stores.{is-below, known-at, at-first-part, at-second-part, set-second-part}
-use Rattle.claims.proofs.EquationTwoSolved.{eqb-same, eqb-other}
+use Rattle.claims.proofs.Stores.{at-first-part, at-second-part, set-second-part}
 
 -- a list of residues, one of them replaced
 set-below : (α : List ℕ) (i y : ℕ) → i < length α → y < modulus → ((x : ℕ) → getD α x 0 < modulus) → (x : ℕ) → getD (set α i y) x 0 < modulus
@@ -58,16 +59,16 @@ module _ (setting : Setting residues) (originals : List ℕ) (sized : length ori
   memoryOf α = record { store = originals ++ α; values = []; turns = []; copied = [] }
 
   look-original : (α : List ℕ) (i : ℕ) → i < v → look {Why = ⊥} (originals ++ α) i ≡ through (getD originals i 0)
-  look-original α i h = rw (at-first-part originals α i (rw sized h) ∙ known-at originals i 0 (rw sized h))
+  look-original α i h = rw (at-first-part originals α i (rw sized h) ∙ place-there originals i 0 (rw sized h))
 
   look-adjoint : (α : List ℕ) (q i : ℕ) → q ≡ v + i → i < length α → look {Why = ⊥} (originals ++ α) q ≡ through (getD α i 0)
-  look-adjoint α q i e h = rw (e, ← sized, at-second-part originals α i, known-at α i 0 h)
+  look-adjoint α q i e h = rw (e, ← sized, at-second-part originals α i, place-there α i 0 h)
 
   adjoint-replaced : (α : List ℕ) (q i y : ℕ) → q ≡ v + i → i < length α → replaced {Why = ⊥} (originals ++ α) q y ≡ through (originals ++ set α i y)
   adjoint-replaced α q i y e h =
       let inside : q < length (originals ++ α) = rw (length-append originals α, sized, e) (omega arith) in
       let placed : set (originals ++ α) q y ≡ originals ++ set α i y = rw (e, ← sized) (set-second-part originals α i y) in
-      rw (is-below q (length (originals ++ α)) inside, placed)
+      rw (lt-ltb q (length (originals ++ α)) inside, placed)
 
   -- t := d̄
   copy-goes : (α : List ℕ) (q r i j : ℕ) → q ≡ v + i → r ≡ v + j → i < length α → j < length α
@@ -138,10 +139,10 @@ module _ (setting : Setting residues) (originals : List ℕ) (sized : length ori
       where
         by-case : (x : ℕ) → x < v → Dec (x ≡ a) → getD (set α a y) x 0 ≡ residue (first x + (g x + cond (eqb a x) amount 0))
         by-case x k (yes q) =
-            rw (q, getD-set-same α a y 0 (omega (arith, G .size)), eqb-same a, e, G .each a h)
+            rw (q, getD-set-same α a y 0 (omega (arith, G .size)), eq-eqb a a refl, e, G .each a h)
             (residue-sum-left (first a + g a) amount ∙ ap residue (add-assoc (first a) (g a) amount))
         by-case x k (no d) =
-            rw (getD-set-other α a x y 0 d, eqb-other a x (λ q. d (sym q)), add-zero (g x)) (G .each x k)
+            rw (getD-set-other α a x y 0 d, ne-eqb a x (λ q. d (sym q)), add-zero (g x)) (G .each x k)
 
     -- u written
     gained-scaled : (g : ℕ → ℕ) (α : List ℕ) (y : ℕ) → y < modulus → Gained first held g α → Gained first held g (set α (v + 1) y)
@@ -244,8 +245,8 @@ module _ (setting : Setting residues) (originals : List ℕ) (sized : length ori
       }
     where
       by-case : (x : ℕ) → Dec (x ≡ d) → getD (set α d 0) x 0 ≡ residue (cleared d α x + 0)
-      by-case x (yes e) = rw (e, getD-set-same α d 0 0 (omega arith), eqb-same d) (sym (residue-same 0 (omega arith)))
-      by-case x (no q) = rw (getD-set-other α d x 0 0 q, eqb-other d x (λ e. q (sym e)), add-zero (getD α x 0)) (sym (residue-same _ (below x)))
+      by-case x (yes e) = rw (e, getD-set-same α d 0 0 (omega arith), eq-eqb d d refl) (sym (residue-same 0 (omega arith)))
+      by-case x (no q) = rw (getD-set-other α d x 0 0 q, ne-eqb d x (λ e. q (sym e)), add-zero (getD α x 0)) (sym (residue-same _ (below x)))
 
   rows-go : (active : Bool) (constants d : ℕ) (source : Source) (row : RowNumber) (known : Activity) (α : List ℕ) → d < v
       → SourcePresent v constants source → length α ≡ v + 2 → ((x : ℕ) → getD α x 0 < modulus)

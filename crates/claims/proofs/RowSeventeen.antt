@@ -7,21 +7,18 @@ use lib.Seq.{take-at, drop-append-add}
 use native.Mathlib.Nat.{suc-add, zero-add}
 use native.Mathlib.Omega.{arith}
 use Rattle.number.specs.Arithmetic.{Arithmetic}
-use Rattle.run.specs.Actions.{Setting, counting, seeded, turnedRound}
+use Rattle.sheet.specs.Rows.{isDependent}
+use Rattle.run.specs.Actions.{Setting, seeded, turnedRound}
 use Rattle.claims.specs.IdealSweep.{firstAdjoints}
+use Rattle.run.proofs.RoleLaws.{counting-length}
 
 module _ (A : Arithmetic) where
   drop-zeros : (n m : ℕ) → drop n (replicate (n + m) (A .zero)) ≡ replicate m (A .zero)
   drop-zeros zero m = rw zero-add refl
   drop-zeros (suc n) m = rw (suc-add n m) (drop-zeros n m)
 
-  pub seeded-length : (roles : List ℕ) (seeds : List (A .Carrier)) → length (seeded A roles seeds) ≡ length roles
-  unfolding counting
-  seeded-length [] seeds = refl
-  seeded-length (role ∷ roles) seeds = ap suc (seeded-length roles (drop 1 seeds))
-
   pub first-size : (roles : List ℕ) (seeds : List (A .Carrier)) → length (firstAdjoints A roles seeds) ≡ length roles + 2
-  first-size roles seeds = length-append (seeded A roles seeds) (A .zero ∷ A .zero ∷ []) ∙ ap (λ k. k + 2) (seeded-length roles seeds)
+  first-size roles seeds = length-append (seeded A roles seeds) (A .zero ∷ A .zero ∷ []) ∙ ap (λ k. k + 2) (counting-length A isDependent roles seeds)
 
   pub turns-round : (setting : Setting A) (store values : List (A .Carrier)) (turns : List ℕ) → length store ≡ setting .variables
       → turnedRound A setting (record { store = store ++ replicate (setting .variables + 2) (A .zero); values = values; turns = turns; copied = [] })

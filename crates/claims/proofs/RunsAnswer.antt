@@ -28,7 +28,7 @@ module _ (A : Arithmetic) where
   -- what the call run answers: 0 with the values of the execution and, at the independents, the adjoints of the ideal sweep; or 12 at
   -- some table row, the result unchanged
   unfoldable pub AnswersAs : Sheet → Lent A → Attempt (Stop A) (Ideal A) → Ran A → Type 0
-  unfolding lentAfter independentAdjoints numberOf placeOf
+  unfolding lentAfter counting numberOf placeOf
   AnswersAs sheet lent (through i) ran =
       ran
       ≡ record {

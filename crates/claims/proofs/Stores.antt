@@ -5,25 +5,14 @@ use mathlib.Core.Logic.{_≢_}
 use mathlib.Core.List.{List, [], _∷_, _++_}
 use mathlib.Core.Option.{some, Option·getD}
 use lib.ListN.{length, set, getD, getElem?}
-use mathlib.Core.Bool.{true}
-use lib.Dec.{ltb, lt→ltb}
 use native.Mathlib.Nat.{suc-add, zero-add, not-suc-le-zero, le-of-suc-le-suc}
 use native.Mathlib.Omega.{arith}
-use Rattle.sets.proofs.Truths.{of-T}
-
-pub is-below : (i n : ℕ) → i < n → ltb i n ≡ true
-is-below i n h = of-T (ltb i n) (lt→ltb i n h)
 
 module _ {X : Type 0} where
   pub at-known : (xs : List X) (i : ℕ) → i < length xs → (x : X) × (getElem? xs i ≡ some x)
   at-known [] i h = absurd (not-suc-le-zero h)
   at-known (x ∷ xs) zero h = (x, refl)
   at-known (x ∷ xs) (suc i) h = at-known xs i (le-of-suc-le-suc h)
-
-  pub known-at : (xs : List X) (i : ℕ) (d : X) → i < length xs → getElem? xs i ≡ some (getD xs i d)
-  known-at [] i d h = absurd (not-suc-le-zero h)
-  known-at (x ∷ xs) zero d h = refl
-  known-at (x ∷ xs) (suc i) d h = known-at xs i d (le-of-suc-le-suc h)
 
   -- lists with the same at a place give the same there, whatever stands for an unknown place
   pub same-default : (xs ys : List X) (i : ℕ) (d : X) → getElem? xs i ≡ getElem? ys i → getD xs i d ≡ getD ys i d

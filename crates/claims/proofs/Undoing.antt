@@ -24,7 +24,8 @@ use Rattle.run.specs.InTheLarge.{Stop, tableRun}
 use Rattle.run.specs.RowReads.{Entry, tableLog}
 use Rattle.claims.specs.Execution.{Progress, onward}
 use Rattle.claims.specs.SavedRows.{savedValues}
-use Rattle.claims.proofs.Stores.{at-set-same, at-set-other, known-at}
+use Rattle.run.proofs.PlaceLaws.{place-there}
+use Rattle.claims.proofs.Stores.{at-set-same, at-set-other}
 use Rattle.claims.proofs.Accounts.{Account, account, derived, stopping, noting}
 use Rattle.claims.proofs.DerivativeRows.{Agree, AdjointSize}
 use Rattle.claims.proofs.DerivativesAlike.{Derives, derives, breaks, derivatives-alike}
@@ -156,7 +157,7 @@ module _ (known : ℕ → Assignment → Activity) (saved : ℕ → Assignment �
             by-choice true e =
                 derive (set originals d before) (length-set originals d before ∙ now .size)
                 (agree-restored A d x originals (s .store) needed (now .agree) before (omega (arith, named .0, now .size))
-                (known-at (s .store) d (A .zero) (omega (arith, named .0))))
+                (place-there (s .store) d (A .zero) (omega (arith, named .0))))
                 (rw (e, replaced-original A v k originals adjoints (now .size) {W = A .Why} d before (named .0)) refl)
             by-choice false e =
                 derive originals (now .size) (agree-kept A d x originals (s .store) needed (now .agree) (unneeded covers p d source e)) (rw e refl)
