@@ -34,7 +34,7 @@ use Rattle.claims.proofs.ResiduesGo.{execution-goes}
 use Rattle.claims.proofs.EquationTwoSolved.{fullSwept, seedAt, full-sweep-solves}
 use Rattle.claims.proofs.RowSeventeen.{first-size}
 use Rattle.claims.proofs.LeanStep.{Agrees}
-use Rattle.claims.proofs.LeanSweep.{enter, back}
+use Rattle.claims.proofs.LeanSweep.{up-to-start, swept-agrees}
 
 -- ---- the seeds, after the sheet
 
@@ -119,9 +119,10 @@ module _ (sheet : Sheet) (starts seeds : List ℕ) (valueRoom turnRoom : ℕ) (s
       let seeds-there : Agrees (setAt variedSets end) (setAt usefulSets end) (variablesOf sheet) full lean =
       subst (λ s. Agrees (setAt variedSets end) s (variablesOf sheet) full lean) (sym (sound .uses .0))
       (seeds-agree (setAt variedSets end) (sheet .roles) seeds (given .below)) in
-      let went-back = back setting (sheet .constants) variedSets usefulSets executed (given .started) (sound .present) variedAlong usefulAlong end
-      (sym (zero-add end)) full lean seeds-there in
-      let came = enter setting (sheet .constants) variedSets usefulSets body 0 (progress .trace) [] full lean variedAlong usefulAlong went-back in (
+      let went-back = swept-agrees setting (sheet .constants) variedSets usefulSets executed (given .started) (sound .present) variedAlong
+      usefulAlong end (sym (zero-add end)) full lean seeds-there in
+      let came = up-to-start setting (sheet .constants) variedSets usefulSets body 0 (progress .trace) [] full lean variedAlong usefulAlong
+      went-back in (
         came .leanThere,
         came .leans,
         λ x h independent.
@@ -130,11 +131,11 @@ module _ (sheet : Sheet) (starts seeds : List ℕ) (valueRoom turnRoom : ℕ) (s
       )
 
   -- residues never stop
-  pub lean-sweep-goes : (progress : Progress residues) → execution residues sheet starts ≡ through progress
+  lean-sweep-goes : (progress : Progress residues) → execution residues sheet starts ≡ through progress
       → (adjoints : List ℕ) × (leanSweep sheet seeds valueRoom turnRoom (progress .trace) ≡ through adjoints)
   lean-sweep-goes progress executes = let lean = lean-is-full progress executes in (lean .0, lean .1)
 
-  pub equation-two : (progress : Progress residues) → execution residues sheet starts ≡ through progress
+  equation-two : (progress : Progress residues) → execution residues sheet starts ≡ through progress
       → (adjoints : List ℕ) → leanSweep sheet seeds valueRoom turnRoom (progress .trace) ≡ through adjoints
       → (bar : Instance → ℕ) → EquationTwo (sheet .roles) seeds (progress .trace) bar
       → (x : ℕ) → x < variablesOf sheet → isIndependent (getD (sheet .roles) x 0) ≡ true → getD adjoints x 0 ≡ bar (valueNo x 0)

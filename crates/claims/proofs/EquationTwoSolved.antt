@@ -28,7 +28,7 @@ read-is-current earlier a x n h = by-case (ℕ-discrete a x)
     by-case (yes e) = rw (e, eq-eqb x x refl, ne-eqb (timesAssigned earlier x) n h)
     by-case (no d) = rw (ne-eqb a x d)
 
-pub others-unread : (source : Source) (before : List ℕ) (earlier : Trace) (x n bar : ℕ) → timesAssigned earlier x ≢ n
+others-unread : (source : Source) (before : List ℕ) (earlier : Trace) (x n bar : ℕ) → timesAssigned earlier x ≢ n
     → termsOf (valueNo x n) bar (partialsOf source before earlier) ≡ 0
 unfolding termsOf partialsOf
 others-unread (copy a) before earlier x n bar h = rw (read-is-current earlier a x n h)
@@ -99,7 +99,7 @@ solution-made (d ≔ source) before earlier start =
     let unread = others-unread source before earlier d (suc n) bar (λ q. absurd (omega arith)) in
     solution-unmade earlier _ d (suc n) (omega arith) ∙ ap residue (ap (λ y. start (valueNo d (suc n)) + y) unread ∙ add-zero _)
 
-pub solution-solves : (trace : Trace) (start : Instance → ℕ) → Solves start trace (solution trace start)
+solution-solves : (trace : Trace) (start : Instance → ℕ) → Solves start trace (solution trace start)
 unfolding solution allTerms nodesOf
 solution-solves [] start i = ap residue (sym (add-zero (start i)))
 solution-solves (e ∷ earlier) start i =
@@ -109,7 +109,7 @@ solution-solves (e ∷ earlier) start i =
     ∙ ap residue (add-assoc (start i) _ rest)
     ∙ ap (λ bar. residue (start i + (termsOf i bar (j .partials) + rest))) (sym (solution-made (e .assignment) (e .before) earlier start))
 
-pub solution-only : (trace : Trace) (start bar : Instance → ℕ) → Solves start trace bar → (i : Instance) → bar i ≡ solution trace start i
+solution-only : (trace : Trace) (start bar : Instance → ℕ) → Solves start trace bar → (i : Instance) → bar i ≡ solution trace start i
 unfolding solution allTerms nodesOf
 solution-only [] start bar solves i = solves i ∙ ap residue (add-zero (start i))
 solution-only (e ∷ earlier) start bar solves i =
@@ -229,7 +229,7 @@ keeps-back (d ≔ source) before earlier start full keeps = record { now = λ x.
         rw (keeps .past x n (omega arith), others-unread source before earlier x n bar (λ q. absurd (omega arith)))
 
 -- what a full sweep comes to at each variable is the adjoint of its start value
-pub swept-is-solution : (trace : Trace) (start : Instance → ℕ) (full : ℕ → ℕ) → Keeps (timesAssigned trace) start full → (x : ℕ)
+swept-is-solution : (trace : Trace) (start : Instance → ℕ) (full : ℕ → ℕ) → Keeps (timesAssigned trace) start full → (x : ℕ)
     → fullSwept trace full x ≡ solution trace start (valueNo x 0)
 unfolding timesAssigned fullSwept solution
 swept-is-solution [] start full keeps x = keeps .now x
@@ -247,7 +247,9 @@ seeds-keep : (roles seeds : List ℕ) (trace : Trace) → ((x : ℕ) → seedAt 
 unfolding seedAt startsAt
 seeds-keep roles seeds trace below =
     record {
-      now = λ x. rw (eq-eqb (timesAssigned trace x) (timesAssigned trace x) refl, and-true (isDependent (getD roles x 0))) (sym (residue-same _ (below x)));
+      now = λ x.
+          rw (eq-eqb (timesAssigned trace x) (timesAssigned trace x) refl, and-true (isDependent (getD roles x 0)))
+          (sym (residue-same _ (below x)));
       past = λ x n h. rw (ne-eqb n (timesAssigned trace x) (λ q. absurd (omega arith)), and-false (isDependent (getD roles x 0)));
     }
 

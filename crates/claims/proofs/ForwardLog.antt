@@ -23,7 +23,8 @@ use Rattle.claims.proofs.Forward.{body, memoryWith, forward-executes}
 module _ (A : Arithmetic) where
   -- where what is noted first is nothing, and what follows is noted at its end only
   in-turn-silent : {W X Y : Type 0} (first : Attempt W X) (next : X → Attempt W Y) (log : List (Entry A)) (logs : X → List (Entry A))
-      (after : Y → List (Entry A)) → log ≡ [] → ((x : X) → logs x ≡ onThrough A (next x) after) → log ++ onThrough A first logs ≡ onThrough A (first >>= next) after
+      (after : Y → List (Entry A)) → log ≡ [] → ((x : X) → logs x ≡ onThrough A (next x) after)
+      → log ++ onThrough A first logs ≡ onThrough A (first >>= next) after
   in-turn-silent (through x) next log logs after e h = rw e (h x)
   in-turn-silent (halted why) next log logs after e h = rw e refl
   in-turn-silent stuck next log logs after e h = rw e refl

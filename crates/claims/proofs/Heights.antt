@@ -139,7 +139,7 @@ module _ (A : Arithmetic) where
         by-step (stops row origin why) fits ih = tt
         by-step sticks fits ih = tt
 
-    pub within-room : (n : ℕ) (lines : List TableLine) (start s : State A) → Within (setting .valueRoom) (setting .turnRoom) (start .memory)
+    within-room : (n : ℕ) (lines : List TableLine) (start s : State A) → Within (setting .valueRoom) (setting .turnRoom) (start .memory)
         → stateAfter A n setting lines start ≡ goesOn s → Within (setting .valueRoom) (setting .turnRoom) (s .memory)
     within-room n lines start s h e = subst FitsAfter e (steps-within n lines start h)
 
@@ -147,14 +147,14 @@ module _ (A : Arithmetic) where
 
   module _ (setting : Setting A) (lines : List TableLine) where
     -- if a run ends and not by being stuck, no number of steps is stuck
-    pub never-sticks : (fuel : ℕ) (s : State A) → (runFor A fuel setting lines s ≡ gotStuck → ⊥) → (runFor A fuel setting lines s ≡ outOfFuel → ⊥)
+    never-sticks : (fuel : ℕ) (s : State A) → (runFor A fuel setting lines s ≡ gotStuck → ⊥) → (runFor A fuel setting lines s ≡ outOfFuel → ⊥)
         → (n : ℕ) → stateAfter A n setting lines s ≡ sticks → ⊥
     never-sticks fuel s unstuck enough n e =
         let swap : fuel + n ≡ n + fuel = omega arith in
         unstuck (sym (more-fuel-same A setting lines fuel n s enough) ∙ ap (λ m. runFor A m setting lines s) swap ∙ run-on A setting lines n fuel s
         ∙ ap (endingFrom A setting lines fuel) e)
 
-    pub heights-within : (values turns : ℕ) → setting .valueRoom ≤ values → setting .turnRoom ≤ turns → (start : State A)
+    heights-within : (values turns : ℕ) → setting .valueRoom ≤ values → setting .turnRoom ≤ turns → (start : State A)
         → Within (setting .valueRoom) (setting .turnRoom) (start .memory) → ((n : ℕ) → stateAfter A n setting lines start ≡ sticks → ⊥)
         → (n : ℕ) (s : State A) → stateAfter A n (withRooms A setting values turns) lines start ≡ goesOn s
         → Within (setting .valueRoom) (setting .turnRoom) (s .memory)

@@ -117,13 +117,13 @@ module _ (setting : Setting residues) (constants : List ℕ) (variedSets usefulS
   abbrev pub Uses : Tree Assignment Test → ℕ → Type 0
   Uses = BackwardAlong (λ p. usefulBefore) (setAt usefulSets)
 
-  pub enter : (t : Tree Assignment Test) (p : ℕ) (later earlier : Trace) (full : ℕ → ℕ) (lean : List ℕ) → Varies t p → Uses t p
+  pub up-to-start : (t : Tree Assignment Test) (p : ℕ) (later earlier : Trace) (full : ℕ → ℕ) (lean : List ℕ) → Varies t p → Uses t p
       → Came (entry t p) later earlier full lean → Came p later earlier full lean
   unfolding ForwardAlong BackwardAlong
-  enter done p later earlier full lean varies uses c = c
-  enter (one b k) p later earlier full lean varies uses c = c
-  enter (fork f a b k) p later earlier full lean varies uses c = c
-  enter (again n a k) p later earlier full lean varies uses c =
+  up-to-start done p later earlier full lean varies uses c = c
+  up-to-start (one b k) p later earlier full lean varies uses c = c
+  up-to-start (fork f a b k) p later earlier full lean varies uses c = c
+  up-to-start (again n a k) p later earlier full lean varies uses c =
       came-to (suc p) p later earlier full lean (in-left variedSets p (suc p + rows a) (suc p) (varies .0)) (in-same usefulSets (suc p) p (uses .0)) c
 
   -- from what follows a block, at point r, into the block's part from `start` to `end`, and to point p before it
@@ -136,55 +136,55 @@ module _ (setting : Setting residues) (constants : List ℕ) (variedSets usefulS
       let at-start = inside (at-end .fullThere) (at-end .leanThere) (at-end .agrees) in
       then-came end p later middle earlier full lean at-end (came-to start p middle earlier (at-end .fullThere) (at-end .leanThere) h k at-start)
 
-  pub back : {t : Tree Assignment Test} {p : ℕ} {s e : Progress residues} → Runs residues constants t p s e → length (s .store) ≡ v
+  pub swept-agrees : {t : Tree Assignment Test} {p : ℕ} {s e : Progress residues} → Runs residues constants t p s e → length (s .store) ≡ v
       → Present v (length constants) t → Varies t p → Uses t p → (q : ℕ) → q ≡ p + rows t → (full : ℕ → ℕ) (lean : List ℕ) → AgreesAt q full lean
       → Came (entry t p) (e .trace) (s .trace) full lean
   unfolding Present ForwardAlong BackwardAlong rows
-  back (stay {p}) sized present varies uses q end full lean A =
+  swept-agrees (stay {p}) sized present varies uses q end full lean A =
       record { fullThere = full; leanThere = lean; fulls = refl; leans = refl; agrees = subst (λ r. AgreesAt r full lean) (end ∙ omega arith) A }
-  back (row {b} {k} {p} {s} {m} {e} performs rest) sized present varies uses q end full lean A =
+  swept-agrees (row {b} {k} {p} {s} {m} {e} performs rest) sized present varies uses q end full lean A =
       let mid = performed-keeps residues constants p b s m performs ∙ sized in
-      let c = enter k (suc p) (e .trace) (m .trace) full lean (varies .1) (uses .1)
-      (back rest mid (present .1) (varies .1) (uses .1) q (end ∙ omega arith) full lean A) in
+      let c = up-to-start k (suc p) (e .trace) (m .trace) full lean (varies .1) (uses .1)
+      (swept-agrees rest mid (present .1) (varies .1) (uses .1) q (end ∙ omega arith) full lean A) in
       then-came (suc p) p (e .trace) (m .trace) (s .trace) full lean c
       (row-back p b s m (c .fullThere) (c .leanThere) performs sized (present .0) (varies .0) (uses .0) (c .agrees))
-  back (left {f} {a} {b} {k} {p} {s} {m} {e} test first rest) sized present varies uses q end full lean A =
+  swept-agrees (left {f} {a} {b} {k} {p} {s} {m} {e} test first rest) sized present varies uses q end full lean A =
       let split = suc p + rows a in
       let after = suc (suc split + rows b) in
       let mid = runs-keep residues constants first ∙ sized in
       through-block after (suc p) split p (e .trace) (m .trace) (s .trace) full lean
       (in-left variedSets split (suc split + rows b) after (varies .4)) (in-same usefulSets after split (uses .2))
       (in-same variedSets p (suc p) (varies .0)) (in-left usefulSets (suc p) (suc split) p (uses .0))
-      (enter k after (e .trace) (m .trace) full lean (varies .5) (uses .5)
-      (back rest mid (present .3) (varies .5) (uses .5) q (end ∙ omega arith) full lean A))
-      (λ full′ lean′ A′. enter a (suc p) (m .trace) (s .trace) full′ lean′ (varies .1) (uses .1)
-      (back first sized (present .1) (varies .1) (uses .1) split refl full′ lean′ A′))
-  back (right {f} {a} {b} {k} {p} {s} {m} {e} test second rest) sized present varies uses q end full lean A =
+      (up-to-start k after (e .trace) (m .trace) full lean (varies .5) (uses .5)
+      (swept-agrees rest mid (present .3) (varies .5) (uses .5) q (end ∙ omega arith) full lean A))
+      (λ full′ lean′ A′. up-to-start a (suc p) (m .trace) (s .trace) full′ lean′ (varies .1) (uses .1)
+      (swept-agrees first sized (present .1) (varies .1) (uses .1) split refl full′ lean′ A′))
+  swept-agrees (right {f} {a} {b} {k} {p} {s} {m} {e} test second rest) sized present varies uses q end full lean A =
       let split = suc p + rows a in
       let after = suc (suc split + rows b) in
       let mid = runs-keep residues constants second ∙ sized in
       through-block after (suc split) (suc split + rows b) p (e .trace) (m .trace) (s .trace) full lean
       (in-right variedSets split (suc split + rows b) after (varies .4)) (in-same usefulSets after (suc split + rows b) (uses .4))
       (in-same variedSets p (suc split) (varies .2)) (in-right usefulSets (suc p) (suc split) p (uses .0))
-      (enter k after (e .trace) (m .trace) full lean (varies .5) (uses .5)
-      (back rest mid (present .3) (varies .5) (uses .5) q (end ∙ omega arith) full lean A))
-      (λ full′ lean′ A′. enter b (suc split) (m .trace) (s .trace) full′ lean′ (varies .3) (uses .3)
-      (back second sized (present .2) (varies .3) (uses .3) (suc split + rows b) refl full′ lean′ A′))
-  back (last {a} {k} {p} {s} {m} {e} body rest) sized present varies uses q end full lean A =
+      (up-to-start k after (e .trace) (m .trace) full lean (varies .5) (uses .5)
+      (swept-agrees rest mid (present .3) (varies .5) (uses .5) q (end ∙ omega arith) full lean A))
+      (λ full′ lean′ A′. up-to-start b (suc split) (m .trace) (s .trace) full′ lean′ (varies .3) (uses .3)
+      (swept-agrees second sized (present .2) (varies .3) (uses .3) (suc split + rows b) refl full′ lean′ A′))
+  swept-agrees (last {a} {k} {p} {s} {m} {e} body rest) sized present varies uses q end full lean A =
       let after = suc (suc p + rows a) in
       let mid = runs-keep residues constants body ∙ sized in
       through-block after (suc p) (suc p + rows a) (suc p) (e .trace) (m .trace) (s .trace) full lean
       (in-same variedSets (suc p + rows a) after (varies .2)) (in-left usefulSets after (suc p) (suc p + rows a) (uses .2))
       (⊆-refl (setAt variedSets (suc p))) (⊆-refl (setAt usefulSets (suc p)))
-      (enter k after (e .trace) (m .trace) full lean (varies .3) (uses .3)
-      (back rest mid (present .1) (varies .3) (uses .3) q (end ∙ omega arith) full lean A))
-      (λ full′ lean′ A′. enter a (suc p) (m .trace) (s .trace) full′ lean′ (varies .1) (uses .1)
-      (back body sized (present .0) (varies .1) (uses .1) (suc p + rows a) refl full′ lean′ A′))
-  back (more {n} {a} {k} {p} {s} {m} {e} body rest) sized present varies uses q end full lean A =
+      (up-to-start k after (e .trace) (m .trace) full lean (varies .3) (uses .3)
+      (swept-agrees rest mid (present .1) (varies .3) (uses .3) q (end ∙ omega arith) full lean A))
+      (λ full′ lean′ A′. up-to-start a (suc p) (m .trace) (s .trace) full′ lean′ (varies .1) (uses .1)
+      (swept-agrees body sized (present .0) (varies .1) (uses .1) (suc p + rows a) refl full′ lean′ A′))
+  swept-agrees (more {n} {a} {k} {p} {s} {m} {e} body rest) sized present varies uses q end full lean A =
       let mid = runs-keep residues constants body ∙ sized in
       through-block (suc p) (suc p) (suc p + rows a) (suc p) (e .trace) (m .trace) (s .trace) full lean
       (in-right variedSets p (suc p + rows a) (suc p) (varies .0)) (in-right usefulSets (suc (suc p + rows a)) (suc p) (suc p + rows a) (uses .2))
       (⊆-refl (setAt variedSets (suc p))) (⊆-refl (setAt usefulSets (suc p)))
-      (back rest mid present varies uses q end full lean A)
-      (λ full′ lean′ A′. enter a (suc p) (m .trace) (s .trace) full′ lean′ (varies .1) (uses .1)
-      (back body sized (present .0) (varies .1) (uses .1) (suc p + rows a) refl full′ lean′ A′))
+      (swept-agrees rest mid present varies uses q end full lean A)
+      (λ full′ lean′ A′. up-to-start a (suc p) (m .trace) (s .trace) full′ lean′ (varies .1) (uses .1)
+      (swept-agrees body sized (present .0) (varies .1) (uses .1) (suc p + rows a) refl full′ lean′ A′))

@@ -153,7 +153,8 @@ enter-judged line block place blocks takes room =
     room-told : Tells (ltb (length blocks) (limit .depth)) (length blocks < limit .depth)
     room-told = leb-tells _ _
 
-pub take-judged : (line : SheetLine) (place : ℕ) (blocks : List Block) (items : List Item) → TakeJudged line place blocks (taken line place blocks items)
+pub take-judged : (line : SheetLine) (place : ℕ) (blocks : List Block) (items : List Item)
+    → TakeJudged line place blocks (taken line place blocks items)
 unfolding taken splitAt ifEndedAt repeatEndedAt
 take-judged (basic b) place blocks items = inl (record { progress = _; is = refl; takes = assigns })
 take-judged (ifLine f) place blocks items = enter-judged (ifLine f) (inFirst f items) place blocks opensIf (λ after t. effect t .0)
@@ -171,7 +172,8 @@ take-judged endRepeat place (inFirst f outer ∷ blocks) items = inr (refl, λ a
 take-judged endRepeat place (inSecond f a outer ∷ blocks) items = inr (refl, λ after t. effect t)
 take-judged endRepeat place (inRepeat m outer ∷ blocks) items = inl (record { progress = _; is = refl; takes = closesRepeat })
 
-pub take-refused : (line : SheetLine) (place : ℕ) (blocks : List Block) (items : List Item) → ((after : List Opening) → ¬ Takes line (shape blocks) after)
+pub take-refused : (line : SheetLine) (place : ℕ) (blocks : List Block) (items : List Item)
+    → ((after : List Opening) → ¬ Takes line (shape blocks) after)
     → taken line place blocks items ≡ refused (badBlock place)
 take-refused line place blocks items wrong = by (take-judged line place blocks items)
   where

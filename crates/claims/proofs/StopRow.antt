@@ -69,7 +69,8 @@ module _ (A : Arithmetic) (setting : Setting A) (lines : List TableLine) where
     EndReports outOfFuel = Unit {0}
 
   -- what a run reports from the state after a step, it reports from the state before it
-  step-earlier : (state next : State A) → step A setting lines state ≡ goesOn next → (ending : Ending A) → EndReports next ending → EndReports state ending
+  step-earlier : (state next : State A) → step A setting lines state ≡ goesOn next → (ending : Ending A) → EndReports next ending
+      → EndReports state ending
   unfolding stateAfter
   step-earlier state next goes (finished memory) h = tt
   step-earlier state next goes gotStuck h = tt

@@ -1,12 +1,11 @@
 -- A store is the originals and then the adjoints, t and u: looking and putting in either part.
-use Prim.Native.Nat.{ℕ, zero, suc, _+_, _<_, zero-le, suc-le-suc}
+use Prim.Native.Nat.{ℕ, zero, suc, _+_, _<_}
 use mathlib.Core.Path.{_≡_, refl, sym, ap, _∙_}
 use mathlib.Core.Logic.{_≢_}
 use mathlib.Core.List.{List, [], _∷_, _++_}
 use mathlib.Core.Option.{some, Option·getD}
 use lib.ListN.{length, set, getD, getElem?}
 use native.Mathlib.Nat.{suc-add, zero-add, not-suc-le-zero, le-of-suc-le-suc}
-use native.Mathlib.Omega.{arith}
 
 module _ {X : Type 0} where
   pub at-known : (xs : List X) (i : ℕ) → i < length xs → (x : X) × (getElem? xs i ≡ some x)
@@ -22,11 +21,6 @@ module _ {X : Type 0} where
       by-option [] j = refl
       by-option (z ∷ zs) zero = refl
       by-option (z ∷ zs) (suc j) = by-option zs j
-
-  pub at-is-known : (xs : List X) (i : ℕ) (x : X) → getElem? xs i ≡ some x → i < length xs
-  at-is-known [] i x e = let z : _≡_ {A = ℕ} 0 1 = cc in absurd (omega arith)
-  at-is-known (y ∷ xs) zero x e = suc-le-suc zero-le
-  at-is-known (y ∷ xs) (suc i) x e = suc-le-suc (at-is-known xs i x e)
 
   pub at-first-part : (xs ys : List X) (i : ℕ) → i < length xs → getElem? (xs ++ ys) i ≡ getElem? xs i
   at-first-part [] ys i h = absurd (not-suc-le-zero h)

@@ -92,8 +92,8 @@ module _ (A : Arithmetic) (sheet : Sheet) (starts seeds : List (A .Carrier)) whe
   pub data AnswersLike (before : Lent A) (ran : Ran A) : (allSaved : Ending A) → Type 0 where
     sameResult : {memory : Memory A} → ran .number ≡ 0 → ran .lent .result ≡ resultOf A sheet memory → AnswersLike before ran (finished memory)
     sameStop : {other : RowNumber} {origin : Origin} {why : A .Why} (row : RowNumber) → ran .number ≡ 12 → ran .place ≡ row .index
-        → StoppedThere A (settingOf A sheet seeds (length (before .values)) (length (before .turns))) (linesOf (tableOf sheet)) (startOf A sheet starts)
-        row origin why
+        → StoppedThere A (settingOf A sheet seeds (length (before .values)) (length (before .turns))) (linesOf (tableOf sheet))
+        (startOf A sheet starts) row origin why
         → AnswersLike before ran (stoppedAt other origin why)
 
 -- of an accepted sheet, whatever the calls answer within their contracts

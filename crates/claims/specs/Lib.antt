@@ -1,5 +1,5 @@
--- What the claims speak of besides the layers' own definitions: executing a sheet, equation (2), other choices of saved rows,
--- and the sheets that 01 works by hand.
+-- The demands, and what they speak of besides the layers' own definitions: 01's table of refusals as rules, executing a sheet, the ideal
+-- sweep and its log, equation (2), other choices of saved rows, and 01's worked sheets.
 pub mod ExactlyWhen
 pub mod CallsExactly
 pub mod Execution
