@@ -13,6 +13,7 @@ use Rattle.sheet.specs.Refusals.{given, numberOf, placeOf, notFiniteResult}
 use Rattle.sheet.specs.Reading.{Sheet, variablesOf, read}
 use Rattle.run.specs.Attempts.{Attempt, through, halted, stuck}
 use Rattle.run.specs.Machine.{Ending, gotStuck}
+use Rattle.run.specs.Actions.{counting}
 use Rattle.run.specs.Calls.{Lent, Ran, settingOf, independentAdjoints, resultOf, lentAfter, ranTo, run}
 use Rattle.run.specs.InTheLarge.{Stop}
 use Rattle.claims.specs.ExactlyWhen.{Runnable}

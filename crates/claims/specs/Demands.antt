@@ -22,7 +22,7 @@ use Rattle.table.specs.declared.Answer.{Answer}
 use Rattle.run.specs.Attempts.{through, halted}
 use Rattle.run.specs.Actions.{Memory, Setting, acted}
 use Rattle.run.specs.Machine.{State, Step, goesOn, sticks, stateAfter, stepsOf, Ending, finished, stoppedAt}
-use Rattle.run.specs.Calls.{Lent, Ran, settingOf, startOf, runOf, resultOf, run, ranOf}
+use Rattle.run.specs.Calls.{Lent, Ran, settingOf, startOf, sheetRun, resultOf, run, ranOf}
 use Rattle.run.specs.RowReads.{machineLog}
 use Rattle.claims.specs.ExactlyWhen.{Writable, Runnable}
 use Rattle.claims.specs.CallsExactly.{CheckExactly, StartsWith, WriteExactly, RunExactly}
@@ -84,7 +84,7 @@ module _ (A : Arithmetic) (sheet : Sheet) (starts seeds : List (A .Carrier)) whe
   SameAsAllSaved =
       (values turns allValues allTurns : ℕ) → valuesNeeded (marked sheet) ≤ values → turnsNeeded (marked sheet) ≤ turns
       → Room A every sheet allValues allTurns
-      → SameOutcome A (variablesOf sheet) (runOf A (tableOf sheet) (settingOf A sheet seeds values turns) (startOf A sheet starts))
+      → SameOutcome A (variablesOf sheet) (sheetRun A sheet starts seeds values turns)
       (runSaving A every sheet starts seeds allValues allTurns)
 
   -- the same of what a run's call answers, by how the all-saved table ends: 0 with that table's result, or 12 at the row of the real table
@@ -185,7 +185,7 @@ module _ (A : Arithmetic) (sheet : Sheet) (starts seeds : List (A .Carrier)) (va
         → drop i lines ≡ basic (record { origin = origin; action = save d }) ∷ rest → SavesRecorded sheet origin d
     pub saves : (progress : Progress A) → execution A sheet starts ≡ through progress → SavedAtTurning progress
     pub replays : (progress : Progress A) → execution A sheet starts ≡ through progress → ReplaysInReverse progress
-    pub ends : Matches A (variablesOf sheet) (ideal A sheet setting starts) (runOf A (tableOf sheet) setting (startOf A sheet starts))
+    pub ends : Matches A (variablesOf sheet) (ideal A sheet setting starts) (sheetRun A sheet starts seeds valueRoom turnRoom)
 
 -- ---- the three, whole: over any arithmetic, and under which hypotheses
 

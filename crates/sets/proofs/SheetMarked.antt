@@ -66,7 +66,7 @@ module _ (words : List ℕ) (variables first count : ℕ) (laid : Laid words var
       let sheet = laid .sheet in
       let parts = accepted words sheet (laid .accepted) in
       let counted = counts words sheet parts in
-      let vs = count-judged words 0 1 (limit .variables) 1 (parts .v) (parts .variables) in
+      let vs = count-judged words 0 (limit .fewestVariables) (limit .variables) 1 (parts .v) (parts .variables) in
       let ks = count-judged words (1 + parts .v) 0 (limit .constants) 1 (parts .k) (parts .constantCount) in
       let ns = count-judged words (1 + parts .v + 1 + parts .k) 0 (limit .rows) (limit .rowWords) (parts .n) (parts .rowCount) in
       let vars : variables ≡ parts .v = laid .variablesAre ∙ counted .variables in
