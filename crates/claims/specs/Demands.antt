@@ -12,10 +12,10 @@ use Rattle.sheet.specs.Refusals.{given}
 use Rattle.sheet.specs.Rows.{Assignment, Test, SheetLine, isIndependent}
 use Rattle.sheet.specs.Reading.{Sheet, variablesOf, read}
 use Rattle.sets.specs.Equations.{Least}
-use Rattle.sets.specs.Marks.{marked, varied, useful, required, variedEquations, usefulEquations, requiredEquations, activityAt}
+use Rattle.sets.specs.Marks.{varied, useful, required, variedEquations, usefulEquations, requiredEquations, activityAt}
 use Rattle.table.specs.TableRows.{TableLine, TableRow, Origin, ofRow, ofTurningRound, saving, save, turnRound, turnWord, linesOf, tableWords}
 use Rattle.table.specs.Adjoint.{targetOf, tableOf}
-use Rattle.table.specs.Sizes.{valuesNeeded, turnsNeeded}
+use Rattle.table.specs.Sizes.{valuesFor, turnsFor}
 use Rattle.table.specs.Calls.{checkedSaid, check, writtenOf, write}
 use Rattle.table.specs.declared.Checked as declared
 use Rattle.table.specs.declared.Answer.{Answer}
@@ -82,7 +82,7 @@ module _ (A : Arithmetic) (sheet : Sheet) (starts seeds : List (A .Carrier)) whe
   -- stacks of at least the sizes that each of the two tables needs
   abbrev pub SameAsAllSaved : Type 0
   SameAsAllSaved =
-      (values turns allValues allTurns : ℕ) → valuesNeeded (marked sheet) ≤ values → turnsNeeded (marked sheet) ≤ turns
+      (values turns allValues allTurns : ℕ) → valuesFor sheet ≤ values → turnsFor sheet ≤ turns
       → Room A every sheet allValues allTurns
       → SameOutcome A (variablesOf sheet) (sheetRun A sheet starts seeds values turns)
       (runSaving A every sheet starts seeds allValues allTurns)
@@ -154,8 +154,8 @@ module _ (A : Arithmetic) (sheet : Sheet) (starts seeds : List (A .Carrier)) (va
   -- "the run never gets stuck"; S and T: "the height never exceeds them"
   pub record NeverStuck : Type 0 where
     pub unstuck : (n : ℕ) → afterSteps n ≡ sticks → ⊥
-    pub valuesWithin : (n : ℕ) (s : State A) → afterSteps n ≡ goesOn s → length (s .memory .values) ≤ valuesNeeded (marked sheet)
-    pub turnsWithin : (n : ℕ) (s : State A) → afterSteps n ≡ goesOn s → length (s .memory .turns) ≤ turnsNeeded (marked sheet)
+    pub valuesWithin : (n : ℕ) (s : State A) → afterSteps n ≡ goesOn s → length (s .memory .values) ≤ valuesFor sheet
+    pub turnsWithin : (n : ℕ) (s : State A) → afterSteps n ≡ goesOn s → length (s .memory .turns) ≤ turnsFor sheet
 
   -- At row 17, where nothing has been taken back yet: "only recorded values and turns are saved", in order; the height "without "if" reaches S".
   pub record SavedAtTurning (progress : Progress A) : Type 0 where
@@ -167,7 +167,7 @@ module _ (A : Arithmetic) (sheet : Sheet) (starts seeds : List (A .Carrier)) (va
     pub originals : take (variablesOf sheet) (state .memory .store) ≡ progress .store
     pub values : state .memory .values ≡ savedValues A (recordedIn sheet) (progress .trace)
     pub turns : state .memory .turns ≡ map turnWord (progress .turns)
-    pub full : WithoutIf (sheet .body) → length (state .memory .values) ≡ valuesNeeded (marked sheet)
+    pub full : WithoutIf (sheet .body) → length (state .memory .values) ≡ valuesFor sheet
 
   -- "replays exactly the executed assignments in reverse, every value a derivative rule reads is the value before that assignment": what
   -- derivative rows were executed and what originals they read is, row for row, the ideal sweep over the executed assignments.
@@ -177,7 +177,8 @@ module _ (A : Arithmetic) (sheet : Sheet) (starts seeds : List (A .Carrier)) (va
       → machineLog A n setting lines (startOf A sheet starts)
       ≡ sweptLog A setting (activityAt (varied sheet) (useful sheet)) (progress .trace) (firstAdjoints A (sheet .roles) seeds)
 
-  -- All of it, unless a double leaves the finite range while the sheet itself is executed. "both stacks end empty" is in `ends`.
+  -- `saves` and `replays` are of every run but one in which a double leaves the finite range while the sheet itself is executed. "both stacks
+  -- end empty" is in `ends`.
   pub record DemandThree : Type 0 where
     pub never : NeverStuck
     -- "only recorded values .. are saved", of every row of the table, whether or not a run comes to it
@@ -201,5 +202,5 @@ SecondDemand = (A : Arithmetic) (words : List ℕ) (sheet : Sheet) → read word
 abbrev pub ThirdDemand : Type 1
 ThirdDemand =
     (A : Arithmetic) (words : List ℕ) (sheet : Sheet) → read words ≡ given sheet → (starts seeds : List (A .Carrier))
-    → length starts ≡ variablesOf sheet → (valueRoom turnRoom : ℕ) → valuesNeeded (marked sheet) ≤ valueRoom
-    → turnsNeeded (marked sheet) ≤ turnRoom → DemandThree A sheet starts seeds valueRoom turnRoom
+    → length starts ≡ variablesOf sheet → (valueRoom turnRoom : ℕ) → valuesFor sheet ≤ valueRoom
+    → turnsFor sheet ≤ turnRoom → DemandThree A sheet starts seeds valueRoom turnRoom
