@@ -20,14 +20,16 @@ use Rattle.run.specs.Actions.{Memory, Setting}
 use Rattle.run.specs.Machine.{Ending, finished}
 use Rattle.run.specs.Calls.{settingOf, startOf, runOf, sheetRun, resultOf, lentAfter, ranTo, lentOf, ranOf}
 use Rattle.run.specs.InTheLarge.{tableRun}
-use Rattle.run.specs.inner.Buffers.{Stack, Sound}
-use Rattle.run.specs.inner.RunsRows.{Cells, cellsOf, Handed, EndsLike, RunsRows}
+use Rattle.run.specs.inner.Buffers.{Cells, cellsOf, Stack, Sound}
+use Rattle.run.specs.inner.RunsRows.{Handed, RunsRows}
 use Rattle.run.specs.inner.CallSteps.{ResultFits, answerAt, resultAt}
 use Rattle.run.specs.inner.CallAnswers.{Ready, RunRoom, StacksCleared, RanTo}
+use Rattle.run.specs.declared.Ran.{Ran}
 use Rattle.run.specs.declared.Ended.{Ended}
 use Rattle.run.specs.declared.Ended.the-variants as ended
 use Rattle.run.proofs.MachineFollows.{Result, EndsAs, run-follows}
 use Rattle.run.proofs.RunsCopy.{adjoint-copies}
+use Rattle.run.proofs.RunEnds.{EndsLike, ends-like}
 use Rattle.run.proofs.Fuel.{enoughSteps, accepted-fuel-same}
 use Rattle.run.proofs.OpenRepeats.{sheet-shallow}
 
@@ -163,25 +165,27 @@ module _ (A : Arithmetic) where
     ends-as ended.Finished after buffer ends =
         rw (ends .is, held-is (ends .held) (after .copied) (finished-copies _ (ends .is)) (ends .copies), ready .rolesAre)
     ends-as (ended.Stopped row) after buffer ends = rw (ends .is)
-    ends-as ended.Stuck after buffer (inl is) = rw is
-    ends-as ended.Stuck after buffer (inr is) = rw is
+    ends-as ended.Stuck after buffer is = rw is
+    ends-as ended.Unfinished after buffer is = rw is
 
     -- from each step of a call's run to what it comes to
-    pub comes-to : (buffer : List ℕ) {store cleared : List (A .Carrier)} {clearedTurns : List ℕ} (after : Cells A) (end : Ended)
+    pub comes-to : (buffer : List ℕ) {store cleared : List (A .Carrier)} {clearedTurns : List ℕ} (after : Cells A) {bodies toCome : List ℕ} (ran : Ran)
         {answer : Answer} {valuesAfter : List (A .Carrier)} {turnsAfter : List ℕ} {left : List (A .Carrier)}
         → store ≡ overwritten starts before
         → StacksCleared A values turns cleared clearedTurns
-        → RunsRows A table rows beyond roles constants seeds enoughSteps (cellsOf A store cleared clearedTurns copied) after end
+        → RunsRows A table rows beyond roles constants seeds enoughSteps (cellsOf A store cleared clearedTurns copied) after bodies toCome ran
         → length (after .values) ≡ length cleared
         → length (after .turns) ≡ length clearedTurns
         → StacksCleared A (after .values) (after .turns) valuesAfter turnsAfter
-        → left ≡ resultAt A end roles (after .copied) (after .store) result
-        → answer ≡ answerAt end
+        → left ≡ resultAt A (ran .ended) roles (after .copied) (after .store) result
+        → answer ≡ answerAt (ran .ended)
         → RanTo A sheet buffer starts seeds values turns result answer valuesAfter turnsAfter left
     unfolding lentAfter runOf startOf
-    comes-to buffer after end laid empty runs kept keptTurns empty-again written answered =
+    comes-to buffer {store} {cleared} {clearedTurns} after {bodies} {toCome} ran laid empty runs kept keptTurns empty-again written answered =
         let many = kept ∙ ap length (empty .valuesAre) ∙ length-replicate (length values) (A .zero) in
         let manyTurns = keptTurns ∙ ap length (empty .turnsAre) ∙ length-replicate (length turns) 0 in
         let fuelled = accepted-fuel-same A itsSetting (ready .words) sheet (ready .accepted) starts enoughSteps (omega arith) in
-        let ends = subst (EndsLike A start after end) fuelled (runs itsSetting (linesOf (tableOf sheet)) start (handed (starts-laid laid) empty)) in
-        rw (empty-again .valuesAre, empty-again .turnsAre, many, manyTurns, written, answered) (ends-as end after buffer ends)
+        let leaves = runs itsSetting (linesOf (tableOf sheet)) start (handed (starts-laid laid) empty) in
+        let ends = subst (EndsLike A start after (ran .ended)) fuelled
+        (ends-like A itsSetting (linesOf (tableOf sheet)) start enoughSteps (cellsOf A store cleared clearedTurns copied) after bodies toCome ran leaves) in
+        rw (empty-again .valuesAre, empty-again .turnsAre, many, manyTurns, written, answered) (ends-as (ran .ended) after buffer ends)

@@ -1,7 +1,7 @@
 -- A block row's code as one step of the machine, over the arithmetic.
 use Prim.Native.Nat.{ℕ, zero, suc, pred, _+_, _*_, _≤_, _<_}
 use mathlib.Core.Path.{_≡_, refl, sym, ap, _∙_, subst}
-use mathlib.Core.Logic.{_≢_, inl, inr}
+use mathlib.Core.Logic.{_≢_}
 use mathlib.Core.Bool.{Bool, true, false}
 use mathlib.Core.List.{List, [], _∷_}
 use mathlib.Core.Option.{Option, none, some}
@@ -20,11 +20,11 @@ use Rattle.table.specs.TableRows.{TableTest, whether, onTurn, TableLine, tableR
 use Rattle.run.specs.Actions.{Setting, verdictOn}
 use Rattle.run.specs.Machine.{itsElse, itsEnd, oneMore, seek, Repeat, State, Step, step, stepAt, goTo, jump, afterTest, afterTurn}
 use Rattle.run.specs.inner.RowAnswers.{branchOf, turnOf, heightBranched}
-use Rattle.run.specs.inner.Buffers.{memoryOf, Sound, Tests, Compares, TakesTurn}
+use Rattle.run.specs.inner.Buffers.{Buffers, memoryOf, Sound, Tests, Compares, TakesTurn}
 use Rattle.run.specs.inner.Runnable.{Reached, Jumps}
 use Rattle.run.specs.inner.RowSteps.{stuckThere, Opened, Opens, Closes, JumpsTo, BranchesTo, TurnsTo, CrossedLeft, CrossedSays, BlockRow, CrossesBy}
-use Rattle.run.specs.inner.RowSteps.{buffersAt, stateAt, raised, within, moved, following, preceding, MeetsRow, MeetsCompare, Meets, Blocked}
-use Rattle.run.specs.inner.RunsRows.{Cells, cellsOf}
+use Rattle.run.specs.inner.RowSteps.{buffersAt, stateAt, raised, within, moved, following, preceding, MeetsRow, MeetsCompare, Meets, Stays, Blocked}
+use Rattle.run.specs.inner.Buffers.{Cells, cellsOf}
 use Rattle.run.specs.declared.Place.{Place}
 use Rattle.run.specs.declared.Branch.{Branch}
 use Rattle.run.specs.declared.Branch.the-variants as branch
@@ -113,7 +113,7 @@ module _ {A : Arithmetic} where
   -- what is to be shown of one line
   record Crosses (at : ℕ) (next : Place) (setting : Setting A) (line : TableLine) (rest : List TableLine) (repeats : List Repeat)
       (before after : Cells A) (held : List (A .Carrier)) (bodies toCome : List ℕ) (answer : Crossed) : Type 0 where
-    says : CrossedSays A setting (preceding next at) bodies toCome after held
+    says : CrossedSays A setting (preceding next at) repeats bodies toCome before after held
         (stepAt A setting (stateAt A (preceding next at) repeats before held) (line ∷ rest)) answer
 
   module _ {at : ℕ} {next : Place} {setting : Setting A} {line : TableLine} {rest : List TableLine} {repeats : List Repeat}
@@ -135,9 +135,12 @@ module _ {A : Arithmetic} where
 
     -- the step is stuck
     sticks-there : answer ≡ stuckThere → Blocked A (stepAt A setting (stateAt A (preceding next at) repeats before held) (line ∷ rest))
+        → Opened (next .depth) bodies toCome repeats
+        → Stays A next before after held held
         → Crosses at next setting line rest repeats before after held bodies toCome answer
-    sticks-there is blocked =
-        subst (λ (r : Crossed). Crosses at next setting line rest repeats before after held bodies toCome r) (sym is) (record { says = inr blocked })
+    sticks-there is blocked opened stays =
+        subst (λ (r : Crossed). Crosses at next setting line rest repeats before after held bodies toCome r) (sym is)
+        (record { says = (omega arith, blocked, record { opened = opened; stays = stays }) })
 
     -- a jump over as many lines as a search finds
     jumps-there : {beyond : List ℕ} (from : Place) (search-found : Option ℕ)
@@ -172,20 +175,32 @@ module _ {A : Arithmetic} where
         → Crosses at next setting (ifLine test) rest repeats before after held bodies toCome answer
     unfolding stepAt
     test-crosses picked tests picks =
-        by-branch picked picks (tests .sound) (ap (afterTest A (stateAt A (preceding next at) repeats before held) rest) (sym (tests .meaning)))
+        by-branch picked picks (tests .sound) (tests .unchanged) (ap (afterTest A (stateAt A (preceding next at) repeats before held) rest) (sym (tests .meaning)))
       where
         by-branch : (picked : Option Bool) → PicksTo beyond at next height picked answer
             → Sound A setting (buffersAt A (lowered next height) after held)
+            → (picked ≡ none → buffersAt A (lowered next height) after held ≡ buffersAt A next before held)
             → stepAt A setting (stateAt A (preceding next at) repeats before held) (ifLine test ∷ rest)
             ≡ afterTest A (stateAt A (preceding next at) repeats before held) rest
             (verdictOn A (memoryOf A (buffersAt A (lowered next height) after held)) picked)
             → Crosses at next setting (ifLine test) rest repeats before after held bodies toCome answer
-        by-branch (some true) is sound found =
+        by-branch (some true) is sound same found =
             goes-to (lowered next height) repeats is refl opened sound
             (found ∙ ap (λ (n : ℕ). goTo A n repeats (memoryOf A (buffersAt A (lowered next height) after held))) (sym follows))
-        by-branch (some false) jumping sound found =
+        by-branch (some false) jumping sound same found =
             jumps-there (lowered next height) (seek itsElse 0 rest) refl (jumps .fromIf at test rest here) jumping opened sound found
-        by-branch none is sound found = sticks-there is (subst (λ (s : Step A). Blocked A s) (sym found) tt)
+        by-branch none is sound same found =
+            sticks-there is (subst (λ (s : Step A). Blocked A s) (sym found) tt) opened
+            (ap
+            (λ (b : Buffers A). record {
+              store = b .store;
+              values = b .values;
+              height = next .values;
+              turns = b .turns;
+              turnHeight = next .turns;
+              copied = b .copied;
+            })
+            (same refl))
 
   -- ---- the line that a row's words say
 
@@ -260,7 +275,8 @@ module _ {A : Arithmetic} where
             (ap (λ (n : ℕ). goTo A n (record { start = at; left = m } ∷ repeats) (memoryOf A (buffersAt A next cells held))) (sym follows))
         by-room {setting} {rest} {repeats} {cells} {held} count follows opened sound (no full) =
             let deep = opened-length (next .depth) bodies toCome repeats opened in
-            sticks-there (opens .full (omega arith)) (omega arith)
+            let full-up = opens .full (omega arith) in
+            sticks-there (full-up .0) (omega arith) (rw (full-up .1, full-up .2) opened) refl
 
     pub end-repeat-crosses : {bodiesAfter toComeAfter : List ℕ} {answer : Crossed} → row .kind ≡ 11
         → Closes next bodies toCome bodiesAfter toComeAfter answer
@@ -295,7 +311,7 @@ module _ {A : Arithmetic} where
             → next .depth ≤ limit .depth
             → Sound A setting (buffersAt A next cells held)
             → Crosses at next setting endRepeat rest repeats cells cells held bodiesAfter toComeAfter answer
-        by-repeats [] follows opened shallow sound = sticks-there (closes .none opened) tt
+        by-repeats [] follows opened shallow sound = let none-open = closes .none opened in sticks-there (none-open .0) tt (none-open .1) refl
         by-repeats (r ∷ outer) follows opened shallow sound = by-left r outer (r .left) refl follows opened shallow sound
 
     pub on-turn-crosses : {picked : Branched} {turnsAfter : List ℕ} {answer : Crossed} → row .kind ≡ 15
@@ -343,13 +359,13 @@ module _ {A : Arithmetic} where
       → place .left ≡ suc left
       → drop (place .at) lines ≡ line ∷ rest
       → Crosses (place .at) (following place (place .at + 1) left) setting line rest repeats before after held bodies toCome answer
-      → CrossedSays A setting place bodies toCome after held (step A setting lines (stateAt A place repeats before held)) answer
+      → CrossedSays A setting place repeats bodies toCome before after held (step A setting lines (stateAt A place repeats before held)) answer
   unfolding step
   found-there place {left} lines {rest} {line} setting repeats before after held bodies toCome answer spends here crosses =
       let same-place : preceding (following place (place .at + 1) left) (place .at) ≡ place = rw (sym spends) in
       rw here
       (subst
-      (λ (p : Place). CrossedSays A setting p bodies toCome after held (stepAt A setting (stateAt A p repeats before held) (line ∷ rest)) answer)
+      (λ (p : Place). CrossedSays A setting p repeats bodies toCome before after held (stepAt A setting (stateAt A p repeats before held) (line ∷ rest)) answer)
       same-place
       (crosses .says))
 
@@ -366,13 +382,15 @@ module _ {A : Arithmetic} where
               left = tt;
               steps = λ setting lines repeats values copied held holds count jumps none-straight opened shallow sound.
                   let none-there : drop (place .at) lines ≡ [] = drop-of-length-le lines {i = place .at} (rw count over) in
-                  (some-left, rw none-there);
+                  (some-left, rw none-there, record { opened = opened; stays = refl });
             }
         by-end (ended-as.Stopped row) never = absurd never
-        by-end ended-as.Stuck spent =
+        by-end ended-as.Stuck never = absurd never
+        by-end ended-as.Unfinished spent =
             record {
               left = tt;
-              steps = λ setting lines repeats values copied held holds count jumps none-straight opened shallow sound. inl spent;
+              steps = λ setting lines repeats values copied held holds count jumps none-straight opened shallow sound.
+                  (spent, record { opened = opened; stays = refl });
             }
 
     pub block-crosses : {row : RowWords} {next : Place} {turnsAfter bodiesAfter toComeAfter : List ℕ} {answer : Crossed} → Meets table rows place met

@@ -14,6 +14,8 @@ pub mod LineLaws
 pub mod StraightLaws
 pub mod CrossLaws
 pub mod RunLaws
+pub mod RunEnds
+pub mod RunPinned
 -- the machine on a table
 pub mod MachineFollows
 pub mod Fuel
@@ -22,6 +24,7 @@ pub mod OpenRepeats
 pub mod JumpsRight
 pub mod JumpPass
 pub mod TableHeld
+pub mod TableNames
 -- the calls
 pub mod SectionLaws
 pub mod CallsJudged

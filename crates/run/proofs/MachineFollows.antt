@@ -126,7 +126,7 @@ module _ (A : Arithmetic) where
         (memory : Memory A)
         → Reaches (atRow p repeats memory) (stepsOf t) (p + rows t) repeats (tableRun A setting t memory) (tableLog A setting t memory)
 
-    steps-add : (n m : ℕ) (s : State A)
+    pub steps-add : (n m : ℕ) (s : State A)
         → stateAfter A (n + m) setting lines s ≡ ifItGoesOn A (stateAfter A n setting lines s) (λ next. stateAfter A m setting lines next)
     unfolding stateAfter
     steps-add zero m s = rw zero-add

@@ -58,7 +58,7 @@ module _ (count : ℕ) (next : Place) (bodies toCome : List ℕ) where
   opens-full full =
       record {
         left = tt;
-        full = λ _. refl;
+        full = λ _. (refl, refl, refl);
         room = λ room m is. absurd (omega arith);
         opened = λ room m start repeats is at now. absurd (omega arith);
       }
@@ -67,7 +67,7 @@ module _ (count : ℕ) (next : Place) (bodies toCome : List ℕ) where
   opens-none none =
       record {
         left = tt;
-        full = λ _. refl;
+        full = λ _. (refl, refl, refl);
         room = λ room m is. absurd (omega arith);
         opened = λ room m start repeats is at now. absurd (omega arith);
       }
@@ -126,7 +126,7 @@ module _ (next : Place) (bodies toCome : List ℕ) where
   closes-none is =
       record {
         left = tt;
-        none = λ _. refl;
+        none = λ now. (refl, now);
         out = λ few r outer now left. absurd (nested-some (next .depth) bodies toCome r outer is (now .nested));
         back = λ few r n outer now left. absurd (nested-some (next .depth) bodies toCome r outer is (now .nested));
       }
@@ -136,7 +136,7 @@ module _ (next : Place) (bodies toCome : List ℕ) where
   closes-beyond is =
       record {
         left = tt;
-        none = λ _. refl;
+        none = λ now. (refl, now);
         out = λ few r outer now left. absurd (omega arith);
         back = λ few r n outer now left. absurd (omega arith);
       }

@@ -63,29 +63,13 @@ module _ {A : Arithmetic} where
               (rw (sym got, lt-ltb d (length store) h));
         }
 
-    -- a right side that did not go through, for either reason
+    -- a right side that was stopped
     pub assign-stops : {why : A .Why} → Assigns A d (halted why) store store (halted why)
     unfolding acted
     assign-stops =
         record {
           does = λ setting source got values height turns turnHeight copied sound.
               record { meaning = rw (sym got); sound = sound; unchanged = λ _. refl };
-        }
-
-    pub assign-sticks : Assigns A d stuck store store stuck
-    unfolding acted
-    assign-sticks =
-        record {
-          does = λ setting source got values height turns turnHeight copied sound.
-              sticks setting (assign (d ≔ source)) _ sound (rw (sym got));
-        }
-
-    pub assign-nowhere : {x : A .Carrier} → length store ≤ d → Assigns A d (through x) store store stuck
-    unfolding acted
-    assign-nowhere h =
-        record {
-          does = λ setting source got values height turns turnHeight copied sound.
-              sticks setting (assign (d ≔ source)) _ sound (rw (sym got, le-ltb d (length store) h));
         }
 
     -- ---- kind 16
@@ -100,14 +84,6 @@ module _ {A : Arithmetic} where
               (record { values = sound .values; turns = sound .turns; valueRoom = sound .valueRoom; turnRoom = sound .turnRoom })
               (rw (lt-ltb d (length store) h));
         })
-
-    pub clear-nowhere : length store ≤ d → Clears A d store store went.Stuck
-    unfolding acted
-    clear-nowhere h =
-        record {
-          does = λ setting values height turns turnHeight copied sound.
-              sticks setting (clear d) _ sound (rw (le-ltb d (length store) h));
-        }
 
     -- ---- kind 12
 
@@ -132,11 +108,6 @@ module _ {A : Arithmetic} where
                 (rw (look-there store d z here, lt-ltb _ _ fits, stack-pushed height values x room)));
           }
 
-      pub save-nowhere : length store ≤ d → MovesValues A (save d) store values height store values moved.Stuck
-      unfolding acted
-      save-nowhere h =
-          record { does = λ setting turns turnHeight copied sound. sticks setting (save d) _ sound (rw (look-missing store d h)) }
-
       pub save-full : d < length store → length values ≤ height → MovesValues A (save d) store values height store values moved.Stuck
       unfolding acted
       save-full here full =
@@ -148,10 +119,6 @@ module _ {A : Arithmetic} where
           }
 
     -- ---- kind 13
-
-    stays : (stack : List (A .Carrier)) (memory : Memory A) → length store ≤ d → memory .store ≡ store → stuck ≡ restored A memory d stack
-    stays [] memory h is = refl
-    stays (x ∷ stack) memory h is = rw (is, le-ltb d (length store) h)
 
     module _ {values : List (A .Carrier)} where
       take-back-top : (top : ℕ) (z : A .Carrier) → d < length store → top < length values
@@ -176,13 +143,6 @@ module _ {A : Arithmetic} where
       take-back-goes {top = top} z cleared is here there = rw (cleared, is) (take-back-top top z here there)
 
       module _ {height : ℕ} where
-        pub take-back-nowhere : length store ≤ d → MovesValues A (takeBack d) store values height store values moved.Stuck
-        unfolding acted
-        take-back-nowhere h =
-            record {
-              does = λ setting turns turnHeight copied sound. sticks setting (takeBack d) _ sound (stays (stackOf height values) _ h refl);
-            }
-
         pub take-back-empty : height ≡ 0 → MovesValues A (takeBack d) store values height store values moved.Stuck
         unfolding acted
         take-back-empty is = record { does = λ setting turns turnHeight copied sound. sticks setting (takeBack d) _ sound (rw is) }
@@ -229,7 +189,7 @@ module _ {A : Arithmetic} where
               sticks setting (saveTurn first) _ sound (rw (le-ltb _ _ none-left));
         }
 
-  -- ---- the operands of kinds 3 to 5 and 7
+  -- ---- the operands of kind 7
 
   module _ {a b : ℕ} {store : List (A .Carrier)} where
     pub operands-there : (z : A .Carrier) → a < length store → b < length store → Operands A a b store (through (getD store a z, getD store b z))
@@ -242,18 +202,6 @@ module _ {A : Arithmetic} where
     second-missing ha h = record { are = rw (look-there store a (A .zero) ha, look-missing store b h) }
 
     module _ {got : Try A (A .Carrier × A .Carrier)} (both : Operands A a b store got) where
-      -- kinds 3 to 5, by what each makes of two operands
-      pub combines : (next : A .Carrier → A .Carrier → Try A (A .Carrier))
-          → (got >>= λ pair. next (pair .0) (pair .1)) ≡ (look store a >>= λ x. look store b >>= λ y. next x y)
-      combines next = rw (both .are) (by-places (getElem? store a) (getElem? store b))
-        where
-          by-places : (p q : Option (A .Carrier))
-              → (bothOf A (present p) (present q) >>= λ pair. next (pair .0) (pair .1))
-              ≡ (present p >>= λ x. present q >>= λ y. next x y)
-          by-places none q = refl
-          by-places (some x) none = refl
-          by-places (some x) (some y) = refl
-
       -- kind 7
       pub compares : {picked : Branch} → branchOf picked ≡ lessIn A got → Compares A a b store picked
       unfolding tested compared

@@ -41,10 +41,10 @@ module _ {X : Type 0} (zero : X) where
       ∙ sym (stack-cells height′ cells′ stack′)
 
 module _ {Why : Type 0} where
-  halted-apart : (why : Why) → _≡_ {A = Attempt Why (Unit {0})} (halted why) (through tt) → ⊥
+  pub halted-apart : (why : Why) → _≡_ {A = Attempt Why (Unit {0})} (halted why) (through tt) → ⊥
   halted-apart why is = let z : _≡_ {A = ℕ} 0 1 = cc in omega arith
 
-  stuck-apart : _≡_ {A = Attempt Why (Unit {0})} stuck (through tt) → ⊥
+  pub stuck-apart : _≡_ {A = Attempt Why (Unit {0})} stuck (through tt) → ⊥
   stuck-apart is = let z : _≡_ {A = ℕ} 0 1 = cc in omega arith
 
 abbrev verdictOf : (A : Arithmetic) → Bool → Memory A → Verdict A
@@ -62,7 +62,7 @@ module _ (A : Arithmetic) (setting : Setting A) where
   rebuilt b store values height turns turnHeight copied s v h t th c = rw (sym s, sym v, sym h, sym t, sym th, sym c)
 
   -- sound buffers that stand for the same memory are the same
-  buffers-pinned : (b b′ : Buffers A) → Sound A setting b → Sound A setting b′ → memoryOf A b ≡ memoryOf A b′ → b ≡ b′
+  pub buffers-pinned : (b b′ : Buffers A) → Sound A setting b → Sound A setting b′ → memoryOf A b ≡ memoryOf A b′ → b ≡ b′
   buffers-pinned b b′ sound sound′ same =
       let values = ap (λ m. m .values) same in
       let turns = ap (λ m. m .turns) same in

@@ -1,7 +1,8 @@
--- The runner's two loops over the arithmetic: what every place on the way stands for, and how each way out answers.
-use Prim.Native.Nat.{ℕ, zero, suc, _≤_, _<_}
+-- The runner's two loops over the arithmetic: at every place on the way the run stands in the machine's state after the steps that it has taken, and
+-- is left there by what the next step comes to.
+use Prim.Native.Nat.{ℕ, zero, suc, _+_, _≤_, _<_}
 use mathlib.Core.Path.{_≡_, refl, sym, ap, _∙_, subst}
-use mathlib.Core.Logic.{_⊎_, inl, inr}
+use mathlib.Core.Logic.{inl, inr}
 use mathlib.Core.List.{List, []}
 use native.Mathlib.Omega.{arith}
 use lib.ListN.{length}
@@ -9,11 +10,11 @@ use Rattle.number.specs.Arithmetic.{Arithmetic}
 use Rattle.sheet.specs.Bounds.{limit}
 use Rattle.table.specs.TableRows.{TableLine}
 use Rattle.run.specs.Actions.{Memory, Setting}
-use Rattle.run.specs.Machine.{Repeat, State, Step, goesOn, ended, stops, sticks, step, stateAfter, Ending, gotStuck, outOfFuel, runFor}
-use Rattle.run.specs.inner.Buffers.{memoryOf, Sound, RoundSizes}
-use Rattle.run.specs.inner.Runnable.{Shallow}
-use Rattle.run.specs.inner.RowSteps.{Nested, Opened, firstPlace, buffersAt, stateAt, CopiesOn, StopsAt, Blocked, GoesTo, StepsStraight, StraightRow, CrossedSays, BlockRow}
-use Rattle.run.specs.inner.RunsRows.{Cells, cellsOf, Handed, Finishes, StoppedAt, RunsRows}
+use Rattle.run.specs.Machine.{Repeat, State, Step, goesOn, ended, stops, sticks, step, ifItGoesOn, stateAfter}
+use Rattle.run.specs.inner.Buffers.{Buffers, Cells, cellsOf, memoryOf, Sound, RoundSizes}
+use Rattle.run.specs.inner.Runnable.{Shallow, Indexed}
+use Rattle.run.specs.inner.RowSteps.{Nested, Opened, firstPlace, leftAt, buffersAt, stateAt, CopiesOn, Stays, StopsAt, Blocked, GoesTo, StepsStraight, StraightRow, CrossedSays, BlockRow}
+use Rattle.run.specs.inner.RunsRows.{firstState, Handed, AfterSteps, LeavesBy, Leaves, RunsRows}
 use Rattle.run.specs.declared.Place.{Place}
 use Rattle.run.specs.declared.Acted.{Acted}
 use Rattle.run.specs.declared.Acted.the-variants as acted
@@ -21,44 +22,42 @@ use Rattle.run.specs.declared.Crossed.{Crossed}
 use Rattle.run.specs.declared.Crossed.the-variants as crossed
 use Rattle.run.specs.declared.Ended.{Ended}
 use Rattle.run.specs.declared.Ended.the-variants as ended-as
+use Rattle.run.specs.declared.Ran.{Ran}
 use Rattle.sheet.specs.declared.RowNumber.{RowNumber}
-use Rattle.run.proofs.MachineFollows.{endingFrom, run-step}
+use Rattle.run.proofs.MachineFollows.{steps-add}
 use Rattle.run.proofs.OpenedLaws.{opened-length}
 
 module _ (A : Arithmetic) (setting : Setting A) (lines : List TableLine) where
-  -- ---- one step of a run
-
-  -- by what the step comes to
-  run-by : (n : ℕ) (now : State A) (found : Step A) → step A setting lines now ≡ found
-      → runFor A (suc n) setting lines now ≡ endingFrom A setting lines n found
-  run-by n now found is = run-step A setting lines n now ∙ ap (endingFrom A setting lines n) is
-
-  run-spent : (now : State A) → runFor A 0 setting lines now ≡ outOfFuel
-  unfolding runFor
-  run-spent now = refl
-
-  after-goes : (n : ℕ) (now next : State A) → step A setting lines now ≡ goesOn next → stateAfter A (suc n) setting lines now ≡ stateAfter A n setting lines next
-  unfolding stateAfter
-  after-goes n now next is = rw (is, stateAfter)
+  -- ---- one step more
 
   after-none : (now : State A) → stateAfter A 0 setting lines now ≡ goesOn now
   unfolding stateAfter
   after-none now = refl
 
-  -- stuck, or out of steps: a ninth open repeat there is not
-  run-blocked : (left : ℕ) (now : State A) → Shallow A setting lines now → Blocked A (step A setting lines now)
-      → (runFor A left setting lines now ≡ gotStuck) ⊎ (runFor A left setting lines now ≡ outOfFuel)
-  run-blocked zero now shallow blocked = inr (run-spent now)
-  run-blocked (suc n) now shallow blocked = by-step (step A setting lines now) refl blocked
+  after-once : (now next : State A) → step A setting lines now ≡ goesOn next → stateAfter A 1 setting lines now ≡ goesOn next
+  unfolding stateAfter
+  after-once now next is = rw (is, stateAfter)
+
+  after-one-more : (n : ℕ) (first now next : State A) → stateAfter A n setting lines first ≡ goesOn now → step A setting lines now ≡ goesOn next
+      → stateAfter A (n + 1) setting lines first ≡ goesOn next
+  after-one-more n first now next so-far is =
+      steps-add A setting lines n 1 first
+      ∙ ap (λ (s : Step A). ifItGoesOn A s (λ then. stateAfter A 1 setting lines then)) so-far
+      ∙ after-once now next is
+
+  -- a ninth open repeat there is not
+  blocked-sticks : (n : ℕ) (first now : State A) → Shallow A setting lines first → stateAfter A n setting lines first ≡ goesOn now
+      → Blocked A (step A setting lines now)
+      → step A setting lines now ≡ sticks
+  blocked-sticks n first now shallow so-far blocked = by-step (step A setting lines now) refl blocked
     where
-      by-step : (found : Step A) → step A setting lines now ≡ found → Blocked A found
-          → (runFor A (suc n) setting lines now ≡ gotStuck) ⊎ (runFor A (suc n) setting lines now ≡ outOfFuel)
+      by-step : (found : Step A) → step A setting lines now ≡ found → Blocked A found → step A setting lines now ≡ sticks
       by-step (goesOn next) is deep =
-          let bound = shallow 1 next (after-goes 0 now next is ∙ after-none next) in
+          let bound = shallow (n + 1) next (after-one-more n first now next so-far is) in
           absurd (omega arith)
       by-step (ended memory) is blocked = absurd blocked
       by-step (stops row origin why) is blocked = absurd blocked
-      by-step sticks is blocked = inl (run-by n now sticks is)
+      by-step sticks is blocked = is
 
 module _ (A : Arithmetic) where
   memory-rebuilt : (m : Memory A) (store values : List (A .Carrier)) (turns : List ℕ) (copied : List (A .Carrier))
@@ -75,6 +74,10 @@ module _ (A : Arithmetic) where
   sizes-kept roles seeds store copied store′ copied′ s c sizes =
       let fits = sizes .storeFits in
       record { seedsFit = sizes .seedsFit; storeFits = rw s fits; copiedFits = c ∙ sizes .copiedFits }
+
+-- a store of the same length has the same variables
+pub still-indexed : {table : List ℕ} {rows n n′ k : ℕ} → n′ ≡ n → Indexed table rows n k → Indexed table rows n′ k
+still-indexed same indexed = rw same indexed
 
 -- a row leaves every buffer as long as it was
 pub record SameLengths {A : Arithmetic} (before after : Cells A) : Type 0 where
@@ -115,30 +118,19 @@ module _ {A : Arithmetic} (task : Task A) where
   Block place before bodies toCome turnsAfter bodiesAfter toComeAfter answer =
       BlockRow A (task .table) (task .rows) (task .beyond) place (before .store) (before .turns) bodies toCome turnsAfter bodiesAfter toComeAfter answer
 
-  abbrev Ends : (first after : Cells A) → Ended → Type 0
-  Ends first after how =
-      RunsRows A (task .table) (task .rows) (task .beyond) (task .roles) (task .constants) (task .seeds) (task .steps) first after how
+  abbrev Left : (first after : Cells A) → (bodies toCome : List ℕ) → Ran → Type 0
+  Left first after bodies toCome answer =
+      RunsRows A (task .table) (task .rows) (task .beyond) (task .roles) (task .constants) (task .seeds) (task .steps) first after bodies toCome answer
 
-  abbrev runFrom : Setting A → List TableLine → Memory A → Ending A
-  runFrom setting lines start = runFor A (task .steps) setting lines (record { at = 0; repeats = []; memory = start })
-
-  -- the run from this place on is the rest of the whole run
-  pub record Running (setting : Setting A) (lines : List TableLine) (start : Memory A) (place : Place) (cells : Cells A) (bodies toCome : List ℕ)
-      : Type 0 where
-    pub held : List (A .Carrier)
-    pub repeats : List Repeat
-    pub opened : Opened (place .depth) bodies toCome repeats
-    pub same : runFor A (place .left) setting lines (stateAt A place repeats cells held) ≡ runFrom setting lines start
-    pub shallow : Shallow A setting lines (stateAt A place repeats cells held)
-    pub sound : Sound A setting (buffersAt A place cells held)
-    pub copies : (held ≡ start .copied) ⊎ (held ≡ cells .copied)
+  abbrev Running : (first : Cells A) → Setting A → List TableLine → Memory A → Place → Cells A → (bodies toCome : List ℕ) → Type 0
+  Running first setting lines start place cells bodies toCome = AfterSteps A setting lines start (task .steps) first place cells bodies toCome
 
   -- under every setting, lines and start that the runner may have been handed with its first buffers
   pub record Invariant (first : Cells A) (place : Place) (cells : Cells A) (bodies toCome : List ℕ) : Type 0 where
     pub lengths : SameLengths first cells
     pub running : (setting : Setting A) (lines : List TableLine) (start : Memory A)
         → HandedOver first setting lines start
-        → Running setting lines start place cells bodies toCome
+        → Running first setting lines start place cells bodies toCome
 
   -- The inner loop: what held where it began holds on. It can't see the run's first buffers, so it speaks of any.
   pub record Inner (began : Place) (cellsThen : Cells A) (place : Place) (cells : Cells A) (bodies toCome : List ℕ) : Type 0 where
@@ -156,16 +148,15 @@ module _ {A : Arithmetic} (task : Task A) where
         lengths = record { store = refl; values = refl; turns = refl; copied = refl };
         running = λ setting lines start handed.
             let whole = memory-rebuilt A start (first .store) [] [] (start .copied) (handed .store) (handed .values) (handed .turns) refl in
-            let state : stateAt A (firstPlace (task .steps)) [] first (start .copied) ≡ record { at = 0; repeats = []; memory = start } =
-            ap (λ (m : Memory A). record { at = 0; repeats = []; memory = m }) whole in
             record {
-              held = start .copied;
+              taken = 0;
+              spent = omega arith;
               repeats = [];
+              held = start .copied;
+              is = after-none A setting lines (firstState A start) ∙ ap (λ (m : Memory A). goesOn (firstState A m)) (sym whole);
               opened = record { roomOfBodies = roomOfBodies; roomOfTurns = roomOfTurns; nested = tt };
-              same = ap (λ (s : State A). runFor A (task .steps) setting lines s) state;
-              shallow = subst (λ (s : State A). Shallow A setting lines s) (sym state) (handed .shallow);
               sound = handed .sound;
-              copies = inl refl;
+              copies = inl (refl, refl);
             };
       })
 
@@ -177,86 +168,83 @@ module _ {A : Arithmetic} (task : Task A) where
         still = λ first now. now;
       }
 
-  module _ (setting : Setting A) (lines : List TableLine) (start : Memory A) (place : Place) (cells : Cells A) (bodies toCome : List ℕ)
-      (now : Running setting lines start place cells bodies toCome) where
+  module _ (first : Cells A) (setting : Setting A) (lines : List TableLine) (start : Memory A) (place : Place) (cells : Cells A) (bodies toCome : List ℕ)
+      (now : Running first setting lines start place cells bodies toCome) where
     abbrev state : State A
     state = stateAt A place (now .repeats) cells (now .held)
 
-    copies-on : (held : List (A .Carrier)) (after : Cells A) → CopiesOn A (now .held) cells held after → (held ≡ start .copied) ⊎ (held ≡ after .copied)
+    copies-on : (held : List (A .Carrier)) (after : Cells A) → CopiesOn A (now .held) cells held after → CopiesOn A (start .copied) first held after
     copies-on held after (inr is) = inr is
     copies-on held after (inl (is, kept)) = by-copies (now .copies)
       where
-        by-copies : (now .held ≡ start .copied) ⊎ (now .held ≡ cells .copied) → (held ≡ start .copied) ⊎ (held ≡ after .copied)
-        by-copies (inl first) = inl (is ∙ first)
+        by-copies : CopiesOn A (start .copied) first (now .held) cells → CopiesOn A (start .copied) first held after
+        by-copies (inl (none, as-first)) = inl (is ∙ none, kept ∙ as-first)
         by-copies (inr copied) = inr (is ∙ copied ∙ sym kept)
 
     running-goes : (next : Place) (repeats : List Repeat) (held : List (A .Carrier)) (after : Cells A) (bodiesAfter toComeAfter : List ℕ)
         → GoesTo A setting place next repeats after held (step A setting lines state)
         → Opened (next .depth) bodiesAfter toComeAfter repeats
         → CopiesOn A (now .held) cells held after
-        → Running setting lines start next after bodiesAfter toComeAfter
+        → Running first setting lines start next after bodiesAfter toComeAfter
     running-goes next repeats held after bodiesAfter toComeAfter goes opened copies =
-        let then = stateAt A next repeats after held in
         record {
-          held = held;
+          taken = now .taken + 1;
+          spent = omega (arith, now .spent, goes .fewer);
           repeats = repeats;
+          held = held;
+          is = after-one-more A setting lines (now .taken) (firstState A start) state (stateAt A next repeats after held) (now .is) (goes .is);
           opened = opened;
-          same =
-              sym (run-by A setting lines (next .left) state (goesOn then) (goes .is))
-              ∙ ap (λ (n : ℕ). runFor A n setting lines state) (sym (goes .fewer))
-              ∙ now .same;
-          shallow = λ n s is. now .shallow (suc n) s (after-goes A setting lines n state then (goes .is) ∙ is);
           sound = goes .sound;
           copies = copies-on held after copies;
         }
 
-    running-stuck : (place .left ≡ 0) ⊎ Blocked A (step A setting lines state)
-        → (runFrom setting lines start ≡ gotStuck) ⊎ (runFrom setting lines start ≡ outOfFuel)
-    running-stuck (inl spent) =
-        inr (sym (now .same) ∙ ap (λ (n : ℕ). runFor A n setting lines state) spent ∙ run-spent A setting lines state)
-    running-stuck (inr blocked) = by-ending (run-blocked A setting lines (place .left) state (now .shallow) blocked)
-      where
-        by-ending : (runFor A (place .left) setting lines state ≡ gotStuck) ⊎ (runFor A (place .left) setting lines state ≡ outOfFuel)
-            → (runFrom setting lines start ≡ gotStuck) ⊎ (runFrom setting lines start ≡ outOfFuel)
-        by-ending (inl is) = inl (sym (now .same) ∙ is)
-        by-ending (inr is) = inr (sym (now .same) ∙ is)
+    -- ---- where the run is left, the row at hand has changed nothing
 
-    -- the run as its next step and the rest
-    one-more : 0 < place .left → (n : ℕ) × (place .left ≡ suc n)
-    one-more some-left = by-left (place .left) refl
-      where
-        by-left : (left : ℕ) → place .left ≡ left → (n : ℕ) × (place .left ≡ suc n)
-        by-left zero is = absurd (omega arith)
-        by-left (suc n) is = (n, is)
+    module _ (held : List (A .Carrier)) (after : Cells A) (bodiesAfter toComeAfter : List ℕ) (stays : Stays A place cells after (now .held) held)
+        (opened : Opened (place .depth) bodiesAfter toComeAfter (now .repeats))
+        (copies : CopiesOn A (now .held) cells held after) where
+      abbrev state-of : Buffers A → State A
+      state-of b = record { at = place .at; repeats = now .repeats; memory = memoryOf A b }
 
-    running-stops : 0 < place .left → StopsAt A (place .at) (step A setting lines state) → StoppedAt A (place .at) (runFrom setting lines start)
-    running-stops some-left stop =
-        let left = one-more some-left in
-        record {
-          origin = stop .origin;
-          why = stop .why;
-          is =
-              sym (now .same)
-              ∙ ap (λ (n : ℕ). runFor A n setting lines state) (left .1)
-              ∙ run-by A setting lines (left .0) state _ (stop .is);
-        }
+      abbrev running-stays : Running first setting lines start place after bodiesAfter toComeAfter
+      running-stays =
+          record {
+            taken = now .taken;
+            spent = now .spent;
+            repeats = now .repeats;
+            held = held;
+            is = now .is ∙ ap (λ (b : Buffers A). goesOn (state-of b)) (sym stays);
+            opened = opened;
+            sound = subst (λ (b : Buffers A). Sound A setting b) (sym stays) (now .sound);
+            copies = copies-on held after copies;
+          }
 
-    running-ends : (after : Cells A) → 0 < place .left
-        → step A setting lines state ≡ ended (memoryOf A (buffersAt A place after (now .held)))
-        → after .copied ≡ cells .copied
-        → Finishes A start after (runFrom setting lines start)
-    running-ends after some-left is kept =
-        let left = one-more some-left in
-        record {
-          height = place .values;
-          turnHeight = place .turns;
-          held = now .held;
-          is =
-              sym (now .same)
-              ∙ ap (λ (n : ℕ). runFor A n setting lines state) (left .1)
-              ∙ run-by A setting lines (left .0) state _ is;
-          copies = copies-on (now .held) after (inl (refl, kept));
-        }
+      found-again : step A setting lines (state-of (buffersAt A place after held)) ≡ step A setting lines state
+      found-again = ap (λ (b : Buffers A). step A setting lines (state-of b)) stays
+
+      leaves-by : (how : Ended)
+          → LeavesBy A place (memoryOf A (buffersAt A place after held)) (step A setting lines (state-of (buffersAt A place after held))) how
+          → Leaves A setting lines start (task .steps) first after bodiesAfter toComeAfter (leftAt place how)
+      leaves-by how why = record { stands = running-stays; why = why }
+
+      running-stops : (row : RowNumber) → row .0 ≡ place .at → 0 < place .left → StopsAt A (place .at) (step A setting lines state)
+          → Leaves A setting lines start (task .steps) first after bodiesAfter toComeAfter (leftAt place (ended-as.Stopped row))
+      running-stops row at some-left stop =
+          leaves-by (ended-as.Stopped row)
+          (some-left, at, record { origin = stop .origin; why = stop .why; is = found-again ∙ stop .is })
+
+      running-sticks : Shallow A setting lines (firstState A start) → 0 < place .left → Blocked A (step A setting lines state)
+          → Leaves A setting lines start (task .steps) first after bodiesAfter toComeAfter (leftAt place ended-as.Stuck)
+      running-sticks shallow some-left blocked =
+          leaves-by ended-as.Stuck
+          (some-left, found-again ∙ blocked-sticks A setting lines (now .taken) (firstState A start) state shallow (now .is) blocked)
+
+      running-spent : place .left ≡ 0 → Leaves A setting lines start (task .steps) first after bodiesAfter toComeAfter (leftAt place ended-as.Unfinished)
+      running-spent spent = leaves-by ended-as.Unfinished spent
+
+      running-ends : 0 < place .left → step A setting lines state ≡ ended (memoryOf A (buffersAt A place after held))
+          → Leaves A setting lines start (task .steps) first after bodiesAfter toComeAfter (leftAt place ended-as.Finished)
+      running-ends some-left is = leaves-by ended-as.Finished (some-left, found-again ∙ is)
 
   -- ---- the inner loop's row
 
@@ -279,7 +267,7 @@ module _ {A : Arithmetic} (task : Task A) where
           running = λ setting lines start handed.
               let here = now .running setting lines start handed in
               let steps-on = stepped setting lines start handed (acted.On next) straight in
-              running-goes setting lines start place cells bodies toCome here next (here .repeats) (steps-on .held) after bodies toCome (steps-on .says .1)
+              running-goes first setting lines start place cells bodies toCome here next (here .repeats) (steps-on .held) after bodies toCome (steps-on .says .1)
               (rw (steps-on .says .0) (here .opened))
               (steps-on .copies);
         }
@@ -289,17 +277,18 @@ module _ {A : Arithmetic} (task : Task A) where
     module _ (straight : Straight place cells after acted.Block) where
       module _ (setting : Setting A) (lines : List TableLine) (start : Memory A)
           (handed : HandedOver first setting lines start) where
-        rested : Running setting lines start place after bodies toCome
+        rested : Running first setting lines start place after bodies toCome
         rested =
-            subst (λ (x : Cells A). Running setting lines start place x bodies toCome) (sym (stepped setting lines start handed acted.Block straight .says .1))
+            subst (λ (x : Cells A). Running first setting lines start place x bodies toCome) (sym (stepped setting lines start handed acted.Block straight .says .1))
             (now .running setting lines start handed)
 
         crossed-says : (turnsAfter bodiesAfter toComeAfter : List ℕ) (answer : Crossed)
             → Block place after bodies toCome turnsAfter bodiesAfter toComeAfter answer
-            → CrossedSays A setting place bodiesAfter toComeAfter (cellsOf A (after .store) (after .values) turnsAfter (after .copied)) (rested .held)
+            → CrossedSays A setting place (rested .repeats) bodiesAfter toComeAfter after
+            (cellsOf A (after .store) (after .values) turnsAfter (after .copied)) (rested .held)
             (step A setting lines (stateAt A place (rested .repeats) after (rested .held))) answer
         crossed-says turnsAfter bodiesAfter toComeAfter answer block =
-            let few = rested .shallow 0 _ (after-none A setting lines (stateAt A place (rested .repeats) after (rested .held))) in
+            let few = handed .shallow (rested .taken) _ (rested .is) in
             let deep = opened-length (place .depth) bodies toCome (rested .repeats) (rested .opened) in
             block .steps setting lines (rested .repeats) (after .values) (after .copied) (rested .held) (handed .holds) (handed .rows) (handed .jumps)
             (stepped setting lines start handed acted.Block straight .says .0)
@@ -321,20 +310,30 @@ module _ {A : Arithmetic} (task : Task A) where
               running = λ setting lines start handed.
                   let says = crossed-says setting lines start handed turnsAfter bodiesAfter toComeAfter (crossed.On next) block in
                   let here = rested setting lines start handed in
-                  running-goes setting lines start place after bodies toCome here next (says .repeats) (here .held) left-over bodiesAfter toComeAfter (says .goes)
+                  running-goes first setting lines start place after bodies toCome here next (says .repeats) (here .held) left-over bodiesAfter toComeAfter (says .goes)
                   (says .opened)
                   (inl (refl, refl));
             }
 
-        block-out : (how : Ended) → Block place after bodies toCome turnsAfter bodiesAfter toComeAfter (crossed.Out how) → Ends first left-over how
+        block-out : (how : Ended) → Block place after bodies toCome turnsAfter bodiesAfter toComeAfter (crossed.Out how)
+            → Left first left-over bodiesAfter toComeAfter (leftAt place how)
         block-out ended-as.Finished block setting lines start handed =
-            let says = crossed-says setting lines start handed turnsAfter bodiesAfter toComeAfter (crossed.Out ended-as.Finished) block in
-            running-ends setting lines start place after bodies toCome (rested setting lines start handed) left-over (says .0) (says .1) refl
+            let (some-left, is, rests) = crossed-says setting lines start handed turnsAfter bodiesAfter toComeAfter (crossed.Out ended-as.Finished) block in
+            let here = rested setting lines start handed in
+            running-ends first setting lines start place after bodies toCome here (here .held) left-over bodiesAfter toComeAfter (rests .stays) (rests .opened)
+            (inl (refl, refl)) some-left is
         block-out (ended-as.Stopped row) block setting lines start handed =
             absurd (crossed-says setting lines start handed turnsAfter bodiesAfter toComeAfter (crossed.Out (ended-as.Stopped row)) block)
         block-out ended-as.Stuck block setting lines start handed =
-            running-stuck setting lines start place after bodies toCome (rested setting lines start handed)
-            (crossed-says setting lines start handed turnsAfter bodiesAfter toComeAfter (crossed.Out ended-as.Stuck) block)
+            let (some-left, blocked, rests) = crossed-says setting lines start handed turnsAfter bodiesAfter toComeAfter (crossed.Out ended-as.Stuck) block in
+            let here = rested setting lines start handed in
+            running-sticks first setting lines start place after bodies toCome here (here .held) left-over bodiesAfter toComeAfter (rests .stays) (rests .opened)
+            (inl (refl, refl)) (handed .shallow) some-left blocked
+        block-out ended-as.Unfinished block setting lines start handed =
+            let (spent, rests) = crossed-says setting lines start handed turnsAfter bodiesAfter toComeAfter (crossed.Out ended-as.Unfinished) block in
+            let here = rested setting lines start handed in
+            running-spent first setting lines start place after bodies toCome here (here .held) left-over bodiesAfter toComeAfter (rests .stays) (rests .opened)
+            (inl (refl, refl)) spent
 
   -- ---- what each answer of the code comes to, at the place where the inner loop is
 
@@ -354,17 +353,36 @@ module _ {A : Arithmetic} (task : Task A) where
         }
 
     module _ {first : Cells A} (run : Invariant first began cellsThen bodies toCome) where
-      pub straight-stops : answer ≡ acted.Stopped → (row : RowNumber) → row .0 ≡ place .at → Ends first after (ended-as.Stopped row)
-      straight-stops is row at setting lines start handed =
+      pub straight-stops : {ran : Ran} {row : RowNumber} → answer ≡ acted.Stopped → row .0 ≡ place .at → ran ≡ leftAt place (ended-as.Stopped row)
+          → Left first after bodies toCome ran
+      straight-stops {row = row} is at answered setting lines start handed =
           let now = inner .still first run in
-          let says = stepped now setting lines start handed acted.Stopped (rw is at straight) .says in
-          rw at (running-stops setting lines start place cells bodies toCome (now .running setting lines start handed) (says .0) (says .1))
+          let here = now .running setting lines start handed in
+          let stepping = stepped now setting lines start handed acted.Stopped (rw is at straight) in
+          let (some-left, stop, stays) = stepping .says in
+          rw answered
+          (running-stops first setting lines start place cells bodies toCome here (stepping .held) after bodies toCome stays (here .opened)
+          (stepping .copies) row at some-left stop)
 
-      pub straight-sticks : answer ≡ acted.Stuck → Ends first after ended-as.Stuck
-      straight-sticks is setting lines start handed =
+      pub straight-sticks : {ran : Ran} → answer ≡ acted.Stuck → ran ≡ leftAt place ended-as.Stuck → Left first after bodies toCome ran
+      straight-sticks is answered setting lines start handed =
           let now = inner .still first run in
-          running-stuck setting lines start place cells bodies toCome (now .running setting lines start handed)
-          (stepped now setting lines start handed acted.Stuck (rw is at straight) .says)
+          let here = now .running setting lines start handed in
+          let stepping = stepped now setting lines start handed acted.Stuck (rw is at straight) in
+          let (some-left, blocked, stays) = stepping .says in
+          rw answered
+          (running-sticks first setting lines start place cells bodies toCome here (stepping .held) after bodies toCome stays (here .opened)
+          (stepping .copies) (handed .shallow) some-left blocked)
+
+      pub straight-spent : {ran : Ran} → answer ≡ acted.Spent → ran ≡ leftAt place ended-as.Unfinished → Left first after bodies toCome ran
+      straight-spent is answered setting lines start handed =
+          let now = inner .still first run in
+          let here = now .running setting lines start handed in
+          let stepping = stepped now setting lines start handed acted.Spent (rw is at straight) in
+          let (spent, stays) = stepping .says in
+          rw answered
+          (running-spent first setting lines start place cells bodies toCome here (stepping .held) after bodies toCome stays (here .opened)
+          (stepping .copies) spent)
 
       module _ {turnsAfter bodiesAfter toComeAfter : List ℕ} {crossing : Crossed}
           (block : Block place after bodies toCome turnsAfter bodiesAfter toComeAfter crossing) where
@@ -377,7 +395,8 @@ module _ {A : Arithmetic} (task : Task A) where
         block-goes {next} none is kept =
             block-on (inner .still first run) (rw none at straight) turnsAfter bodiesAfter toComeAfter next (rw is at block) kept
 
-        pub block-ends : {how : Ended} → answer ≡ acted.Block → crossing ≡ crossed.Out how
-            → Ends first (cellsOf A (after .store) (after .values) turnsAfter (after .copied)) how
-        block-ends {how} none is =
-            block-out (inner .still first run) (rw none at straight) turnsAfter bodiesAfter toComeAfter how (rw is at block)
+        pub block-ends : {ran : Ran} {how : Ended} → answer ≡ acted.Block → crossing ≡ crossed.Out how → ran ≡ leftAt place how
+            → Left first (cellsOf A (after .store) (after .values) turnsAfter (after .copied)) bodiesAfter toComeAfter ran
+        block-ends {how = how} none is answered =
+            subst (λ (r : Ran). Left first (cellsOf A (after .store) (after .values) turnsAfter (after .copied)) bodiesAfter toComeAfter r) (sym answered)
+            (block-out (inner .still first run) (rw none at straight) turnsAfter bodiesAfter toComeAfter how (rw is at block))

@@ -15,16 +15,19 @@ use Rattle.sheet.specs.declared.Shape.{Shape}
 use Rattle.sheet.proofs.RowsCounted.{lines-counted}
 use Rattle.sheet.proofs.ReadingParts.{accepted}
 use Rattle.sheet.proofs.NamesPresent.{counts, count-judged}
-use Rattle.table.specs.TableRows.{linesOf, tableVariables}
+use Rattle.table.specs.TableRows.{linesOf, tableVariables, tableWords}
 use Rattle.table.specs.Adjoint.{tableOf}
 use Rattle.table.specs.Sizes.{tableRows}
+use Rattle.table.specs.Calls.{overwritten}
 use Rattle.table.specs.declared.Plan.{Plan}
 use Rattle.table.proofs.PlanLaws.{planned-few}
-use Rattle.run.specs.inner.Runnable.{Holds}
+use Rattle.run.specs.inner.Runnable.{Holds, Indexed}
+use Rattle.run.specs.declared.Rooms.{Rooms}
 use Rattle.run.specs.inner.JumpsFound.{JumpsOf}
 use Rattle.run.specs.inner.CallSteps.{HasRoom}
 use Rattle.run.specs.inner.CallAnswers.{Written, SheetRoom, Ready, RunRoom}
 use Rattle.run.proofs.TableHeld.{table-holds}
+use Rattle.run.proofs.TableNames.{table-indexed}
 
 -- the first of so many zeros are zeros
 take-zeros : {X : Type 0} (n m : ℕ) (zero : X) → n ≤ m → take n (replicate m zero) ≡ replicate n zero
@@ -111,6 +114,32 @@ module _ (words : List ℕ) (plan : Plan) where
         resultFits = room .resultFits ∙ ap (λ n. 2 * n) (sym roles);
       }
 
+  -- every variable and constant that the table's straight rows name is in these places, and among the sheet's constants
+  pub part-indexed : (A : Arithmetic) {starts seeds result : List (A .Carrier)} {table : List ℕ} → SheetRoom words plan starts seeds result
+      → Indexed table (plan .rows) (tableVariables (shape .variables)) (shape .constants)
+      → Indexed table (plan .rows) (length (take (tableVariables (shape .variables)) (replicate (tableVariables (limit .variables)) (A .zero))))
+      (length constantsPart)
+  part-indexed A room indexed =
+      let few = room .few in
+      let within = room .within in
+      let first = shape .«first_constant» in
+      let many = tableVariables (limit .variables) in
+      let store =
+      length-take-le (tableVariables (shape .variables)) (replicate many (A .zero)) (omega (arith, length-replicate many (A .zero))) in
+      let part : first + shape .constants - first ≡ shape .constants = omega arith in
+      let constants : length constantsPart ≡ shape .constants =
+      ap (λ n. length (take n (drop first words))) part
+      ∙ length-take-le (shape .constants) (drop first words) (omega (arith, length-drop first words, room .first)) in
+      rw (store, constants) indexed
+
+  pub written-indexed : {table : List ℕ} {sheet : Sheet} {buffer : List ℕ} → Written words plan table sheet buffer
+      → Indexed table (plan .rows) (tableVariables (shape .variables)) (shape .constants)
+  unfolding tableRows linesOf tableOf shapeOf
+  written-indexed {table} {sheet} {buffer} written =
+      let holds : Holds table (linesOf (tableOf sheet)) = rw (written .written) (table-holds (tableOf sheet) buffer) in
+      let counted : length (linesOf (tableOf sheet)) ≡ plan .rows = lines-counted (tableOf sheet) ∙ sym (written .rows) in
+      rw (sym counted, written .shape) (table-indexed words sheet (written .accepted) table holds)
+
   pub ready-to-run : {table beyond : List ℕ} {sheet : Sheet} {buffer : List ℕ} → Written words plan table sheet buffer
       → JumpsOf table (plan .rows) beyond → Ready sheet rolesPart constantsPart table (plan .rows) beyond
   unfolding tableRows linesOf tableOf
@@ -131,3 +160,18 @@ module _ (words : List ℕ) (plan : Plan) where
         counted = lines-counted (tableOf sheet) ∙ counted;
         jumps = found (tableOf sheet) counted holds;
       }
+
+-- of a planned sheet whose table has been written over a buffer
+pub room-indexed : {words : List ℕ} {rooms : Rooms} {marks came goes : List ℕ} {plan : Plan} {table : List ℕ} (buffer : List ℕ)
+    → HasRoom words rooms marks came goes plan
+    → ((sheet : Sheet) → read words ≡ given sheet → table ≡ overwritten (tableWords (tableOf sheet)) buffer)
+    → Indexed table (plan .rows) (tableVariables (plan .shape .variables)) (plan .shape .constants)
+room-indexed {words} {plan = plan} buffer room writes =
+    let made = room .made in
+    written-indexed words plan
+    (record {
+      accepted = made .accepted;
+      shape = made .planned .shape;
+      rows = made .planned .rows;
+      written = writes (made .sheet) (made .accepted);
+    })

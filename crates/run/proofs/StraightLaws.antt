@@ -1,13 +1,14 @@
 -- A straight row's code as one step of the machine: what is read at a place, and then over the arithmetic.
 use Prim.Native.Nat.{ℕ, zero, suc, _+_, _*_, _≤_, _<_}
 use mathlib.Core.Path.{_≡_, refl, sym, ap, _∙_, subst}
-use mathlib.Core.Bool.{Bool, true, false}
-use mathlib.Core.Logic.{inl, inr}
+use mathlib.Core.Bool.{Bool}
+use mathlib.Core.Logic.{_⊎_, inl, inr}
 use mathlib.Core.List.{List, [], _∷_}
-use mathlib.Core.Option.{Option, none, some}
+use mathlib.Core.Option.{none, some}
 use native.Mathlib.Omega.{arith}
 use native.Mathlib.Numerals.{add-one}
 use lib.ListN.{length, drop, drop-of-length-le}
+use lib.Dec.{eqb}
 use lib.Ieee.{Float}
 use Rattle.number.specs.Arithmetic.{Arithmetic}
 use Rattle.number.specs.Doubles.{doubles}
@@ -16,25 +17,16 @@ use Rattle.sheet.specs.Bounds.{limit}
 use Rattle.sheet.specs.Tree.{basic}
 use Rattle.sheet.specs.Rows.{Source, _≔_, Row, rowOf}
 use Rattle.sheet.specs.Reading.{rowAt}
-use Rattle.sheet.specs.Answers.{rowSaid}
-use Rattle.sheet.specs.declared.RowWords.{RowWords}
-use Rattle.sheet.specs.declared.Variable.{Variable}
 use Rattle.table.specs.TableRows.{Action, assign, save, takeBack, saveTurn, clear, turnRound, TableLine, TableRow, rowOfAction, tableRowOf}
 use Rattle.run.specs.Attempts.{Attempt, through, halted, stuck}
-use Rattle.run.specs.Actions.{Setting, Try, acted}
+use Rattle.run.specs.Actions.{Setting, Try, evaluated, acted}
 use Rattle.run.specs.inner.RowAnswers.{whetherWent, whetherDid, whetherMoved, heightAfter}
 use Rattle.run.specs.Machine.{Repeat, Step, step, stepAt, afterAction, goTo}
-use Rattle.run.specs.inner.Buffers.{memoryOf, Sound, Does, Assigns, MovesValues, SavesTurn, Clears, RoundSizes, TurnsRound}
-use Rattle.run.specs.inner.RowWords.{assignmentOf, actionOf, sourceSaid, actionSaid, EvaluatesSaid}
-use Rattle.run.specs.inner.Runnable.{Holds}
-use Rattle.run.specs.inner.RowSteps.{buffersAt, stateAt, raised, following, actedBy, wentTo, didTo, valuesTo, turnsTo, isOfBlock, NoneStraight, ActedLeft, CopiesOn, FindsNone, FindsRow, Finds, Acts, ActsBy, ActedSays, Blocked, StraightRow}
-use Rattle.run.specs.inner.RunsRows.{Cells, cellsOf, Suits}
+use Rattle.run.specs.inner.Buffers.{Buffers, Cells, cellsOf, memoryOf, Sound, Does, Assigns, MovesValues, SavesTurn, Clears, RoundSizes, TurnsRound}
+use Rattle.run.specs.inner.RowWords.{actionOf}
+use Rattle.run.specs.inner.Runnable.{Holds, Suits}
+use Rattle.run.specs.inner.RowSteps.{buffersAt, stateAt, raised, following, actedBy, wentTo, didTo, valuesTo, turnsTo, NoneStraight, ActedLeft, CopiesOn, Acts, ActsBy, ActedSays, Stays, Blocked, StepsStraight, StraightRow}
 use Rattle.run.specs.declared.Place.{Place}
-use Rattle.run.specs.declared.RightSide.{RightSide}
-use Rattle.run.specs.declared.Straight.{Straight}
-use Rattle.run.specs.declared.Straight.the-variants as straight
-use Rattle.run.specs.declared.Found.{Found}
-use Rattle.run.specs.declared.Found.the-variants as found-as
 use Rattle.run.specs.declared.Went.{Went}
 use Rattle.run.specs.declared.Went.the-variants as went-as
 use Rattle.run.specs.declared.Did.{Did}
@@ -43,7 +35,8 @@ use Rattle.run.specs.declared.Moved.{Moved}
 use Rattle.run.specs.declared.Moved.the-variants as moved
 use Rattle.run.specs.declared.Acted.{Acted}
 use Rattle.run.specs.declared.Acted.the-variants as acted-as
-use Rattle.run.proofs.LineLaws.{action-said, straight-kind, straight-line, true-apart}
+use Rattle.run.proofs.RowsPinned.{halted-apart, stuck-apart}
+use Rattle.run.proofs.LineLaws.{action-said, straight-or-not, says-save, says-take-back, says-save-turn, says-clear, says-turn-round}
 
 -- ---- the line that stands at a row
 
@@ -58,6 +51,9 @@ stands-there (line ∷ lines) zero h = record { line = line; rest = lines; is = 
 stands-there (line ∷ lines) (suc at) h =
     let later = stands-there lines at (omega arith) in
     record { line = later .line; rest = later .rest; is = later .is }
+
+heads : (line other : TableLine) (rest more : List TableLine) → line ∷ rest ≡ other ∷ more → line ≡ other
+heads line other rest more is = cc
 
 none-beyond : (lines : List TableLine) (at : ℕ) → length lines ≤ at → NoneStraight at lines
 none-beyond lines at h row rest is =
@@ -74,42 +70,6 @@ words-there table lines rest line at row holds said is =
     let same : 1 + 4 * at ≡ 1 + at * 4 = omega arith in
     sym (holds .held at line rest is) ∙ ap (rowAt table) same ∙ sym said
 
--- ---- what the code reads at a place
-
-module _ {table : List ℕ} {rows : ℕ} {place : Place} where
-  pub finds-over : rows ≤ place .at → FindsNone table rows place
-  finds-over over = record { none = λ lines holds count. none-beyond lines (place .at) (rw count over) }
-
-  module _ {row : Row} (said : row ≡ rowAt table (1 + place .at * limit .rowWords)) where
-    pub finds-block : isOfBlock (row .kind) ≡ true → FindsNone table rows place
-    unfolding tableRowOf rowOf
-    finds-block block =
-        record {
-          none = λ lines holds count line rest is.
-              let words = words-there table lines rest (basic line) (place .at) row holds said is in
-              true-apart (sym block ∙ ap (λ (r : Row). isOfBlock (r .kind)) (sym words) ∙ straight-kind (line .action));
-        }
-
-    pub finds-row : {next : Place} {left : ℕ} → isOfBlock (row .kind) ≡ false → place .at < rows → place .left ≡ suc left
-        → next ≡ following place (place .at + 1) left
-        → FindsRow table rows place row next
-    unfolding tableRowOf rowOf
-    finds-row {left = left} straight within spends follows =
-        record {
-          follows = record { left = left; is = follows; spends = spends };
-          stands = λ lines holds count.
-              let there = stands-there lines (place .at) (rw count within) in
-              let words = words-there table lines (there .rest) (there .line) (place .at) row holds said (there .is) in
-              let is-basic = straight-line (there .line) (ap (λ (r : Row). isOfBlock (r .kind)) words ∙ straight) in
-              let same : rowOfAction (is-basic .0 .action) ≡ row = sym (ap tableRowOf (is-basic .1)) ∙ words in
-              record {
-                row = is-basic .0;
-                rest = there .rest;
-                is = there .is ∙ ap (λ (l : TableLine). l ∷ there .rest) (is-basic .1);
-                said = ap actionOf (sym same) ∙ action-said (is-basic .0 .action);
-              };
-        }
-
 -- ---- the answers, as attempts that lead to a place
 
 acted-left : {Why : Type 0} (went : Attempt Why (Unit {0})) (next : Place) → ActedLeft (suc (next .left)) (actedBy went next)
@@ -120,7 +80,6 @@ acted-left stuck next = tt
 did-answers : (w : Did) (next : Place) → didTo w next ≡ actedBy (whetherDid w) (raised next (next .values) (next .turns))
 did-answers did-as.On next = refl
 did-answers did-as.Stopped next = refl
-did-answers did-as.Stuck next = refl
 
 module _ (Why : Type 0) where
   went-answers : (w : Went) (next : Place) → wentTo w next ≡ actedBy (whetherWent {Why = Why} w) (raised next (next .values) (next .turns))
@@ -140,8 +99,8 @@ module _ (Why : Type 0) where
 module _ {A : Arithmetic} where
   -- ---- what a straight row does, by the contract of its code
 
-  module _ {what : Straight} {roles constants : List ℕ} {seeds : List (A .Carrier)} {next : Place} {answer : Acted} where
-    acts-as : {before after : Cells A} (action : Action) (went : Try A (Unit {0})) (height turnHeight : ℕ) → actionSaid what ≡ some action
+  module _ {row : Row} {roles constants : List ℕ} {seeds : List (A .Carrier)} {next : Place} {answer : Acted} where
+    acts-as : {before after : Cells A} (action : Action) (went : Try A (Unit {0})) (height turnHeight : ℕ) → actionOf row ≡ some action
         → answer ≡ actedBy went (raised next height turnHeight)
         → ((setting : Setting A) (former : List (A .Carrier)) → Suits A roles constants seeds setting
         → RoundSizes A roles seeds (before .store) (before .copied)
@@ -149,7 +108,7 @@ module _ {A : Arithmetic} where
         → (held : List (A .Carrier))
         × Does A setting action (buffersAt A next before former) (buffersAt A (raised next height turnHeight) after held) went
         × CopiesOn A former before held after)
-        → ActsBy A what roles constants seeds next before after answer
+        → ActsBy A row roles constants seeds next before after answer
     acts-as {before} {after} action went height turnHeight said answers does =
         record {
           left = rw answers (acted-left went (raised next height turnHeight));
@@ -167,78 +126,84 @@ module _ {A : Arithmetic} where
                 does = done .1;
                 copies = done .2;
               });
+          other = λ told.
+              let nothing : some action ≡ none = sym said ∙ told in
+              let z : _≡_ {A = ℕ} 0 1 = cc in
+              absurd (omega arith);
         }
 
+    -- words of no straight row
+    pub none-acts : {cells : Cells A} → actionOf row ≡ none → answer ≡ acted-as.Block → ActsBy A row roles constants seeds next cells cells answer
+    none-acts said answers =
+        rw answers
+        (record {
+          left = tt;
+          acts = λ setting action former told suits sizes sound.
+              let nothing : none ≡ some action = sym said ∙ told in
+              let z : _≡_ {A = ℕ} 0 1 = cc in
+              absurd (omega arith);
+          other = λ told. (refl, refl);
+        })
+
     module _ {store values : List (A .Carrier)} {turns : List ℕ} {copied : List (A .Carrier)} where
-      values-move : {action : Action} {m : Moved} {storeAfter valuesAfter : List (A .Carrier)} → actionSaid what ≡ some action
+      values-move : {action : Action} {m : Moved} {storeAfter valuesAfter : List (A .Carrier)} → actionOf row ≡ some action
           → answer ≡ valuesTo m next
           → MovesValues A action store values (next .values) storeAfter valuesAfter m
-          → ActsBy A what roles constants seeds next (cellsOf A store values turns copied) (cellsOf A storeAfter valuesAfter turns copied) answer
+          → ActsBy A row roles constants seeds next (cellsOf A store values turns copied) (cellsOf A storeAfter valuesAfter turns copied) answer
       values-move {action} {m} said answers moves =
           acts-as action (whetherMoved m) (heightAfter m (next .values)) (next .turns) said (answers ∙ values-answer (A .Why) m next)
           (λ setting former suits sizes sound. (former, moves .does setting turns (next .turns) former sound, inl (refl, refl)))
 
-      pub saved : {d : Variable} {m : Moved} {valuesAfter : List (A .Carrier)} → what ≡ straight.Save d → answer ≡ valuesTo m next
-          → MovesValues A (save (d .0)) store values (next .values) store valuesAfter m
-          → ActsBy A what roles constants seeds next (cellsOf A store values turns copied) (cellsOf A store valuesAfter turns copied) answer
-      saved said answers moves = values-move (ap actionSaid said) answers moves
+      pub saved : {m : Moved} {valuesAfter : List (A .Carrier)} → row .kind ≡ 12 → answer ≡ valuesTo m next
+          → MovesValues A (save (row .d)) store values (next .values) store valuesAfter m
+          → ActsBy A row roles constants seeds next (cellsOf A store values turns copied) (cellsOf A store valuesAfter turns copied) answer
+      saved kind answers moves = values-move (says-save row kind) answers moves
 
-      pub taken-back : {d : Variable} {m : Moved} {storeAfter valuesAfter : List (A .Carrier)} → what ≡ straight.TakeBack d → answer ≡ valuesTo m next
-          → MovesValues A (takeBack (d .0)) store values (next .values) storeAfter valuesAfter m
-          → ActsBy A what roles constants seeds next (cellsOf A store values turns copied) (cellsOf A storeAfter valuesAfter turns copied) answer
-      taken-back said answers moves = values-move (ap actionSaid said) answers moves
+      pub taken-back : {m : Moved} {storeAfter valuesAfter : List (A .Carrier)} → row .kind ≡ 13 → answer ≡ valuesTo m next
+          → MovesValues A (takeBack (row .d)) store values (next .values) storeAfter valuesAfter m
+          → ActsBy A row roles constants seeds next (cellsOf A store values turns copied) (cellsOf A storeAfter valuesAfter turns copied) answer
+      taken-back kind answers moves = values-move (says-take-back row kind) answers moves
 
-      pub turn-saved : {first : Bool} {m : Moved} {turnsAfter : List ℕ} → what ≡ straight.SaveTurn first → answer ≡ turnsTo m next
+      pub turn-saved : {first : Bool} {m : Moved} {turnsAfter : List ℕ} → row .kind ≡ 14 → first ≡ eqb (row .a) 1 → answer ≡ turnsTo m next
           → SavesTurn A first turns (next .turns) turnsAfter m
-          → ActsBy A what roles constants seeds next (cellsOf A store values turns copied) (cellsOf A store values turnsAfter copied) answer
-      turn-saved {first} {m} said answers saves =
-          acts-as (saveTurn first) (whetherMoved m) (next .values) (heightAfter m (next .turns)) (ap actionSaid said) (answers ∙ turns-answer (A .Why) m next)
+          → ActsBy A row roles constants seeds next (cellsOf A store values turns copied) (cellsOf A store values turnsAfter copied) answer
+      turn-saved {first} {m} kind is answers saves =
+          acts-as (saveTurn first) (whetherMoved m) (next .values) (heightAfter m (next .turns))
+          (says-save-turn row kind ∙ ap (λ (b : Bool). some (saveTurn b)) (sym is))
+          (answers ∙ turns-answer (A .Why) m next)
           (λ setting former suits sizes sound. (former, saves .does setting store values (next .values) former sound, inl (refl, refl)))
 
-      pub cleared : {d : Variable} {w : Went} {storeAfter : List (A .Carrier)} → what ≡ straight.Clear d → answer ≡ wentTo w next
-          → Clears A (d .0) store storeAfter w
-          → ActsBy A what roles constants seeds next (cellsOf A store values turns copied) (cellsOf A storeAfter values turns copied) answer
-      cleared {d} {w} said answers clears =
-          acts-as (clear (d .0)) (whetherWent w) (next .values) (next .turns) (ap actionSaid said) (answers ∙ went-answers (A .Why) w next)
+      pub cleared : {w : Went} {storeAfter : List (A .Carrier)} → row .kind ≡ 16 → answer ≡ wentTo w next
+          → Clears A (row .d) store storeAfter w
+          → ActsBy A row roles constants seeds next (cellsOf A store values turns copied) (cellsOf A storeAfter values turns copied) answer
+      cleared {w} kind answers clears =
+          acts-as (clear (row .d)) (whetherWent w) (next .values) (next .turns) (says-clear row kind) (answers ∙ went-answers (A .Why) w next)
           (λ setting former suits sizes sound. (former, clears .does setting values (next .values) turns (next .turns) former sound, inl (refl, refl)))
 
-      pub turned-round : {w : Went} {storeAfter copiedAfter : List (A .Carrier)} → what ≡ straight.TurnRound → answer ≡ wentTo w next
+      pub turned-round : {w : Went} {storeAfter copiedAfter : List (A .Carrier)} → row .kind ≡ 17 → answer ≡ wentTo w next
           → TurnsRound A roles seeds store copied storeAfter copiedAfter w
-          → ActsBy A what roles constants seeds next (cellsOf A store values turns copied) (cellsOf A storeAfter values turns copiedAfter) answer
-      turned-round {w} {storeAfter} {copiedAfter} said answers turns-it =
-          acts-as turnRound (whetherWent w) (next .values) (next .turns) (ap actionSaid said) (answers ∙ went-answers (A .Why) w next)
+          → ActsBy A row roles constants seeds next (cellsOf A store values turns copied) (cellsOf A storeAfter values turns copiedAfter) answer
+      turned-round {w} {storeAfter} {copiedAfter} kind answers turns-it =
+          acts-as turnRound (whetherWent w) (next .values) (next .turns) (says-turn-round row kind) (answers ∙ went-answers (A .Why) w next)
           (λ setting former suits sizes sound. (
             copiedAfter,
             turns-it .round sizes setting values (next .values) turns (next .turns) former (suits .variables) (suits .roles) (suits .seeds) sound,
             inr refl,
           ))
 
-      -- a row that says no right side says no action
-      assigned : {d : Variable} {source : RightSide} {got : Try A (A .Carrier)} {went : Try A (Unit {0})} {storeAfter : List (A .Carrier)}
-          → what ≡ straight.Assign d source
+      assigned : {s : Source} {got : Try A (A .Carrier)} {went : Try A (Unit {0})} {storeAfter : List (A .Carrier)}
+          → actionOf row ≡ some (assign (row .d ≔ s))
           → answer ≡ actedBy went (raised next (next .values) (next .turns))
-          → EvaluatesSaid A (sourceSaid source) constants store got
-          → Assigns A (d .0) got store storeAfter went
-          → ActsBy A what roles constants seeds next (cellsOf A store values turns copied) (cellsOf A storeAfter values turns copied) answer
-      assigned {d} {source} {got} {went} {storeAfter} said answers reads assigns = by-source (sourceSaid source) refl
-        where
-          by-source : (s : Option Source) → sourceSaid source ≡ s
-              → ActsBy A what roles constants seeds next (cellsOf A store values turns copied) (cellsOf A storeAfter values turns copied) answer
-          by-source (some s) is =
-              acts-as (assign (d .0 ≔ s)) went (next .values) (next .turns) (ap actionSaid said ∙ ap (assignmentOf (d .0)) is) answers
-              (λ setting former suits sizes sound. (
-                former,
-                assigns .does setting s (reads ∙ rw (is, suits .constants)) values (next .values) turns (next .turns) former sound,
-                inl (refl, refl),
-              ))
-          by-source none is =
-              record {
-                left = rw answers (acted-left went (raised next (next .values) (next .turns)));
-                acts = λ setting action former told suits sizes sound.
-                    let nothing : none ≡ some action = sym (ap actionSaid said ∙ ap (assignmentOf (d .0)) is) ∙ told in
-                    let z : _≡_ {A = ℕ} 0 1 = cc in
-                    absurd (omega arith);
-              }
+          → got ≡ evaluated A constants s store
+          → Assigns A (row .d) got store storeAfter went
+          → ActsBy A row roles constants seeds next (cellsOf A store values turns copied) (cellsOf A storeAfter values turns copied) answer
+      assigned {s} {got} {went} {storeAfter} said answers reads assigns =
+          acts-as (assign (row .d ≔ s)) went (next .values) (next .turns) said answers
+          (λ setting former suits sizes sound. (
+            former,
+            assigns .does setting s (reads ∙ rw (suits .constants)) values (next .values) turns (next .turns) former sound,
+            inl (refl, refl),
+          ))
 
   -- ---- the step
 
@@ -257,6 +222,22 @@ module _ {A : Arithmetic} where
         ≡ afterAction A (stateAt A place repeats before former) (row .origin) (acted A setting (row .action) (memoryOf A (buffersAt A place before former)))
     unfolding step stepAt
     there-acted = rw here
+
+    -- the buffers of a row that did not go through, at the row's own place
+    stays-there : (height turnHeight : ℕ) (held : List (A .Carrier))
+        → buffersAt A (raised next height turnHeight) after held ≡ buffersAt A next before former
+        → Stays A place before after former held
+    stays-there height turnHeight held same =
+        ap
+        (λ (b : Buffers A). record {
+          store = b .store;
+          values = b .values;
+          height = place .values;
+          turns = b .turns;
+          turnHeight = place .turns;
+          copied = b .copied;
+        })
+        same
 
     outcome-said : (went : Try A (Unit {0})) (height turnHeight : ℕ) (held : List (A .Carrier))
         → answer ≡ actedBy went (raised next height turnHeight)
@@ -282,76 +263,89 @@ module _ {A : Arithmetic} where
             why = why;
             is = there-acted ∙ ap (afterAction A (stateAt A place repeats before former) (row .origin)) (sym (does .meaning));
           },
+          stays-there height turnHeight held (does .unchanged (halted-apart why)),
         )
     outcome-said stuck height turnHeight held is does =
         let stays = there-acted ∙ ap (afterAction A (stateAt A place repeats before former) (row .origin)) (sym (does .meaning)) in
         subst (λ (r : Acted). ActedSays A setting lines place repeats before after former held step-there r) (sym is)
-        (inr (subst (λ (s : Step A). Blocked A s) (sym stays) tt))
+        (omega arith, subst (λ (s : Step A). Blocked A s) (sym stays) tt, stays-there height turnHeight held (does .unchanged stuck-apart))
 
-  module _ {table : List ℕ} {rows : ℕ} {roles constants : List ℕ} {seeds : List (A .Carrier)} {place : Place} {found : Found} where
-    pub straight-none : {cells : Cells A} → Finds table rows place found → found ≡ found-as.Block
-        → StraightRow A table rows roles constants seeds place cells cells acted-as.Block
-    straight-none finds is =
-        let none-there = rw is at finds in
+  module _ {table : List ℕ} {rows : ℕ} {roles constants : List ℕ} {seeds : List (A .Carrier)} {place : Place} where
+    pub straight-over : {cells : Cells A} → rows ≤ place .at → StraightRow A table rows roles constants seeds place cells cells acted-as.Block
+    straight-over over =
         record {
           left = tt;
           steps = λ setting lines repeats former holds count suits sizes sound.
-              record { held = former; says = (none-there .none lines holds count, refl, refl); copies = inl (refl, refl) };
+              record { held = former; says = (none-beyond lines (place .at) (rw count over), refl, refl); copies = inl (refl, refl) };
         }
 
-    pub straight-spent : {cells : Cells A} → Finds table rows place found → found ≡ found-as.Spent
-        → StraightRow A table rows roles constants seeds place cells cells acted-as.Stuck
-    straight-spent finds is =
-        let none-left = rw is at finds in
+    pub straight-spent : {cells : Cells A} → place .left ≡ 0 → StraightRow A table rows roles constants seeds place cells cells acted-as.Spent
+    straight-spent none-left =
         record {
           left = tt;
           steps = λ setting lines repeats former holds count suits sizes sound.
-              record { held = former; says = inl none-left; copies = inl (refl, refl) };
+              record { held = former; says = (none-left, refl); copies = inl (refl, refl) };
         }
 
-    pub straight-acts : {before after : Cells A} {answer : Acted} {words : RowWords} {what : Straight} {to : Place}
-        → Finds table rows place found
-        → found ≡ found-as.Row words to
-        → actionSaid what ≡ actionOf (rowSaid words)
-        → ActsBy A what roles constants seeds to before after answer
+    pub straight-acts : {before after : Cells A} {answer : Acted} {words : Row} {to : Place} {left : ℕ}
+        → place .left ≡ suc left
+        → place .at < rows
+        → words ≡ rowAt table (1 + place .at * limit .rowWords)
+        → to ≡ following place (place .at + 1) left
+        → ActsBy A words roles constants seeds to before after answer
         → StraightRow A table rows roles constants seeds place before after answer
-    straight-acts {before} {after} {answer} finds is reads acts =
-        let there = rw is at finds in
-        let left = there .follows .left in
-        let spends = there .follows .spends in
-        let does = rw (there .follows .is) at acts in
+    unfolding tableRowOf rowOf
+    straight-acts {before} {after} {answer} {words} {to} {left} spends within said follows acts =
+        let does = rw follows at acts in
         record {
           left = rw spends (does .left);
           steps = λ setting lines repeats former holds count suits sizes sound.
-              let line = there .stands lines holds count in
-              let done = does .acts setting (line .row .action) former (reads ∙ line .said) suits sizes sound in
-              record {
-                held = done .held;
-                says =
-                    outcome-said place before after answer left spends setting lines (line .rest) (line .row) repeats former (line .is) (done .went) (done .height) (done .turnHeight)
-                    (done .held)
-                    (done .answers)
-                    (done .does);
-                copies = done .copies;
-              };
+              let there = stands-there lines (place .at) (rw count within) in
+              let told = words-there table lines (there .rest) (there .line) (place .at) words holds said (there .is) in
+              by-line setting lines (there .rest) (there .line) repeats former does suits sizes sound (there .is) told (straight-or-not (there .line));
         }
+      where
+        by-line : (setting : Setting A) (lines rest : List TableLine) (line : TableLine) (repeats : List Repeat) (former : List (A .Carrier))
+            → ActsBy A words roles constants seeds (following place (place .at + 1) left) before after answer
+            → Suits A roles constants seeds setting
+            → RoundSizes A roles seeds (before .store) (before .copied)
+            → Sound A setting (buffersAt A place before former)
+            → drop (place .at) lines ≡ line ∷ rest
+            → tableRowOf line ≡ words
+            → ((row : TableRow) × (line ≡ basic row)) ⊎ ((actionOf (tableRowOf line) ≡ none) × ((row : TableRow) → line ≡ basic row → ⊥))
+            → StepsStraight A setting lines place repeats before after former answer
+        by-line setting lines rest line repeats former does suits sizes sound here told (inl (row, is)) =
+            let same : rowOfAction (row .action) ≡ words = sym (ap tableRowOf is) ∙ told in
+            let done = does .acts setting (row .action) former (ap actionOf (sym same) ∙ action-said (row .action)) suits sizes sound in
+            record {
+              held = done .held;
+              says =
+                  outcome-said place before after answer left spends setting lines rest row repeats former
+                  (here ∙ ap (λ (l : TableLine). l ∷ rest) is) (done .went) (done .height) (done .turnHeight) (done .held) (done .answers) (done .does);
+              copies = done .copies;
+            }
+        by-line setting lines rest line repeats former does suits sizes sound here told (inr (nothing, apart)) =
+            let rested = does .other (ap actionOf (sym told) ∙ nothing) in
+            let none-straight : NoneStraight (place .at) lines =
+            λ row more there. apart row (heads line (basic row) rest more (sym here ∙ there)) in
+            rw (rested .0, rested .1) (record { held = former; says = (none-straight, refl, refl); copies = inl (refl, refl) })
 
 -- ---- an assignment by what its code answers in each arithmetic
 
-pub assigned-double : {what : Straight} {roles constants : List ℕ} {seeds store values copied storeAfter : List Float} {turns : List ℕ} {next : Place}
-    {answer : Acted} {d : Variable} {source : RightSide} {got : Try doubles Float} (w : Did)
-    → what ≡ straight.Assign d source
-    → answer ≡ didTo w next
-    → EvaluatesSaid doubles (sourceSaid source) constants store got
-    → Assigns doubles (d .0) got store storeAfter (whetherDid w)
-    → ActsBy doubles what roles constants seeds next (cellsOf doubles store values turns copied) (cellsOf doubles storeAfter values turns copied) answer
-assigned-double {next = next} w said answers reads assigns = assigned said (answers ∙ did-answers w next) reads assigns
+module _ {row : Row} {roles constants : List ℕ} {seeds store values copied storeAfter : List Float} {turns : List ℕ} {next : Place} {answer : Acted}
+    {got : Try doubles Float} (w : Did) {s : Source} where
+  pub assigned-double : actionOf row ≡ some (assign (row .d ≔ s))
+      → answer ≡ didTo w next
+      → got ≡ evaluated doubles constants s store
+      → Assigns doubles (row .d) got store storeAfter (whetherDid w)
+      → ActsBy doubles row roles constants seeds next (cellsOf doubles store values turns copied) (cellsOf doubles storeAfter values turns copied) answer
+  assigned-double said answers reads assigns = assigned said (answers ∙ did-answers w next) reads assigns
 
-pub assigned-residue : {what : Straight} {roles constants seeds store values copied storeAfter turns : List ℕ} {next : Place} {answer : Acted}
-    {d : Variable} {source : RightSide} {got : Try residues ℕ} (w : Went)
-    → what ≡ straight.Assign d source
-    → answer ≡ wentTo w next
-    → EvaluatesSaid residues (sourceSaid source) constants store got
-    → Assigns residues (d .0) got store storeAfter (whetherWent w)
-    → ActsBy residues what roles constants seeds next (cellsOf residues store values turns copied) (cellsOf residues storeAfter values turns copied) answer
-assigned-residue {next = next} w said answers reads assigns = assigned said (answers ∙ went-answers (residues .Why) w next) reads assigns
+module _ {row : Row} {roles constants seeds store values copied storeAfter turns : List ℕ} {next : Place} {answer : Acted} {got : Try residues ℕ} (w : Went)
+    {s : Source} where
+  pub assigned-residue : actionOf row ≡ some (assign (row .d ≔ s))
+      → answer ≡ wentTo w next
+      → got ≡ evaluated residues constants s store
+      → Assigns residues (row .d) got store storeAfter (whetherWent w)
+      → ActsBy residues row roles constants seeds next (cellsOf residues store values turns copied) (cellsOf residues storeAfter values turns copied) answer
+  assigned-residue said answers reads assigns = assigned said (answers ∙ went-answers (residues .Why) w next) reads assigns

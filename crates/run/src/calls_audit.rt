@@ -2,9 +2,12 @@
 ghost use mathlib.Core.Path.{_≡_};
 ghost use mathlib.Core.List.{List};
 ghost use Prim.Native.Nat.{ℕ};
+ghost use lib.ListN.{length};
 ghost use Rattle.number.specs.Residues.{residues};
 ghost use Rattle.sheet.specs.Reading.{Sheet};
+ghost use Rattle.table.specs.TableRows.{tableVariables};
 ghost use Rattle.run.specs.Calls.{run, lentOf, ranOf};
+ghost use Rattle.run.specs.inner.Runnable.{Indexed};
 ghost use Rattle.run.specs.inner.CallSteps.{ResultFits, resultAt};
 ghost use Rattle.run.specs.inner.CallAnswers.{StacksCleared, RunRoom, Ready, SheetRoom, Written, RanTo};
 use super::Ended;
@@ -14,6 +17,7 @@ use super::buffers;
 use super::jumps;
 use super::refusals;
 use super::residues;
+use sheet::MAX_DEPTH;
 use sheet::MAX_ROWS;
 use sheet::MAX_VARIABLES;
 use table::Answer;
@@ -37,6 +41,7 @@ fn write_result(end: Ended, roles: &[u16], copied: &[u32], store: &[u32], result
         Ended::Finished => buffers::write_residues(roles, copied, store, result),
         Ended::Stopped(_) => {}
         Ended::Stuck => {}
+        Ended::Unfinished => {}
     }
 }
 
@@ -55,7 +60,7 @@ fn run_in(
     copied: &mut [u32],
     result: &mut [u32],
 ) -> Answer
-    requires { ⌜ RunRoom residues (now roles) (now starts) (now seeds) (now store) (now copied) (now result) ⌝ }
+    requires { ⌜ Indexed (now table) rows (length (now store)) (length (now constants)) ⌝ ∗ ⌜ RunRoom residues (now roles) (now starts) (now seeds) (now store) (now copied) (now result) ⌝ }
     ensures { λ r. ⌜ ((sheet : Sheet) (buffer : List ℕ)
         → Ready sheet (now (roles .entry)) (now (constants .entry)) (now (table .entry)) rows (now (beyond .entry))
         → RanTo residues sheet buffer (now (starts .entry)) (now (seeds .entry)) (now (values .entry)) (now (turns .entry)) (now (result .entry))
@@ -63,7 +68,9 @@ fn run_in(
 {
     buffers::copy_residues(starts, store);
     clear_stacks(values, turns);
-    let end = residues::run_rows(
+    let mut bodies = [0usize; MAX_DEPTH];
+    let mut to_come = [0u16; MAX_DEPTH];
+    let ran = residues::run_rows(
         table,
         rows,
         beyond,
@@ -74,8 +81,11 @@ fn run_in(
         values,
         turns,
         copied,
+        &mut bodies,
+        &mut to_come,
         buffers::STEPS,
     );
+    let end = ran.ended;
     clear_stacks(values, turns);
     write_result(end, roles, copied, store, result);
     refusals::answer_end(end)
@@ -92,7 +102,7 @@ fn run_written(
     seeds: &[u32],
     result: &mut [u32],
 ) -> Answer
-    requires { ⌜ SheetRoom (now words) plan (now starts) (now seeds) (now result) ⌝ }
+    requires { ⌜ Indexed (now table) (plan .rows) (tableVariables (plan .shape .variables)) (plan .shape .constants) ⌝ ∗ ⌜ SheetRoom (now words) plan (now starts) (now seeds) (now result) ⌝ }
     ensures { λ r. ⌜ ((sheet : Sheet) (buffer : List ℕ) → Written (now (words .entry)) plan (now (table .entry)) sheet buffer
         → RanTo residues sheet buffer (now (starts .entry)) (now (seeds .entry)) (now (values .entry)) (now (turns .entry)) (now (result .entry))
         r (now (values .exit)) (now (turns .exit)) (now (result .exit))) ⌝ }

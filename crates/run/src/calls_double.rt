@@ -2,9 +2,12 @@
 ghost use mathlib.Core.Path.{_≡_};
 ghost use mathlib.Core.List.{List};
 ghost use Prim.Native.Nat.{ℕ};
+ghost use lib.ListN.{length};
 ghost use Rattle.number.specs.Doubles.{doubles};
 ghost use Rattle.sheet.specs.Reading.{Sheet};
+ghost use Rattle.table.specs.TableRows.{tableVariables};
 ghost use Rattle.run.specs.Calls.{run, lentOf, ranOf};
+ghost use Rattle.run.specs.inner.Runnable.{Indexed};
 ghost use Rattle.run.specs.inner.CallSteps.{ResultFits, resultAt};
 ghost use Rattle.run.specs.inner.CallAnswers.{StacksCleared, RunRoom, Ready, SheetRoom, Written, RanTo};
 use super::Ended;
@@ -15,6 +18,7 @@ use super::buffers;
 use super::doubles;
 use super::jumps;
 use super::refusals;
+use sheet::MAX_DEPTH;
 use sheet::MAX_ROWS;
 use sheet::MAX_VARIABLES;
 use table::Answer;
@@ -38,6 +42,7 @@ fn write_result(end: Ended, roles: &[u16], copied: &[f64], store: &[f64], result
         Ended::Finished => buffers::write_doubles(roles, copied, store, result),
         Ended::Stopped(_) => {}
         Ended::Stuck => {}
+        Ended::Unfinished => {}
     }
 }
 
@@ -56,7 +61,7 @@ fn run_in(
     copied: &mut [f64],
     result: &mut [f64],
 ) -> Answer
-    requires { ⌜ RunRoom doubles (now roles) (now starts) (now seeds) (now store) (now copied) (now result) ⌝ }
+    requires { ⌜ Indexed (now table) rows (length (now store)) (length (now constants)) ⌝ ∗ ⌜ RunRoom doubles (now roles) (now starts) (now seeds) (now store) (now copied) (now result) ⌝ }
     ensures { λ r. ⌜ ((sheet : Sheet) (buffer : List ℕ)
         → Ready sheet (now (roles .entry)) (now (constants .entry)) (now (table .entry)) rows (now (beyond .entry))
         → RanTo doubles sheet buffer (now (starts .entry)) (now (seeds .entry)) (now (values .entry)) (now (turns .entry)) (now (result .entry))
@@ -64,7 +69,9 @@ fn run_in(
 {
     buffers::copy_doubles(starts, store);
     clear_stacks(values, turns);
-    let end = doubles::run_rows(
+    let mut bodies = [0usize; MAX_DEPTH];
+    let mut to_come = [0u16; MAX_DEPTH];
+    let ran = doubles::run_rows(
         table,
         rows,
         beyond,
@@ -75,8 +82,11 @@ fn run_in(
         values,
         turns,
         copied,
+        &mut bodies,
+        &mut to_come,
         buffers::STEPS,
     );
+    let end = ran.ended;
     clear_stacks(values, turns);
     write_result(end, roles, copied, store, result);
     refusals::answer_end(end)
@@ -93,7 +103,7 @@ fn run_written(
     seeds: &[f64],
     result: &mut [f64],
 ) -> Answer
-    requires { ⌜ SheetRoom (now words) plan (now starts) (now seeds) (now result) ⌝ }
+    requires { ⌜ Indexed (now table) (plan .rows) (tableVariables (plan .shape .variables)) (plan .shape .constants) ⌝ ∗ ⌜ SheetRoom (now words) plan (now starts) (now seeds) (now result) ⌝ }
     ensures { λ r. ⌜ ((sheet : Sheet) (buffer : List ℕ) → Written (now (words .entry)) plan (now (table .entry)) sheet buffer
         → RanTo doubles sheet buffer (now (starts .entry)) (now (seeds .entry)) (now (values .entry)) (now (turns .entry)) (now (result .entry))
         r (now (values .exit)) (now (turns .exit)) (now (result .exit))) ⌝ }

@@ -54,40 +54,7 @@ enum Judged {
     HasRoom(Plan),
 }
 
-// What an assignment's row reads. `None` stands for words of no assignment.
-enum RightSide {
-    Copy(Variable),
-    Constant(usize),
-    Sum(Variable, Variable),
-    Difference(Variable, Variable),
-    Product(Variable, Variable),
-    Negation(Variable),
-    None,
-}
-
-// What a straight row does.
-enum Straight {
-    Save(Variable),
-    TakeBack(Variable),
-    SaveTurn(bool),
-    Clear(Variable),
-    TurnRound,
-    Assign(Variable, RightSide),
-}
-
-// A right side in residues, which nothing stops.
-enum ResidueRead {
-    Is(u32),
-    Stuck,
-}
-
-enum DoubleRead {
-    Is(f64),
-    Stopped,
-    Stuck,
-}
-
-// Both operands of a row, where the variables have them.
+// Both operands of a comparison, where the variables have them.
 enum ResiduePair {
     Are(u32, u32),
     Missing,
@@ -108,7 +75,6 @@ enum Went {
 enum Did {
     On,
     Stopped,
-    Stuck,
 }
 
 // What a row comes to that moves a stack: its new height.
@@ -140,13 +106,6 @@ struct Place {
     pub left: usize,
 }
 
-// What the inner loop finds at a place: a straight row's words with the place after it, the row of a block or none, or no step left for a straight row.
-enum Found {
-    Row(RowWords, Place),
-    Block,
-    Spent,
-}
-
 // What the outer loop meets at a place: the run's end, a comparison, or another row, each row with the place after it.
 enum Met {
     Out(Ended),
@@ -154,12 +113,13 @@ enum Met {
     Other(RowWords, Place),
 }
 
-// What a straight row comes to: the place after it. `Block` is the answer where no straight row stands.
+// What a straight row comes to: the place after it. `Block` is the answer where no straight row stands, `Spent` where no step is left for it.
 enum Acted {
     On(Place),
     Block,
     Stopped,
     Stuck,
+    Spent,
 }
 
 // What a row of a block comes to: the place after it, or the end of the run.
@@ -168,9 +128,16 @@ enum Crossed {
     Out(Ended),
 }
 
-// What a run comes to. Stuck stands for a stuck machine and for one that is out of steps.
+// Why a run is left: at its end, at a row whose result isn't finite, where the machine is stuck, or because the steps have run out.
 enum Ended {
     Finished,
     Stopped(RowNumber),
     Stuck,
+    Unfinished,
+}
+
+// Where a run is left, and why.
+struct Ran {
+    pub place: Place,
+    pub ended: Ended,
 }

@@ -1,12 +1,13 @@
 // Places, which no other module builds, and the place that a straight row leads to, from what its code answered.
 ghost use mathlib.Core.Path.{_≡_};
-ghost use Rattle.run.specs.inner.RowSteps.{wentTo, didTo, valuesTo, turnsTo, firstPlace, following, moved, within, raised, isOfBlock};
+ghost use Rattle.run.specs.inner.RowSteps.{wentTo, didTo, valuesTo, turnsTo, firstPlace, leftAt, following, moved, within, raised};
 use super::Acted;
 use super::Did;
+use super::Ended;
 use super::Moved;
 use super::Place;
+use super::Ran;
 use super::Went;
-use sheet::kinds;
 
 pub fn went_to(went: Went, next: Place) -> Acted
     ensures { λ r. ⌜ r ≡ wentTo went next ⌝ }
@@ -23,7 +24,6 @@ pub fn did_to(did: Did, next: Place) -> Acted
     match did {
         Did::On => Acted::On(next),
         Did::Stopped => Acted::Stopped,
-        Did::Stuck => Acted::Stuck,
     }
 }
 
@@ -58,6 +58,13 @@ pub fn first_place(steps: usize) -> Place
         turns: 0,
         left: steps,
     }
+}
+
+// The end of a run at a place.
+pub fn left_at(place: Place, ended: Ended) -> Ran
+    ensures { λ r. ⌜ r ≡ leftAt place ended ⌝ }
+{
+    Ran { place, ended }
 }
 
 pub fn following(place: Place, at: usize, left: usize) -> Place
@@ -103,13 +110,4 @@ pub fn raised(place: Place, values: usize, turns: usize) -> Place
         turns,
         left: place.left,
     }
-}
-
-// Kinds 7 to 11 and 15.
-pub fn is_of_block(kind: u16) -> bool
-    ensures { λ r. ⌜ r ≡ isOfBlock kind ⌝ }
-{
-    let branches = (kind == kinds::IF) | (kind == kinds::ELSE) | (kind == kinds::END_IF);
-    let turns = (kind == kinds::REPEAT) | (kind == kinds::END_REPEAT);
-    branches | turns | (kind == table::kinds::ON_TURN)
 }

@@ -183,5 +183,9 @@ pub fn answer_end(end: Ended) -> Answer
             number: STUCK,
             place: 0,
         },
+        Ended::Unfinished => Answer {
+            number: STUCK,
+            place: 0,
+        },
     }
 }

@@ -1,68 +1,160 @@
 // Single rows of the row machine in residues.
 ghost use mathlib.Core.Bool.{cond};
 ghost use mathlib.Core.Path.{_≡_};
+ghost use Prim.Native.Nat.{_<_, _≤_};
+ghost use lib.ListN.{length};
+ghost use Rattle.sheet.specs.Bounds.{limit};
+ghost use Rattle.sheet.specs.Answers.{rowSaid};
 ghost use Rattle.number.specs.Residues.{residues};
 ghost use Rattle.sheet.specs.Rows.{copy, sum, difference, product, negation, isDependent};
 ghost use Rattle.table.specs.TableRows.{save, takeBack};
-ghost use Rattle.run.specs.inner.RowAnswers.{readResidue, pairOfResidues, whetherWent};
-ghost use Rattle.run.specs.inner.Buffers.{Operands, Evaluates, EvaluatesFixed, Assigns, Clears, MovesValues, Compares, TurnsRound};
-ghost use Rattle.run.specs.inner.RowWords.{sourceSaid, EvaluatesSaid};
+ghost use Rattle.run.specs.inner.RowAnswers.{pairOfResidues, whetherWent};
+ghost use Rattle.run.specs.inner.Buffers.{cellsOf, Operands, Evaluates, EvaluatesFixed, Assigns, Clears, MovesValues, Compares, TurnsRound};
+ghost use Rattle.run.specs.inner.Runnable.{placeOfRow, Indexed};
+ghost use Rattle.run.specs.inner.RowWords.{actionOf, Named};
+ghost use Rattle.run.specs.Attempts.{through};
 ghost use Rattle.run.specs.inner.RowSteps.{ActsBy, StraightRow, BlockRow};
-ghost use Rattle.run.specs.inner.RunsRows.{cellsOf, RunsRows};
+ghost use Rattle.run.specs.inner.RunsRows.{RunsRows};
 use super::Acted;
 use super::Branch;
 use super::Crossed;
 use super::Ended;
-use super::Found;
 use super::Met;
 use super::Moved;
 use super::Place;
+use super::Ran;
 use super::ResiduePair;
-use super::ResidueRead;
-use super::RightSide;
-use super::Straight;
 use super::Went;
 use super::blocks::branch_to;
 use super::blocks::cross;
 use super::places::first_place;
+use super::places::following;
+use super::places::left_at;
 use super::places::turns_to;
 use super::places::values_to;
 use super::places::went_to;
 use super::rows::block_at;
-use super::rows::read_straight;
-use super::rows::straight_at;
+use super::rows::row_of;
+use super::turns::is_first;
 use super::turns::save_turn;
 use number::constant;
 use number::residue;
 use sheet::MAX_DEPTH;
 use sheet::RowNumber;
+use sheet::RowWords;
 use sheet::Variable;
 use sheet::is_dependent;
+use sheet::kinds;
 
 // Kind 1.
-pub fn copied(store: &[u32], a: Variable) -> ResidueRead
-    ensures { λ r. ⌜ Evaluates residues (copy (a .0)) (now (store .entry)) (readResidue r) ⌝ }
+pub fn copy_of(store: &[u32], a: Variable) -> u32
+    requires { ⌜ a .0 < length (now store) ⌝ }
+    ensures { λ r. ⌜ Evaluates residues (copy (a .0)) (now (store .entry)) (through r) ⌝ }
 {
     let first = a.0;
-    if first < store.len() {
-        ResidueRead::Is(store[first])
-    } else {
-        ResidueRead::Stuck
-    }
+    store[first]
 }
 
 // Kind 2.
-pub fn fixed(constants: &[u16], c: usize) -> ResidueRead
-    ensures { λ r. ⌜ EvaluatesFixed residues c (now (constants .entry)) (readResidue r) ⌝ }
+pub fn fixed(constants: &[u16], c: usize) -> u32
+    requires { ⌜ c < length (now constants) ⌝ }
+    ensures { λ r. ⌜ EvaluatesFixed residues c (now (constants .entry)) (through r) ⌝ }
 {
-    if c < constants.len() {
-        ResidueRead::Is(constant::residue_of(constants[c]))
-    } else {
-        ResidueRead::Stuck
-    }
+    constant::residue_of(constants[c])
 }
 
-// Both operands of kinds 3 to 5 and 7.
+// Kind 3.
+pub fn added(store: &[u32], a: Variable, b: Variable) -> u32
+    requires { ⌜ a .0 < length (now store) ⌝ ∗ ⌜ b .0 < length (now store) ⌝ }
+    ensures { λ r. ⌜ Evaluates residues (sum (a .0) (b .0)) (now (store .entry)) (through r) ⌝ }
+{
+    let first = a.0;
+    let second = b.0;
+    residue::sum(store[first], store[second])
+}
+
+// Kind 4.
+pub fn subtracted(store: &[u32], a: Variable, b: Variable) -> u32
+    requires { ⌜ a .0 < length (now store) ⌝ ∗ ⌜ b .0 < length (now store) ⌝ }
+    ensures { λ r. ⌜ Evaluates residues (difference (a .0) (b .0)) (now (store .entry)) (through r) ⌝ }
+{
+    let first = a.0;
+    let second = b.0;
+    residue::difference(store[first], store[second])
+}
+
+// Kind 5.
+pub fn multiplied(store: &[u32], a: Variable, b: Variable) -> u32
+    requires { ⌜ a .0 < length (now store) ⌝ ∗ ⌜ b .0 < length (now store) ⌝ }
+    ensures { λ r. ⌜ Evaluates residues (product (a .0) (b .0)) (now (store .entry)) (through r) ⌝ }
+{
+    let first = a.0;
+    let second = b.0;
+    residue::product(store[first], store[second])
+}
+
+// Kind 6.
+pub fn negated(store: &[u32], a: Variable) -> u32
+    requires { ⌜ a .0 < length (now store) ⌝ }
+    ensures { λ r. ⌜ Evaluates residues (negation (a .0)) (now (store .entry)) (through r) ⌝ }
+{
+    let first = a.0;
+    residue::negation(store[first])
+}
+
+// Kinds 1 to 6, from what the right side came to.
+fn assign(store: &mut [u32], d: Variable, x: u32) -> Went
+    requires { ⌜ d .0 < length (now store) ⌝ }
+    ensures { λ r. ⌜ Assigns residues (d .0) (through x) (now (store .entry)) (now (store .exit)) (whetherWent r) ⌝ }
+{
+    let to = d.0;
+    store[to] = x;
+    Went::On
+}
+
+// Kind 16.
+pub fn clear(store: &mut [u32], d: Variable) -> Went
+    requires { ⌜ d .0 < length (now store) ⌝ }
+    ensures { λ r. ⌜ Clears residues (d .0) (now (store .entry)) (now (store .exit)) r ⌝ }
+{
+    let to = d.0;
+    store[to] = 0;
+    Went::On
+}
+
+// Kind 12.
+pub fn save(store: &[u32], d: Variable, values: &mut [u32], height: usize) -> Moved
+    requires { ⌜ d .0 < length (now store) ⌝ }
+    ensures { λ r. ⌜ MovesValues residues (save (d .0)) (now (store .entry)) (now (values .entry)) height (now (store .entry)) (now (values .exit)) r ⌝ }
+{
+    let from = d.0;
+    if values.len() <= height {
+        return Moved::Stuck;
+    }
+    values[height] = store[from];
+    Moved::To(height + 1)
+}
+
+// Kind 13. The place that is taken back is cleared, so that a stack's cells above its height are zeros always.
+pub fn take_back(store: &mut [u32], d: Variable, values: &mut [u32], height: usize) -> Moved
+    requires { ⌜ d .0 < length (now store) ⌝ }
+    ensures { λ r. ⌜ MovesValues residues (takeBack (d .0)) (now (store .entry)) (now (values .entry)) height (now (store .exit)) (now (values .exit)) r ⌝ }
+{
+    let to = d.0;
+    if height == 0 {
+        return Moved::Stuck;
+    }
+    let top = height - 1;
+    if values.len() <= top {
+        return Moved::Stuck;
+    }
+    let x = values[top];
+    store[to] = x;
+    values[top] = 0;
+    Moved::To(top)
+}
+
+// Both operands of kind 7.
 fn operands(store: &[u32], a: Variable, b: Variable) -> ResiduePair
     ensures { λ r. ⌜ Operands residues (a .0) (b .0) (now (store .entry)) (pairOfResidues r) ⌝ }
 {
@@ -75,125 +167,6 @@ fn operands(store: &[u32], a: Variable, b: Variable) -> ResiduePair
         return ResiduePair::Missing;
     }
     ResiduePair::Are(store[first], store[second])
-}
-
-// Kind 3.
-pub fn added(store: &[u32], a: Variable, b: Variable) -> ResidueRead
-    ensures { λ r. ⌜ Evaluates residues (sum (a .0) (b .0)) (now (store .entry)) (readResidue r) ⌝ }
-{
-    match operands(store, a, b) {
-        ResiduePair::Are(x, y) => ResidueRead::Is(residue::sum(x, y)),
-        ResiduePair::Missing => ResidueRead::Stuck,
-    }
-}
-
-// Kind 4.
-pub fn subtracted(store: &[u32], a: Variable, b: Variable) -> ResidueRead
-    ensures { λ r. ⌜ Evaluates residues (difference (a .0) (b .0)) (now (store .entry)) (readResidue r) ⌝ }
-{
-    match operands(store, a, b) {
-        ResiduePair::Are(x, y) => ResidueRead::Is(residue::difference(x, y)),
-        ResiduePair::Missing => ResidueRead::Stuck,
-    }
-}
-
-// Kind 5.
-pub fn multiplied(store: &[u32], a: Variable, b: Variable) -> ResidueRead
-    ensures { λ r. ⌜ Evaluates residues (product (a .0) (b .0)) (now (store .entry)) (readResidue r) ⌝ }
-{
-    match operands(store, a, b) {
-        ResiduePair::Are(x, y) => ResidueRead::Is(residue::product(x, y)),
-        ResiduePair::Missing => ResidueRead::Stuck,
-    }
-}
-
-// Kind 6.
-pub fn negated(store: &[u32], a: Variable) -> ResidueRead
-    ensures { λ r. ⌜ Evaluates residues (negation (a .0)) (now (store .entry)) (readResidue r) ⌝ }
-{
-    let first = a.0;
-    if first < store.len() {
-        ResidueRead::Is(residue::negation(store[first]))
-    } else {
-        ResidueRead::Stuck
-    }
-}
-
-pub fn evaluate(source: RightSide, constants: &[u16], store: &[u32]) -> ResidueRead
-    ensures { λ r. ⌜ EvaluatesSaid residues (sourceSaid source) (now (constants .entry)) (now (store .entry)) (readResidue r) ⌝ }
-{
-    match source {
-        RightSide::Copy(a) => copied(store, a),
-        RightSide::Constant(c) => fixed(constants, c),
-        RightSide::Sum(a, b) => added(store, a, b),
-        RightSide::Difference(a, b) => subtracted(store, a, b),
-        RightSide::Product(a, b) => multiplied(store, a, b),
-        RightSide::Negation(a) => negated(store, a),
-        RightSide::None => ResidueRead::Stuck,
-    }
-}
-
-// Kinds 1 to 6, from what the right side came to.
-fn assign(store: &mut [u32], d: Variable, read: ResidueRead) -> Went
-    ensures { λ r. ⌜ Assigns residues (d .0) (readResidue read) (now (store .entry)) (now (store .exit)) (whetherWent r) ⌝ }
-{
-    let to = d.0;
-    let ResidueRead::Is(x) = read else {
-        return Went::Stuck;
-    };
-    if store.len() <= to {
-        return Went::Stuck;
-    }
-    store[to] = x;
-    Went::On
-}
-
-// Kind 16.
-pub fn clear(store: &mut [u32], d: Variable) -> Went
-    ensures { λ r. ⌜ Clears residues (d .0) (now (store .entry)) (now (store .exit)) r ⌝ }
-{
-    let to = d.0;
-    if store.len() <= to {
-        return Went::Stuck;
-    }
-    store[to] = 0;
-    Went::On
-}
-
-// Kind 12.
-pub fn save(store: &[u32], d: Variable, values: &mut [u32], height: usize) -> Moved
-    ensures { λ r. ⌜ MovesValues residues (save (d .0)) (now (store .entry)) (now (values .entry)) height (now (store .entry)) (now (values .exit)) r ⌝ }
-{
-    let from = d.0;
-    if store.len() <= from {
-        return Moved::Stuck;
-    }
-    if values.len() <= height {
-        return Moved::Stuck;
-    }
-    values[height] = store[from];
-    Moved::To(height + 1)
-}
-
-// Kind 13. The place that is taken back is cleared, so that a stack's cells above its height are zeros always.
-pub fn take_back(store: &mut [u32], d: Variable, values: &mut [u32], height: usize) -> Moved
-    ensures { λ r. ⌜ MovesValues residues (takeBack (d .0)) (now (store .entry)) (now (values .entry)) height (now (store .exit)) (now (values .exit)) r ⌝ }
-{
-    let to = d.0;
-    if store.len() <= to {
-        return Moved::Stuck;
-    }
-    if height == 0 {
-        return Moved::Stuck;
-    }
-    let top = height - 1;
-    if values.len() <= top {
-        return Moved::Stuck;
-    }
-    let x = values[top];
-    store[to] = x;
-    values[top] = 0;
-    Moved::To(top)
 }
 
 // Kind 7.
@@ -241,9 +214,9 @@ pub fn turn_round(roles: &[u16], seeds: &[u32], store: &mut [u32], copied: &mut 
     Went::On
 }
 
-// A straight row. `next` is the place of the row after it.
+// A straight row, by one choice of its kind. `next` is the place of the row after it; `Block` is the answer to a row of another kind.
 fn act(
-    what: Straight,
+    row: RowWords,
     roles: &[u16],
     constants: &[u16],
     seeds: &[u32],
@@ -253,20 +226,30 @@ fn act(
     copied: &mut [u32],
     next: Place,
 ) -> Acted
-    ensures { λ r. ⌜ ActsBy residues what (now (roles .entry)) (now (constants .entry)) (now (seeds .entry)) next
+    requires { ⌜ Named (length (now store)) (length (now constants)) (actionOf (rowSaid row)) ⌝ }
+    ensures { λ r. ⌜ ActsBy residues (rowSaid row) (now (roles .entry)) (now (constants .entry)) (now (seeds .entry)) next
         (cellsOf residues (now (store .entry)) (now (values .entry)) (now (turns .entry)) (now (copied .entry)))
         (cellsOf residues (now (store .exit)) (now (values .exit)) (now (turns .exit)) (now (copied .exit))) r ⌝ }
 {
-    match what {
-        Straight::Save(d) => values_to(save(store, d, values, next.values), next),
-        Straight::TakeBack(d) => values_to(take_back(store, d, values, next.values), next),
-        Straight::SaveTurn(first) => turns_to(save_turn(first, turns, next.turns), next),
-        Straight::Clear(d) => went_to(clear(store, d), next),
-        Straight::TurnRound => went_to(turn_round(roles, seeds, store, copied), next),
-        Straight::Assign(d, source) => went_to(
-            assign(store, d, evaluate(source, constants, store)),
-            next,
-        ),
+    let kind = row.kind;
+    let word = row.a;
+    let c = word as usize;
+    let d = Variable(row.d as usize);
+    let a = Variable(c);
+    let b = Variable(row.b as usize);
+    match kind {
+        kinds::COPY => went_to(assign(store, d, copy_of(store, a)), next),
+        kinds::CONSTANT => went_to(assign(store, d, fixed(constants, c)), next),
+        kinds::SUM => went_to(assign(store, d, added(store, a, b)), next),
+        kinds::DIFFERENCE => went_to(assign(store, d, subtracted(store, a, b)), next),
+        kinds::PRODUCT => went_to(assign(store, d, multiplied(store, a, b)), next),
+        kinds::NEGATION => went_to(assign(store, d, negated(store, a)), next),
+        table::kinds::SAVE => values_to(save(store, d, values, next.values), next),
+        table::kinds::TAKE_BACK => values_to(take_back(store, d, values, next.values), next),
+        table::kinds::SAVE_TURN => turns_to(save_turn(is_first(word), turns, next.turns), next),
+        table::kinds::CLEAR => went_to(clear(store, d), next),
+        table::kinds::TURN_ROUND => went_to(turn_round(roles, seeds, store, copied), next),
+        _ => Acted::Block,
     }
 }
 
@@ -283,25 +266,32 @@ fn straight_row(
     copied: &mut [u32],
     place: Place,
 ) -> Acted
+    requires { ⌜ Indexed (now table) rows (length (now store)) (length (now constants)) ⌝ }
     ensures { λ r. ⌜ StraightRow residues (now (table .entry)) rows (now (roles .entry)) (now (constants .entry)) (now (seeds .entry)) place
         (cellsOf residues (now (store .entry)) (now (values .entry)) (now (turns .entry)) (now (copied .entry)))
         (cellsOf residues (now (store .exit)) (now (values .exit)) (now (turns .exit)) (now (copied .exit))) r ⌝ }
 {
-    match straight_at(table, rows, place) {
-        Found::Row(row, next) => act(
-            read_straight(row),
-            roles,
-            constants,
-            seeds,
-            store,
-            values,
-            turns,
-            copied,
-            next,
-        ),
-        Found::Block => Acted::Block,
-        Found::Spent => Acted::Stuck,
+    let left = place.left;
+    if left == 0 {
+        return Acted::Spent;
     }
+    let at = place.at;
+    if rows <= at {
+        return Acted::Block;
+    }
+    let row = row_of(table, RowNumber(at));
+    let next = following(place, at + 1, left - 1);
+    act(
+        row,
+        roles,
+        constants,
+        seeds,
+        store,
+        values,
+        turns,
+        copied,
+        next,
+    )
 }
 
 // The row of a block at a place, or the end.
@@ -315,6 +305,7 @@ fn block_row(
     to_come: &mut [u16; MAX_DEPTH],
     place: Place,
 ) -> Crossed
+    requires { ⌜ placeOfRow rows ≤ length (now table) ⌝ }
     ensures { λ r. ⌜ BlockRow residues (now (table .entry)) rows (now (beyond .entry)) place (now (store .entry))
         (now (turns .entry)) (now (bodies .entry)) (now («to_come» .entry)) (now (turns .exit)) (now (bodies .exit)) (now («to_come» .exit)) r ⌝ }
 {
@@ -326,7 +317,8 @@ fn block_row(
     }
 }
 
-// One run of a table's rows. A result that isn't finite, or a row that can't be done, leaves both loops at once.
+// A run of a table's rows, of so many steps at most. A result that isn't finite, a row that can't be done or that no step is left for leaves both
+// loops at once.
 pub fn run_rows(
     table: &[u16],
     rows: usize,
@@ -338,14 +330,16 @@ pub fn run_rows(
     values: &mut [u32],
     turns: &mut [u16],
     copied: &mut [u32],
+    bodies: &mut [usize; MAX_DEPTH],
+    to_come: &mut [u16; MAX_DEPTH],
     steps: usize,
-) -> Ended
+) -> Ran
+    requires { ⌜ Indexed (now table) rows (length (now store)) (length (now constants)) ⌝ ∗ ⌜ limit .depth ≤ length (now bodies) ⌝ ∗ ⌜ limit .depth ≤ length (now «to_come») ⌝ }
     ensures { λ r. ⌜ RunsRows residues (now (table .entry)) rows (now (beyond .entry)) (now (roles .entry)) (now (constants .entry)) (now (seeds .entry)) steps
         (cellsOf residues (now (store .entry)) (now (values .entry)) (now (turns .entry)) (now (copied .entry)))
-        (cellsOf residues (now (store .exit)) (now (values .exit)) (now (turns .exit)) (now (copied .exit))) r ⌝ }
+        (cellsOf residues (now (store .exit)) (now (values .exit)) (now (turns .exit)) (now (copied .exit)))
+        (now (bodies .exit)) (now («to_come» .exit)) r ⌝ }
 {
-    let mut bodies = [0usize; MAX_DEPTH];
-    let mut to_come = [0u16; MAX_DEPTH];
     let mut place = first_place(steps);
     'run: loop {
         loop {
@@ -363,22 +357,14 @@ pub fn run_rows(
             ) {
                 Acted::On(next) => place = next,
                 Acted::Block => break,
-                Acted::Stopped => break 'run Ended::Stopped(RowNumber(place.at)),
-                Acted::Stuck => break 'run Ended::Stuck,
+                Acted::Stopped => break 'run left_at(place, Ended::Stopped(RowNumber(place.at))),
+                Acted::Stuck => break 'run left_at(place, Ended::Stuck),
+                Acted::Spent => break 'run left_at(place, Ended::Unfinished),
             }
         }
-        match block_row(
-            table,
-            rows,
-            beyond,
-            store,
-            turns,
-            &mut bodies,
-            &mut to_come,
-            place,
-        ) {
+        match block_row(table, rows, beyond, store, turns, bodies, to_come, place) {
             Crossed::On(next) => place = next,
-            Crossed::Out(ended) => break 'run ended,
+            Crossed::Out(ended) => break 'run left_at(place, ended),
         }
     }
 }

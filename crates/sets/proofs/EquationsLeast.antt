@@ -7,7 +7,7 @@ use native.Mathlib.Omega.{arith}
 use mathlib.Core.Path.{_≡_, refl, sym, ap, subst, _∙_}
 use mathlib.Core.Bool.{Bool, true, false}
 use mathlib.Core.List.{List, [], _∷_, List·Memᴰ·head, List·Memᴰ·tail, List·Memᴰ·cases-cons}
-use mathlib.Core.Logic.{_⊎_, inl, inr}
+use mathlib.Core.Logic.{_≢_, _⊎_, inl, inr}
 use lib.ListN.{length, set, replicate, length-set, length-replicate, getD-replicate, List·getD-eq-default}
 use lib.Seq.{getD-set-same, getD-set-other}
 use lib.Dec.{eqb, eqb→eq, eqb-refl}
@@ -22,10 +22,14 @@ use Rattle.sets.proofs.VariableSetSizes.{union-below, count, count-most
 
 -- ---- one store
 
-stored : Equation → List VariableSet → List VariableSet
+pub stored : Equation → List VariableSet → List VariableSet
 stored e sets = set sets (pointOf e) (setAt sets (pointOf e) ∪ rightSide e (setAt sets))
 
-stored-length : (e : Equation) (sets : List VariableSet) → length (stored e sets) ≡ length sets
+pub stored-is : (e : Equation) (sets : List VariableSet) → stored e sets ≡ set sets (pointOf e) (setAt sets (pointOf e) ∪ rightSide e (setAt sets))
+unfolding stored
+stored-is e sets = refl
+
+pub stored-length : (e : Equation) (sets : List VariableSet) → length (stored e sets) ≡ length sets
 unfolding stored
 stored-length e sets = length-set sets (pointOf e) _
 
@@ -39,13 +43,18 @@ stored-each Q e sets l new old p = go (ℕ-discrete p (pointOf e))
     go (yes q) = subst (λ i. Q i (setAt (stored e sets) i)) (sym q) (subst (Q (pointOf e)) (sym (getD-set-same sets (pointOf e) _ empty l)) new)
     go (no q) = subst (Q p) (sym (getD-set-other sets (pointOf e) p _ empty q)) (old p)
 
-stored-grows : (e : Equation) (sets : List VariableSet) → pointOf e < length sets → Within (setAt sets) (setAt (stored e sets))
+pub stored-grows : (e : Equation) (sets : List VariableSet) → pointOf e < length sets → Within (setAt sets) (setAt (stored e sets))
 stored-grows e sets l =
     stored-each (λ p s. setAt sets p ⊆ s) e sets l (union-left (setAt sets (pointOf e)) (rightSide e (setAt sets))) (λ p i h. h)
 
-stored-has : (e : Equation) (sets : List VariableSet) → pointOf e < length sets → rightSide e (setAt sets) ⊆ setAt (stored e sets) (pointOf e)
+pub stored-has : (e : Equation) (sets : List VariableSet) → pointOf e < length sets → rightSide e (setAt sets) ⊆ setAt (stored e sets) (pointOf e)
 unfolding stored
 stored-has e sets l = rw (getD-set-same sets (pointOf e) _ empty l) (union-right (setAt sets (pointOf e)) (rightSide e (setAt sets)))
+
+-- it keeps every other set
+pub stored-other : (e : Equation) (sets : List VariableSet) (p : ℕ) → p ≢ pointOf e → setAt (stored e sets) p ≡ setAt sets p
+unfolding stored
+stored-other e sets p other = getD-set-other sets (pointOf e) p _ empty other
 
 -- ---- a round and all rounds keep what each store keeps
 
@@ -100,7 +109,7 @@ total-most v [] = zero-le
 total-most v (s ∷ sets) = omega (arith, suc-mul (length sets) v, count-most v s, total-most v sets)
 
 -- sets that only grow are the same or have more members
-total-grows : (v : ℕ) (xs ys : List VariableSet) → length xs ≡ length ys → Within (setAt xs) (setAt ys) → ((p : ℕ) → setAt xs p < 2 ^ v)
+pub total-grows : (v : ℕ) (xs ys : List VariableSet) → length xs ≡ length ys → Within (setAt xs) (setAt ys) → ((p : ℕ) → setAt xs p < 2 ^ v)
     → ((p : ℕ) → setAt ys p < 2 ^ v) → (xs ≡ ys) ⊎ (total v xs < total v ys)
 unfolding total
 total-grows v [] [] l w h k = inl refl
@@ -115,6 +124,12 @@ total-grows v (x ∷ xs) (y ∷ ys) l w h k =
     go (inl p) (inr q) = inr (omega (arith, ap (count v) p))
     go (inr p) (inl q) = inr (omega (arith, ap (total v) q))
     go (inr p) (inr q) = inr (omega arith)
+
+same-sets : (xs ys : List VariableSet) → length xs ≡ length ys → ((p : ℕ) → setAt xs p ≡ setAt ys p) → xs ≡ ys
+same-sets [] [] l h = refl
+same-sets [] (y ∷ ys) l h = absurd (omega arith)
+same-sets (x ∷ xs) [] l h = absurd (omega arith)
+same-sets (x ∷ xs) (y ∷ ys) l h = cc (h 0, same-sets xs ys (omega arith) (λ p. h (suc p)))
 
 -- ---- solutions, by membership
 
@@ -140,8 +155,16 @@ pub record Kept (v points : ℕ) (es : List Equation) (sets : List VariableSet) 
   pub below : (p : ℕ) → setAt sets p < 2 ^ v
   behind : (e : Equation) → e ∈ es → setAt sets (pointOf e) ⊆ rightSide e (setAt sets)
 
+-- every right side is there
+abbrev pub Ahead : List Equation → (ℕ → VariableSet) → Type 0
+Ahead es at = (e : Equation) → e ∈ es → rightSide e at ⊆ at (pointOf e)
+
+pub record Inside (points : ℕ) (at : ℕ → VariableSet) (sets : List VariableSet) : Type 0 where
+  pub long : length sets ≡ points
+  pub inside : Within (setAt sets) at
+
 module _ (v points : ℕ) (es : List Equation) (proper : Proper v points es) where
-  in-range : (e : Equation) → e ∈ es → (sets : List VariableSet) → length sets ≡ points → pointOf e < length sets
+  pub in-range : (e : Equation) → e ∈ es → (sets : List VariableSet) → length sets ≡ points → pointOf e < length sets
   in-range e m sets long = rw long (proper .there e m)
 
   -- a store leaves every set behind its right side: its own, since no other equation settles its point, and the others, which only grew
@@ -162,7 +185,7 @@ module _ (v points : ℕ) (es : List Equation) (proper : Proper v points es) whe
       grown : rightSide e′ (setAt sets) ⊆ rightSide e′ (setAt (stored e sets))
       grown = proper .monotone e′ m′ (setAt sets) (setAt (stored e sets)) (stored-grows e sets l)
 
-  store-keeps : (e : Equation) → e ∈ es → (sets : List VariableSet) → Kept v points es sets → Kept v points es (stored e sets)
+  pub store-keeps : (e : Equation) → e ∈ es → (sets : List VariableSet) → Kept v points es sets → Kept v points es (stored e sets)
   store-keeps e m sets kept =
       record {
         long = stored-length e sets ∙ kept .long;
@@ -247,22 +270,18 @@ module _ (v points : ℕ) (es : List Equation) (proper : Proper v points es) whe
       go true e on = rw (settled-rests n es sets e) (λ p i h. rw (sym (same-equal sets (round es sets) e)) at h)
       go false e on = rw (settled-on n es sets e) (on (more (round-adds sets kept) e))
 
-  -- ---- within every solution
+  -- ---- within all sets that have every right side
 
-  record Inside (at : ℕ → VariableSet) (sets : List VariableSet) : Type 0 where
-    long : length sets ≡ points
-    inside : Within (setAt sets) at
-
-  store-inside : (at : ℕ → VariableSet) → Satisfy es at → (e : Equation) → e ∈ es → (sets : List VariableSet) → Inside at sets
-      → Inside at (stored e sets)
-  store-inside at solves e m sets h =
+  pub store-inside : (at : ℕ → VariableSet) → Ahead es at → (e : Equation) → e ∈ es → (sets : List VariableSet) → Inside points at sets
+      → Inside points at (stored e sets)
+  store-inside at ahead e m sets h =
       record {
         long = stored-length e sets ∙ h .long;
         inside = stored-each (λ p s. s ⊆ at p) e sets (in-range e m sets (h .long)) stored-inside (h .inside);
       }
     where
       right-inside : rightSide e (setAt sets) ⊆ at (pointOf e)
-      right-inside = rw (satisfied-at es at solves e m) (proper .monotone e m (setAt sets) at (h .inside))
+      right-inside i k = ahead e m i (proper .monotone e m (setAt sets) at (h .inside) i k)
 
       stored-inside : setAt sets (pointOf e) ∪ rightSide e (setAt sets) ⊆ at (pointOf e)
       stored-inside = union-least _ _ _ (h .inside (pointOf e)) right-inside
@@ -284,26 +303,34 @@ module _ (v points : ℕ) (es : List Equation) (proper : Proper v points es) whe
         behind = λ e m. rw (none-at (pointOf e)) (empty-within _);
       }
 
-  least-kept : Kept v points es (least v points es)
+  pub least-kept : Kept v points es (least v points es)
   unfolding least
   least-kept = settled-keeps (Kept v points es) es round-kept (suc (points * v)) (replicate points empty) start-kept
 
-  least-ahead : (e : Equation) → e ∈ es → rightSide e (setAt (least v points es)) ⊆ setAt (least v points es) (pointOf e)
+  pub least-ahead : Ahead es (setAt (least v points es))
   unfolding least
   least-ahead =
       round-ahead es (λ e m. m) (least v points es) (least-kept .long)
       (settled-stops (suc (points * v)) (replicate points empty) start-kept (omega arith))
 
-  least-inside : (at : ℕ → VariableSet) → Satisfy es at → Within (setAt (least v points es)) at
+  pub none-inside : (at : ℕ → VariableSet) → Inside points at (replicate points empty)
+  none-inside at = record { long = length-replicate points empty; inside = λ p. rw (none-at p) (empty-within (at p)) }
+
+  least-inside : (at : ℕ → VariableSet) → Ahead es at → Within (setAt (least v points es)) at
   unfolding least
-  least-inside at solves =
-      settled-keeps (Inside at) es (round-keeps (Inside at) es (store-inside at solves)) (suc (points * v)) (replicate points empty)
-      (record { long = length-replicate points empty; inside = λ p. rw (none-at p) (empty-within (at p)) })
-      .inside
+  least-inside at ahead =
+      settled-keeps (Inside points at) es (round-keeps (Inside points at) es (store-inside at ahead)) (suc (points * v)) (replicate points empty)
+      (none-inside at) .inside
 
   pub equations-least : Least es (least v points es)
   equations-least =
       record {
         satisfies = satisfied es (setAt (least v points es)) (λ e m. ⊆-antisym _ _ (least-kept .behind e m) (least-ahead e m));
-        within = least-inside;
+        within = λ at solves. least-inside at (λ e m. rw (satisfied-at es at solves e m) (λ i k. k));
       }
+
+  -- sets that have every right side and lie within the least ones are these
+  pub ahead-least : (sets : List VariableSet) → Inside points (setAt (least v points es)) sets → Ahead es (setAt sets) → sets ≡ least v points es
+  ahead-least sets within ahead =
+      same-sets sets (least v points es) (within .long ∙ sym (least-kept .long))
+      (λ p. ⊆-antisym _ _ (within .inside p) (least-inside (setAt sets) ahead p))

@@ -8,17 +8,20 @@ use mathlib.Core.Bool.{Bool, true, false, cond}
 use mathlib.Core.List.{List, [], _∷_, _++_}
 use lib.ListN.{length, getD, set, take, drop, length-set}
 use lib.Dec.{eqb}
-use lib.Seq.{getD-set-same, getD-set-other, set-comm, set-set}
+use lib.Seq.{getD-set-same, getD-set-other, set-comm, set-set, set-getD}
 use Rattle.sheet.specs.Tree.{basic, ifLine, elseLine, endIf, repeat, endRepeat}
 use Rattle.sheet.specs.Rows.{SheetLine, Row, sheetRowOf}
+use Rattle.sheet.specs.inner.Kinds.{assigns, partOf, partFor}
+use Rattle.sheet.specs.declared.kinds.Part.{Part}
 use Rattle.sets.specs.VariableSets.{VariableSet}
 use Rattle.sets.specs.Equations.{setAt}
 use Rattle.sets.specs.inner.RowWords.{Gives}
 use Rattle.sets.specs.Transfers.{Activity}
-use Rattle.sets.specs.Marks.{markBy}
+use Rattle.sets.specs.Marks.{markBy, activityAt}
 use Rattle.sets.specs.MarkBytes.{weight, weightIf, byteBy, bitOf}
-use Rattle.sets.specs.inner.RowBytes.{byteAt, byteFor, written}
-use Rattle.sets.proofs.LinesByKind.{assignment-kind, ByKind, assigns, inBlock, by-kind}
+use Rattle.sets.specs.inner.RowEquations.{activeLine}
+use Rattle.sets.specs.inner.RowBytes.{byteAt, byteFor, bytesOf, written}
+use Rattle.sheet.proofs.LinesByPart.{row-part}
 
 -- ---- the marks read back
 
@@ -57,25 +60,55 @@ read-back known recorded =
 
 -- ---- by the cases that the code tells apart
 
-module _ (varied useful required : List VariableSet) (p : ℕ) (row : Row) where
-  pub no-byte : (l : SheetLine) → sheetRowOf l ≡ row → 6 < row .kind → 0 ≡ byteAt varied useful required p l
-  unfolding sheetRowOf byteAt
-  no-byte (basic b) e h = absurd (omega (arith, assignment-kind b, ap (λ row. row .kind) e))
-  no-byte (ifLine f) e h = refl
-  no-byte elseLine e h = refl
-  no-byte endIf e h = refl
-  no-byte (repeat m) e h = refl
-  no-byte endRepeat e h = refl
+module _ (varied useful required : List VariableSet) (p : ℕ) (row : Row) (part : Part) (is-part : part ≡ partFor (row .kind)) where
+  pub no-byte : (l : SheetLine) → sheetRowOf l ≡ row → assigns part ≡ false → 0 ≡ byteAt varied useful required p l
+  unfolding byteAt
+  no-byte l e h = go l (ap assigns (row-part l row e ∙ sym is-part) ∙ h)
+    where
+      go : (l : SheetLine) → assigns (partOf l) ≡ false → 0 ≡ byteAt varied useful required p l
+      go (basic b) h = let z : _≡_ {A = ℕ} 0 1 = cc in absurd (omega arith)
+      go (ifLine f) h = refl
+      go elseLine h = refl
+      go endIf h = refl
+      go (repeat m) h = refl
+      go endRepeat h = refl
 
   -- an assignment's, by the three sets that were read
-  pub some-byte : (r v u s : ℕ) (said : Row) (l : SheetLine) → sheetRowOf l ≡ row → row .kind ≤ 6 → said ≡ row → v ≡ setAt varied p
+  pub some-byte : (r v u s : ℕ) (said : Row) (l : SheetLine) → sheetRowOf l ≡ row → assigns part ≡ true → said ≡ row → v ≡ setAt varied p
       → u ≡ setAt useful (p + 1) → s ≡ setAt required p → Gives said r (byteFor v u s) → r ≡ byteAt varied useful required p l
   unfolding sheetRowOf byteAt markBy
-  some-byte r v u s said l e h is before after needed gives = go (by-kind l)
+  some-byte r v u s said l e h is before after needed gives = go l e (ap assigns (row-part l row e ∙ sym is-part) ∙ h)
     where
-      go : ByKind l → r ≡ byteAt varied useful required p l
-      go (assigns b line below) = gives b (ap sheetRowOf (sym line) ∙ e ∙ sym is) ∙ rw (line, before, after, needed, add-one p)
-      go (inBlock from upto) = absurd (omega (arith, ap (λ row. row .kind) e))
+      go : (l : SheetLine) → sheetRowOf l ≡ row → assigns (partOf l) ≡ true → r ≡ byteAt varied useful required p l
+      go (basic b) e h = gives b (e ∙ sym is) ∙ rw (before, after, needed, add-one p)
+      go (ifLine f) e h = let z : _≡_ {A = ℕ} 0 1 = cc in absurd (omega arith)
+      go elseLine e h = let z : _≡_ {A = ℕ} 0 1 = cc in absurd (omega arith)
+      go endIf e h = let z : _≡_ {A = ℕ} 0 1 = cc in absurd (omega arith)
+      go (repeat m) e h = let z : _≡_ {A = ℕ} 0 1 = cc in absurd (omega arith)
+      go endRepeat e h = let z : _≡_ {A = ℕ} 0 1 = cc in absurd (omega arith)
+
+-- ---- what a row's byte asks of the required sets, and whether it says that the row is active
+
+module _ (varied useful : List VariableSet) (p : ℕ) where
+  pub byte-same : (required required′ : List VariableSet) → setAt required p ≡ setAt required′ p → (l : SheetLine)
+      → byteAt varied useful required p l ≡ byteAt varied useful required′ p l
+  unfolding byteAt markBy
+  byte-same required required′ e (basic b) = rw e
+  byte-same required required′ e (ifLine f) = refl
+  byte-same required required′ e elseLine = refl
+  byte-same required required′ e endIf = refl
+  byte-same required required′ e (repeat m) = refl
+  byte-same required required′ e endRepeat = refl
+
+  pub byte-active : (required : List VariableSet) (l : SheetLine)
+      → bitOf (byteAt varied useful required p l) (weight .active) ≡ activeLine (setAt varied p) (setAt useful (suc p)) l
+  unfolding byteAt markBy activeLine activityAt
+  byte-active required (basic b) = read-back (activityAt varied useful p b) (markBy varied useful required p b .saved) .active
+  byte-active required (ifLine f) = refl
+  byte-active required elseLine = refl
+  byte-active required endIf = refl
+  byte-active required (repeat m) = refl
+  byte-active required endRepeat = refl
 
 -- ---- a list written from the start
 
@@ -84,31 +117,27 @@ unfolding written
 written-length f zero xs = refl
 written-length f (suc n) xs = length-set (written f n xs) n (f n) ∙ written-length f n xs
 
-pub written-next : (f : ℕ → ℕ) (n : ℕ) (xs : List ℕ) → set (written f n xs) n (f n) ≡ written f (n + 1) xs
-unfolding written
-written-next f n xs = let next : n + 1 ≡ suc n = omega arith in rw next
-
-pub written-at : (f : ℕ → ℕ) (n : ℕ) (xs : List ℕ) → n ≤ length xs → (i : ℕ) → i < n → getD (written f n xs) i 0 ≡ f i
-unfolding written
-written-at f zero xs h i l = absurd (omega arith)
-written-at f (suc n) xs h i l = go (ℕ-discrete i n) (written-at f n xs (omega arith) i)
-  where
-    go : Dec (i ≡ n) → (i < n → getD (written f n xs) i 0 ≡ f i) → getD (set (written f n xs) n (f n)) i 0 ≡ f i
-    go (yes e) more = rw e (getD-set-same (written f n xs) n (f n) 0 (omega (arith, written-length f n xs)))
-    go (no e) more = getD-set-other (written f n xs) n i (f n) 0 e ∙ more (omega arith)
-
 written-past : (f : ℕ → ℕ) (n : ℕ) (xs : List ℕ) (m v : ℕ) → n ≤ m → written f n (set xs m v) ≡ set (written f n xs) m v
 unfolding written
 written-past f zero xs m v h = refl
 written-past f (suc n) xs m v h =
     ap (λ ys. set ys n (f n)) (written-past f n xs m v (omega arith)) ∙ set-comm (written f n xs) m n v (f n) (λ e. omega arith)
 
-pub written-over : (f g : ℕ → ℕ) (n : ℕ) (xs : List ℕ) → written f n (written g n xs) ≡ written f n xs
+-- what stood in a place that is written makes no difference
+written-into : (f : ℕ → ℕ) (n : ℕ) (xs : List ℕ) (m v : ℕ) → m < n → written f n (set xs m v) ≡ written f n xs
 unfolding written
-written-over f g zero xs = refl
-written-over f g (suc n) xs =
-    ap (λ ys. set ys n (f n)) (written-past f n (written g n xs) n (g n) (omega arith)) ∙ set-set (written f n (written g n xs)) n (g n) (f n)
-    ∙ ap (λ ys. set ys n (f n)) (written-over f g n xs)
+written-into f zero xs m v h = absurd (omega arith)
+written-into f (suc n) xs m v h = go (ℕ-discrete m n) (written-into f n xs m v)
+  where
+    go : Dec (m ≡ n) → (m < n → written f n (set xs m v) ≡ written f n xs) → set (written f n (set xs m v)) n (f n) ≡ set (written f n xs) n (f n)
+    go (yes e) more = rw e (ap (λ ys. set ys n (f n)) (written-past f n xs n v (omega arith)) ∙ set-set (written f n xs) n v (f n))
+    go (no e) more = ap (λ ys. set ys n (f n)) (more (omega arith))
+
+written-self : (f : ℕ → ℕ) (n : ℕ) (xs : List ℕ) → ((i : ℕ) → i < n → getD xs i 0 ≡ f i) → written f n xs ≡ xs
+unfolding written
+written-self f zero xs h = refl
+written-self f (suc n) xs h =
+    ap (λ ys. set ys n (f n)) (written-self f n xs (λ i l. h i (omega arith))) ∙ ap (set xs n) (sym (h n (omega arith))) ∙ set-getD xs n 0
 
 pub written-same : (f g : ℕ → ℕ) (n : ℕ) (xs : List ℕ) → ((i : ℕ) → i < n → f i ≡ g i) → written f n xs ≡ written g n xs
 unfolding written
@@ -128,3 +157,35 @@ unfolding written
 written-first bs zero xs h l = refl
 written-first bs (suc n) xs h l =
     ap (λ ys. set ys n (getD bs n 0)) (written-first bs n xs (omega arith) (omega arith)) ∙ store-next n bs xs (omega arith) (omega arith)
+
+-- ---- bytes written in the order of a walk, which may go back
+
+pub record Marking (line : ℕ → SheetLine) (varied useful : List VariableSet) (n : ℕ) (before : List ℕ) (sets : List VariableSet) (marks : List ℕ) (i : ℕ) : Type 0 where
+  pub long : length marks ≡ length before
+  over : (f : ℕ → ℕ) → written f n marks ≡ written f n before
+  passed : (k : ℕ) → k < i → getD marks k 0 ≡ byteAt varied useful sets k (line k)
+
+module _ (line : ℕ → SheetLine) (varied useful : List VariableSet) (n : ℕ) (before : List ℕ) where
+  pub marking-starts : (sets : List VariableSet) → Marking line varied useful n before sets before 0
+  marking-starts sets = record { long = refl; over = λ f. refl; passed = λ k h. absurd (omega arith) }
+
+  pub marking-on : (sets next : List VariableSet) (marks : List ℕ) (i p : ℕ) (byte : ℕ) → Marking line varied useful n before sets marks i → p ≤ i → p < n
+      → n ≤ length before → byte ≡ byteAt varied useful sets p (line p) → ((k : ℕ) → k ≤ p → setAt next k ≡ setAt sets k)
+      → Marking line varied useful n before next (set marks p byte) (p + 1)
+  marking-on sets next marks i p byte m le h room is same =
+      record {
+        long = length-set marks p byte ∙ m .long;
+        over = λ f. written-into f n marks p byte h ∙ m .over f;
+        passed = λ k l. go k l (ℕ-discrete k p);
+      }
+    where
+      go : (k : ℕ) → k < p + 1 → Dec (k ≡ p) → getD (set marks p byte) k 0 ≡ byteAt varied useful next k (line k)
+      go k l (yes e) =
+          rw e (getD-set-same marks p byte 0 (omega (arith, m .long)) ∙ is ∙ sym (byte-same varied useful p next sets (same p (omega arith)) (line p)))
+      go k l (no e) =
+          getD-set-other marks p k byte 0 e ∙ m .passed k (omega arith) ∙ sym (byte-same varied useful k next sets (same k (omega arith)) (line k))
+
+  pub marking-ends : (sets : List VariableSet) (marks : List ℕ) (i : ℕ) → Marking line varied useful n before sets marks i → n ≤ i
+      → marks ≡ written (bytesOf varied useful sets line) n before
+  marking-ends sets marks i m h =
+      sym (written-self (bytesOf varied useful sets line) n marks (λ k l. m .passed k (omega arith))) ∙ m .over (bytesOf varied useful sets line)

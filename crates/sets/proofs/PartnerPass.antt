@@ -5,10 +5,15 @@ use mathlib.Core.Path.{_≡_, refl, sym, ap, _∙_}
 use mathlib.Core.List.{List}
 use lib.ListN.{length}
 use Rattle.sheet.specs.Bounds.{limit, wordValues}
-use Rattle.sheet.specs.Rows.{SheetLine, Row, sheetRowOf}
+use Rattle.sheet.specs.Answers.{rowSaid}
+use Rattle.sheet.specs.Rows.{SheetLine}
+use Rattle.sheet.specs.inner.Kinds.{partOf}
+use Rattle.sheet.specs.declared.kinds.Part.{Part}
 use Rattle.sheet.specs.Reading.{rowAt}
-use Rattle.sets.specs.inner.PartnerPass.{Found, found, FoundBy, foundAt, foundOver, PartnersFound}
-use Rattle.sets.specs.inner.RowEquations.{lineIn, Readable}
+use Rattle.sets.specs.declared.rows.Seen.{Seen}
+use Rattle.sets.specs.inner.PartnerPass.{Found, found, foundBy, foundAt, foundOver, PartnersFound}
+use Rattle.sets.specs.inner.RowEquations.{lineIn, Readable, Sees}
+use Rattle.sheet.proofs.LinesByPart.{row-part}
 
 -- what holds before a row of the pass
 pub record Finding (line : ℕ → SheetLine) (n : ℕ) (came₀ goes₀ came goes : List ℕ) (top row : ℕ) : Type 0 where
@@ -29,18 +34,19 @@ module _ (line : ℕ → SheetLine) (n : ℕ) (came₀ goes₀ : List ℕ) where
   unfolding foundOver
   found-more p m s = refl
 
-  pub finding-on : (came goes : List ℕ) (top row : ℕ) → Finding line n came₀ goes₀ came goes top row → row < n → (kind : ℕ)
-      → sheetRowOf (line row) .kind ≡ kind → (came′ goes′ : List ℕ) (top′ : ℕ)
-      → FoundBy kind row (found top came goes) (found top′ came′ goes′) × (top′ < wordValues)
+  pub finding-on : (came goes : List ℕ) (top row : ℕ) → Finding line n came₀ goes₀ came goes top row → row < n → (part : Part)
+      → part ≡ partOf (line row) → (came′ goes′ : List ℕ) (top′ : ℕ)
+      → (found top′ came′ goes′ ≡ foundBy part row (found top came goes)) × (top′ < wordValues)
       → length came′ ≡ length came → length goes′ ≡ length goes → Finding line n came₀ goes₀ came′ goes′ top′ (row + 1)
-  finding-on came goes top row f h kind is came′ goes′ top′ step cl gl =
+  unfolding foundAt
+  finding-on came goes top row f h part is came′ goes′ top′ step cl gl =
       let left : n - row ≡ suc (n - suc row) = omega arith in
       let next : row + 1 ≡ suc row = omega arith in
       let one = found-more row (n - suc row) (found top came goes) in
       record {
         within = omega arith;
         small = step .1;
-        follows = rw (next, step .0 (line row) is, sym one, sym left) (f .follows);
+        follows = rw (next, step .0, is, sym one, sym left) (f .follows);
         cameLong = cl ∙ f .cameLong;
         goesLong = gl ∙ f .goesLong;
       }
@@ -57,7 +63,9 @@ module _ (line : ℕ → SheetLine) (n : ℕ) (came₀ goes₀ : List ℕ) where
       let here : Found = found top came goes in
       (ap (λ s. s .came) (found-none row here ∙ same), ap (λ s. s .goes) (found-none row here ∙ same))
 
--- a row's kind, as the code reads it, is that of its line
-pub kind-read : (words : List ℕ) (first row : ℕ) (read : Row) → Readable words first row → read ≡ rowAt words (first + row * limit .rowWords)
-    → sheetRowOf (lineIn words first row) .kind ≡ read .kind
-kind-read words first row read r e = ap (λ x. x .kind) (r .says ∙ sym e)
+-- what a row is to the blocks, as the code reads it, is what its line is
+pub part-read : (words : List ℕ) (first row : ℕ) (seen : Seen) → Readable words first row → (seen .row .0 ≡ row) × Sees words first seen
+    → seen .form .3 ≡ partOf (lineIn words first row)
+part-read words first row seen r s =
+    let said = r .says ∙ ap (λ p. rowAt words (first + p * limit .rowWords)) (sym (s .0)) ∙ sym (s .1 .says) in
+    ap (λ form. form .3) (s .1 .formed) ∙ sym (row-part (lineIn words first row) (rowSaid (seen .line)) said)

@@ -1,24 +1,25 @@
 -- A row's right side, by the cases that the code tells apart.
-use Prim.Native.Nat.{ℕ, _+_, _≤_, _<_}
+use Prim.Native.Nat.{ℕ, suc, _+_, _*_, _≤_, _<_}
 use native.Mathlib.Omega.{arith}
 use native.Mathlib.Numerals.{add-one}
 use mathlib.Core.Path.{_≡_, refl, sym, ap, _∙_}
-use mathlib.Core.Bool.{Bool, cond}
+use mathlib.Core.Bool.{Bool, true, false, cond}
 use mathlib.Core.List.{List}
-use mathlib.Core.Logic.{_≢_}
-use lib.ListN.{getD}
 use lib.Bits.{or-comm}
 use Rattle.sheet.specs.Tree.{basic, ifLine, elseLine, endIf, repeat, endRepeat}
-use Rattle.sheet.specs.Rows.{Assignment, less, SheetLine, Row, sheetRowOf}
-use Rattle.sheet.specs.inner.RowLines.{lineOfRow}
+use Rattle.sheet.specs.Rows.{Assignment, SheetLine, Row, sheetRowOf}
+use Rattle.sheet.specs.inner.Kinds.{assigns, partOf, partFor}
+use Rattle.sheet.specs.declared.kinds.Part.{Part}
 use Rattle.sets.specs.declared.Which.{Which}
 use Rattle.sets.specs.declared.Which.the-variants.{Varied, Useful, Required}
 use Rattle.sets.specs.VariableSets.{VariableSet, _∪_}
 use Rattle.sets.specs.Equations.{setAt, rightSide, pointOf}
 use Rattle.sets.specs.inner.RowWords.{Gives}
-use Rattle.sets.specs.inner.RowEquations.{equationOf, forwardOf, backwardOf, turnOf, ownPoint, settledPoint, joinsBy}
-use Rattle.sets.specs.inner.RowEquations.{RightSide, Given, rowIn, activeIn, equationIn}
-use Rattle.sets.proofs.LinesByKind.{assignment-kind, ByKind, assigns, inBlock, by-kind, else-line}
+use Rattle.sets.specs.inner.RowEquations.{equationOf, forwardOf, backwardOf, turnOf, ownPoint, settledPoint, splits, joinsBy}
+use Rattle.sets.specs.inner.RowEquations.{RightSide, Given, equationIn, startOf}
+use Rattle.sets.specs.inner.Walks.{asksPartner}
+use Rattle.sets.proofs.Truths.{T-of, of-T, or-right}
+use Rattle.sheet.proofs.LinesByPart.{row-part}
 
 module _ (which : Which) (active : Bool) (sets : List VariableSet) (p c : ℕ) where
   abbrev sideOf : SheetLine → VariableSet
@@ -44,15 +45,15 @@ else-side Useful active sets p c = rw (add-one c)
 else-side Required active sets p c = refl
 
 -- the other rows of blocks
-block-side : (which : Which) (active : Bool) (sets : List VariableSet) (p c : ℕ) (l : SheetLine) → 7 ≤ sheetRowOf l .kind → sheetRowOf l .kind ≢ 8
-    → cond (joinsBy which (sheetRowOf l .kind)) (own which active sets p c ∪ other which active sets p c) (own which active sets p c)
+block-side : (which : Which) (active : Bool) (sets : List VariableSet) (p c : ℕ) (l : SheetLine) → assigns (partOf l) ≡ false → splits (partOf l) ≡ false
+    → cond (joinsBy which (partOf l)) (own which active sets p c ∪ other which active sets p c) (own which active sets p c)
     ≡ sideOf which active sets p c l
-unfolding equationOf rightSide ownPoint joinsBy sheetRowOf
-block-side which active sets p c (basic b) h k = absurd (omega (arith, assignment-kind b))
-block-side Varied active sets p c (ifLine (less x y)) h k = refl
-block-side Useful active sets p c (ifLine (less x y)) h k = rw (add-one p, add-one c)
-block-side Required active sets p c (ifLine (less x y)) h k = refl
-block-side which active sets p c elseLine h k = absurd (k refl)
+unfolding equationOf rightSide ownPoint joinsBy
+block-side which active sets p c (basic b) h k = let z : _≡_ {A = ℕ} 0 1 = cc in absurd (omega arith)
+block-side Varied active sets p c (ifLine f) h k = refl
+block-side Useful active sets p c (ifLine f) h k = rw (add-one p, add-one c)
+block-side Required active sets p c (ifLine f) h k = refl
+block-side which active sets p c elseLine h k = let z : _≡_ {A = ℕ} 0 1 = cc in absurd (omega arith)
 block-side Varied active sets p c endIf h k = or-comm (setAt sets p) (setAt sets c)
 block-side Useful active sets p c endIf h k = rw (add-one p)
 block-side Required active sets p c endIf h k = or-comm (setAt sets p) (setAt sets c)
@@ -63,39 +64,74 @@ block-side Varied active sets p c endRepeat h k = refl
 block-side Useful active sets p c endRepeat h k = rw (add-one p, add-one c)
 block-side Required active sets p c endRepeat h k = refl
 
-module _ (which : Which) (active : Bool) (sets : List VariableSet) (p c : ℕ) (row : Row) where
+-- by the table of kinds
+module _ (which : Which) (active : Bool) (sets : List VariableSet) (p c : ℕ) (row : Row) (part : Part) (is-part : part ≡ partFor (row .kind)) where
   abbrev IsSide : VariableSet → Type 0
   IsSide r = RightSide which row active sets p c r
 
-  pub assigned : (r own : VariableSet) (said : Row) → own ≡ setAt sets (ownPoint which p) → said ≡ row → row .kind < 7
+  same-part : (l : SheetLine) → sheetRowOf l ≡ row → part ≡ partOf l
+  same-part l e = is-part ∙ sym (row-part l row e)
+
+  pub assigned : (r own : VariableSet) (said : Row) → own ≡ setAt sets (ownPoint which p) → said ≡ row → assigns part ≡ true
       → Gives said r (λ b. turnOf which active b own) → IsSide r
   unfolding sheetRowOf
-  assigned r own said o s h turned l e = go (by-kind l)
+  assigned r own said o s h turned l e = go l e (ap assigns (sym (same-part l e)) ∙ h)
     where
-      go : ByKind l → r ≡ sideOf which active sets p c l
-      go (assigns b is below) =
-          turned b (ap sheetRowOf (sym is) ∙ e ∙ sym s) ∙ ap (turnOf which active b) o ∙ rw is (assigned-side which active sets p c b)
-      go (inBlock from upto) = absurd (omega (arith, ap (λ row. row .kind) e))
+      go : (l : SheetLine) → sheetRowOf l ≡ row → assigns (partOf l) ≡ true → r ≡ sideOf which active sets p c l
+      go (basic b) e h = turned b (e ∙ sym s) ∙ ap (turnOf which active b) o ∙ assigned-side which active sets p c b
+      go (ifLine f) e h = let z : _≡_ {A = ℕ} 0 1 = cc in absurd (omega arith)
+      go elseLine e h = let z : _≡_ {A = ℕ} 0 1 = cc in absurd (omega arith)
+      go endIf e h = let z : _≡_ {A = ℕ} 0 1 = cc in absurd (omega arith)
+      go (repeat m) e h = let z : _≡_ {A = ℕ} 0 1 = cc in absurd (omega arith)
+      go endRepeat e h = let z : _≡_ {A = ℕ} 0 1 = cc in absurd (omega arith)
 
-  pub at-else : (other : VariableSet) → other ≡ setAt sets (ownPoint which c) → row .kind ≡ 8 → IsSide other
-  at-else other o h l e = o ∙ rw (else-line l (ap (λ row. row .kind) e ∙ h)) (else-side which active sets p c)
+  pub at-else : (other : VariableSet) → other ≡ setAt sets (ownPoint which c) → splits part ≡ true → IsSide other
+  at-else other o h l e = o ∙ go l (ap splits (sym (same-part l e)) ∙ h)
+    where
+      go : (l : SheetLine) → splits (partOf l) ≡ true → setAt sets (ownPoint which c) ≡ sideOf which active sets p c l
+      go (basic b) h = let z : _≡_ {A = ℕ} 0 1 = cc in absurd (omega arith)
+      go (ifLine f) h = let z : _≡_ {A = ℕ} 0 1 = cc in absurd (omega arith)
+      go elseLine h = else-side which active sets p c
+      go endIf h = let z : _≡_ {A = ℕ} 0 1 = cc in absurd (omega arith)
+      go (repeat m) h = let z : _≡_ {A = ℕ} 0 1 = cc in absurd (omega arith)
+      go endRepeat h = let z : _≡_ {A = ℕ} 0 1 = cc in absurd (omega arith)
 
   -- the other rows of blocks
-  pub in-block : (r own other : VariableSet) → own ≡ setAt sets (ownPoint which p) → other ≡ setAt sets (ownPoint which c) → 7 ≤ row .kind
-      → row .kind ≢ 8 → r ≡ cond (joinsBy which (row .kind)) (own ∪ other) own → IsSide r
+  pub in-block : (r own other : VariableSet) → own ≡ setAt sets (ownPoint which p) → other ≡ setAt sets (ownPoint which c) → assigns part ≡ false
+      → splits part ≡ false → r ≡ cond (joinsBy which part) (own ∪ other) own → IsSide r
   in-block r own other o o′ h k is l e =
-      let kind : sheetRowOf l .kind ≡ row .kind = ap (λ row. row .kind) e in
-      rw (is, o, o′, sym kind) (block-side which active sets p c l (rw kind h) (rw kind k))
+      let same = sym (same-part l e) in
+      rw (is, o, o′, same-part l e) (block-side which active sets p c l (ap assigns same ∙ h) (ap splits same ∙ k))
 
--- ---- a row of the sheet
+-- ---- a row's points are within the sets
 
--- what was found from a row's words, its mark and its partner is its equation's right side
-pub right-side-in : (which : Which) (given : Given) (p : ℕ) (sets : List VariableSet) (row : Row) (active : Bool) (c r : ℕ) → rowIn given p ≡ row
-    → sheetRowOf (lineOfRow (rowIn given p)) ≡ rowIn given p → active ≡ activeIn given p → c ≡ getD (given .partners) p 0
-    → RightSide which row active sets p c r → r ≡ rightSide (equationIn which given p) (setAt sets)
-unfolding equationIn
-right-side-in which given p sets row active c r is says e f side =
-    rw (sym e, sym f) (side (lineOfRow (rowIn given p)) (says ∙ is))
+pub own-below : (which : Which) (p size : ℕ) → suc p < size → ownPoint which p < size
+unfolding ownPoint
+own-below Varied p size h = omega arith
+own-below Useful p size h = omega arith
+own-below Required p size h = omega arith
+
+pub settled-below : (which : Which) (p size : ℕ) → suc p < size → settledPoint which p < size
+unfolding settledPoint
+settled-below Varied p size h = omega arith
+settled-below Useful p size h = omega arith
+settled-below Required p size h = omega arith
+
+pub start-below : (which : Which) (n size : ℕ) → n < size → startOf which n < size
+unfolding startOf
+start-below Varied n size h = omega arith
+start-below Useful n size h = h
+start-below Required n size h = omega arith
+
+-- ---- which rows ask their partner's set
+
+pub asks-else : (which : Which) (part : Part) → splits part ≡ true → asksPartner which part ≡ true
+asks-else which part e = rw e
+
+pub asks-joined : (which : Which) (part : Part) → joinsBy which part ≡ true → asksPartner which part ≡ true
+asks-joined which part e = of-T _ (or-right (splits part) (joinsBy which part) (T-of e))
+
+-- ---- the point that a row settles
 
 forward-point : (turn : Assignment → VariableSet → VariableSet) (l : SheetLine) (p c : ℕ) → pointOf (forwardOf turn l p c) ≡ p + 1
 unfolding forwardOf pointOf
@@ -115,8 +151,12 @@ backward-point turn endIf p c = refl
 backward-point turn (repeat m) p c = refl
 backward-point turn endRepeat p c = refl
 
+pub settled-of : (which : Which) (active : Bool) (l : SheetLine) (p c : ℕ) → settledPoint which p ≡ pointOf (equationOf which active l p c)
+unfolding equationOf settledPoint
+settled-of Varied active l p c = sym (forward-point _ l p c)
+settled-of Useful active l p c = sym (backward-point _ l p c)
+settled-of Required active l p c = sym (forward-point _ l p c)
+
 pub settled-in : (which : Which) (given : Given) (p : ℕ) → settledPoint which p ≡ pointOf (equationIn which given p)
-unfolding equationIn equationOf settledPoint
-settled-in Varied given p = sym (forward-point _ (lineOfRow (rowIn given p)) p _)
-settled-in Useful given p = sym (backward-point _ (lineOfRow (rowIn given p)) p _)
-settled-in Required given p = sym (forward-point _ (lineOfRow (rowIn given p)) p _)
+unfolding equationIn
+settled-in which given p = settled-of which _ _ p _

@@ -4,6 +4,7 @@ use mathlib.Core.Bool.{Bool, true, false, _&&_, _||_, cond}
 use mathlib.Core.Option.{Option, none, some}
 use Prim.Native.Nat.{ℕ}
 use Rattle.sheet.specs.Rows.{Assignment, Source, copy, fixed, sum, difference, product, negation, _≔_, Row, rowOfAssignment}
+use Rattle.sheet.specs.inner.Kinds.{formFor}
 use Rattle.sets.specs.VariableSets.{VariableSet, empty, has, _∪_, single, without, hasSome, singleSome}
 use Rattle.sets.specs.Transfers.{anyRead, firstRead, secondRead, reads, variedAfter, usefulBefore}
 use Rattle.sets.specs.Transfers.{Activity, activityOf, adjointUse, recordedBy, requiredAfter}
@@ -30,7 +31,7 @@ record Read (d : ℕ) (source : Source) (row : Row) : Type 0 where
 
 module _ (row : Row) (d : ℕ) (source : Source) (said : rowOfAssignment (d ≔ source) ≡ row) where
   read-of : Read d source row
-  unfolding rowOfAssignment firstRead secondRead
+  unfolding rowOfAssignment firstRead secondRead formFor
   read-of = subst (Read d source) said (each source)
     where
       each : (source : Source) → Read d source (rowOfAssignment (d ≔ source))

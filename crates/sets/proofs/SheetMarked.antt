@@ -1,8 +1,8 @@
 -- For an accepted sheet the code's equations are the definitions', with the partners that were found and the marks that were written.
-use Prim.Native.Nat.{ℕ, suc, _+_, _≤_, _<_}
+use Prim.Native.Nat.{ℕ, suc, _+_, _*_, _≤_, _<_}
 use native.Mathlib.Omega.{arith}
 use mathlib.Core.Path.{_≡_, refl, sym, ap, subst, _∙_}
-use mathlib.Core.Bool.{false}
+use mathlib.Core.Bool.{Bool, false}
 use mathlib.Core.List.{List, [], _∷_}
 use lib.ListN.{length, getD, take, drop, length-map}
 use Rattle.sheet.specs.Bounds.{limit}
@@ -20,19 +20,21 @@ use Rattle.sets.specs.VariableSets.{VariableSet, empty, places}
 use Rattle.sets.specs.Equations.{Equation, starts, least}
 use Rattle.sets.specs.inner.ProperEquations.{Proper}
 use Rattle.sets.specs.Transfers.{variedAfter, usefulBefore, requiredAfter, adjointUse, Activity}
-use Rattle.sets.specs.Marks.{points, varied, useful, required, variedEquations, usefulEquations, requiredEquations, activityAt, markBy}
+use Rattle.sets.specs.Marks.{points, varied, useful, required, variedEquations, usefulEquations, requiredEquations, activityAt}
 use Rattle.sets.specs.Partners.{CameFrom, GoesTo, cameBy, goesBy}
 use Rattle.sets.specs.inner.PartnerPass.{found, PartnersFound}
-use Rattle.sets.specs.inner.RowEquations.{givenBy, lineIn, activeIn, turnOf, equationOf, equationIn, rowInTurn}
-use Rattle.sets.specs.inner.RowEquations.{rowEquations, startOf, allEquations, AllReadable, seedIn, Settles}
+use Rattle.sets.specs.inner.RowEquations.{givenBy, lineIn, noneActive, activeLine, activeBy, turnOf, equationOf, equationIn, rowInTurn}
+use Rattle.sets.specs.inner.RowEquations.{rowEquations, startOf, allEquations, AllReadable, seedIn}
+use Rattle.sets.specs.inner.Walks.{Wired, Settles}
 use Rattle.sets.specs.inner.RowWords.{maskBits}
 use Rattle.sets.specs.MarkBytes.{markBytes}
-use Rattle.sets.specs.inner.RowBytes.{bytesOf, byteAt, written}
+use Rattle.sets.specs.inner.RowBytes.{bytesOf, written}
 use Rattle.sets.specs.inner.Laid.{Laid, MarksLeft, AllMarked}
 use Rattle.sets.proofs.RowByRow.{LinesAt, forward-listed, backward-listed}
 use Rattle.sets.proofs.SheetRows.{lines-at, rows-readable}
 use Rattle.sets.proofs.PartnersRight.{passed-over}
-use Rattle.sets.proofs.MarkByteLaws.{read-back, written-at, written-same}
+use Rattle.sets.proofs.Wiring.{Placed, placed, varied-wired, useful-wired, required-wired}
+use Rattle.sets.proofs.MarkByteLaws.{written-same}
 use Rattle.sets.proofs.MarksListed.{marks-listed}
 use Rattle.sets.proofs.SetsLeast.{varied-proper, useful-proper, required-proper}
 
@@ -83,7 +85,7 @@ module _ (words : List ℕ) (variables first count : ℕ) (laid : Laid words var
       record {
         readable = λ p h.
             rows-readable _ _ fewVariables fewConstants words first (parts .n) (sheet .body) says present p (omega (arith, laid .rowsAre))
-            (omega arith);
+            (omega arith) (omega (arith, laid .rowsAre, size, at, ns .there));
         lines = lines-at words first (parts .n) (sheet .body) says;
         fewRows = few;
         variablesSmall = omega (arith, vars, vs .most);
@@ -123,106 +125,109 @@ module _ {words : List ℕ} {variables first count : ℕ} (laid : Laid words var
   abbrev known : Facts words variables first count laid
   known = facts words variables first count laid
 
-  -- ---- the code's equations, with marks and partners for each row, are the definitions'
+  -- ---- the code's equations, with partners for each row, are the definitions'
 
-  abbrev codeEquations : Which → (marks partners : List ℕ) → List Equation
-  codeEquations which marks partners = allEquations which (givenBy words first marks partners) count (seedIn which words variables)
+  abbrev codeEquations : Which → (ℕ → Bool) → (partners : List ℕ) → List Equation
+  codeEquations which active partners = allEquations which (givenBy words first active partners) count (seedIn which words variables)
 
-  code-rows : (which : Which) (marks partners : List ℕ) → codeEquations which marks partners
-      ≡ allEquations which (givenBy words first marks partners) (rows body) (seedIn which words variables)
-  code-rows which marks partners = ap (λ n. allEquations which (givenBy words first marks partners) n (seedIn which words variables)) (laid .rowsAre)
+  code-rows : (which : Which) (active : ℕ → Bool) (partners : List ℕ) → codeEquations which active partners
+      ≡ allEquations which (givenBy words first active partners) (rows body) (seedIn which words variables)
+  code-rows which active partners = ap (λ n. allEquations which (givenBy words first active partners) n (seedIn which words variables)) (laid .rowsAre)
 
-  varied-all : (marks partners : List ℕ) → CameFrom partners body 0 → codeEquations Varied marks partners ≡ variedEquations sheet
+  varied-all : (partners : List ℕ) → CameFrom partners body 0 → codeEquations Varied noneActive partners ≡ variedEquations sheet
   unfolding allEquations rowEquations rowInTurn startOf equationIn equationOf turnOf seedIn variedEquations
-  varied-all marks partners c =
-      let active = activeIn (givenBy words first marks partners) in
-      code-rows Varied marks partners ∙ rw (sym (known .roles))
+  varied-all partners c =
+      code-rows Varied noneActive partners ∙ rw (sym (known .roles))
       (ap (λ es. starts 0 (places isIndependent (sheet .roles)) ∷ es)
-      (forward-listed line partners (λ p. turnOf Varied (active p)) (λ p. variedAfter) (rows body) (λ p b h e. refl) body (omega arith)
+      (forward-listed line partners (λ p. turnOf Varied false) (λ p. variedAfter) (rows body) (λ p b h e. refl) body (omega arith)
       (known .lines) c))
 
-  useful-all : (marks partners : List ℕ) → GoesTo partners body 0 → codeEquations Useful marks partners ≡ usefulEquations sheet
+  useful-all : (partners : List ℕ) → GoesTo partners body 0 → codeEquations Useful noneActive partners ≡ usefulEquations sheet
   unfolding allEquations rowEquations rowInTurn startOf equationIn equationOf turnOf seedIn usefulEquations
-  useful-all marks partners c =
-      let active = activeIn (givenBy words first marks partners) in
-      code-rows Useful marks partners ∙ rw (sym (known .roles))
+  useful-all partners c =
+      code-rows Useful noneActive partners ∙ rw (sym (known .roles))
       (ap (λ es. starts (rows body) (places isDependent (sheet .roles)) ∷ es)
-      (backward-listed line partners (λ p. turnOf Useful (active p)) (λ p. usefulBefore) (rows body) (λ p b h e. refl) body (omega arith)
+      (backward-listed line partners (λ p. turnOf Useful false) (λ p. usefulBefore) (rows body) (λ p b h e. refl) body (omega arith)
       (known .lines) c))
 
-  -- the marks say which rows are active
-  abbrev ActiveMarked : (v u : List VariableSet) (marks : List ℕ) → Type 0
-  ActiveMarked v u marks =
-      (p : ℕ) (b : Assignment) → p < count → line p ≡ basic b → activeIn (givenBy words first marks []) p ≡ activityAt v u p b .active
+  -- which rows are active, by the first two sets
+  active-said : (v u : List VariableSet) (p : ℕ) (b : Assignment) → line p ≡ basic b → activeBy words first v u p ≡ activityAt v u p b .active
+  unfolding activeLine activityAt
+  active-said v u p b e = rw e
 
-  required-all : (marks partners : List ℕ) (v u : List VariableSet) → ActiveMarked v u marks → CameFrom partners body 0
-      → codeEquations Required marks partners ≡ requiredEquations sheet v u
+  required-all : (partners : List ℕ) (v u : List VariableSet) → CameFrom partners body 0
+      → codeEquations Required (activeBy words first v u) partners ≡ requiredEquations sheet v u
   unfolding allEquations rowEquations rowInTurn startOf equationIn equationOf turnOf seedIn requiredEquations
-  required-all marks partners v u marked c =
-      let active = activeIn (givenBy words first marks partners) in
-      code-rows Required marks partners ∙ rw (nothing-placed (take variables (drop 1 words)))
+  required-all partners v u c =
+      code-rows Required (activeBy words first v u) partners ∙ rw (nothing-placed (take variables (drop 1 words)))
       (ap (λ es. starts 0 empty ∷ es)
-      (forward-listed line partners (λ p. turnOf Required (active p)) (λ p b. requiredAfter b (activityAt v u p b)) count
-      (λ p b h e. use-by-active b _ _ (marked p b h e)) body (omega (arith, laid .rowsAre)) (known .lines) c))
+      (forward-listed line partners (λ p. turnOf Required (activeBy words first v u p)) (λ p b. requiredAfter b (activityAt v u p b)) count
+      (λ p b h e. use-by-active b _ _ (active-said v u p b e)) body (omega (arith, laid .rowsAre)) (known .lines) c))
 
-  -- ---- what is asked of the code's rounds, and what they come to
+  -- ---- what is asked of the code's walks, and what they come to
 
-  settles : (which : Which) (es : List Equation) (marks partners : List ℕ) (size : ℕ) → size ≡ suc count → codeEquations which marks partners ≡ es
-      → Proper (variablesOf sheet) (points sheet) es → Settles which (givenBy words first marks partners) count variables size
-  unfolding points
-  settles which es marks partners size sized e proper =
-      record {
-        readable = known .readable;
-        variablesSmall = known .variablesSmall;
-        rolesThere = known .rolesThere;
-        long = sized;
-        proper = rw (e, laid .variablesAre, laid .rowsAre) proper;
-      }
+  module _ {came goes came′ goes′ : List ℕ} (right : PartnersAre words variables first count laid came goes came′ goes′) (cameRoom : count ≤ length came′)
+      (goesRoom : count ≤ length goes′) where
+    all-placed : (p : ℕ) → p < count → Placed line came′ goes′ count p
+    all-placed p h =
+        placed line came′ goes′ count body 0 (omega (arith, laid .rowsAre)) (known .lines) (right .cameFrom) (right .goesTo) p (omega arith)
+        (omega (arith, laid .rowsAre))
 
-  abbrev Settled : Which → (marks partners : List ℕ) → List VariableSet → Type 0
-  Settled which marks partners sets = sets ≡ least variables (suc count) (codeEquations which marks partners)
+    settles : (which : Which) (active : ℕ → Bool) (es : List Equation) (partners others : List ℕ) (size : ℕ) → size ≡ suc count → count ≤ length partners
+        → count ≤ length others → codeEquations which active partners ≡ es → Proper (variablesOf sheet) (points sheet) es
+        → Wired which (givenBy words first active partners) others count
+        → Settles which (givenBy words first active partners) others count variables size
+    unfolding points
+    settles which active es partners others size sized lp lo e proper wired =
+        record {
+          readable = known .readable;
+          variablesSmall = known .variablesSmall;
+          rolesThere = known .rolesThere;
+          long = sized;
+          partnered = lp;
+          othersThere = lo;
+          proper = rw (e, laid .variablesAre, laid .rowsAre) proper;
+          wired = wired;
+        }
 
-  settled-at : (which : Which) (es : List Equation) (marks partners : List ℕ) (sets : List VariableSet) → codeEquations which marks partners ≡ es
-      → Settled which marks partners sets → sets ≡ least (variablesOf sheet) (points sheet) es
-  unfolding points
-  settled-at which es marks partners sets e f = rw (sym (laid .variablesAre), sym (laid .rowsAre), sym e) f
+    pub settles-varied : (size : ℕ) → size ≡ suc count → Settles Varied (givenBy words first noneActive came′) goes′ count variables size
+    settles-varied size sized =
+        settles Varied noneActive _ came′ goes′ size sized cameRoom goesRoom (varied-all came′ (right .cameFrom))
+        (varied-proper words sheet (laid .accepted)) (varied-wired words first noneActive came′ goes′ count (known .readable) all-placed)
 
-  module _ (marks partners : List ℕ) (size : ℕ) (sized : size ≡ suc count) where
-    pub settles-varied : CameFrom partners body 0 → Settles Varied (givenBy words first marks partners) count variables size
-    settles-varied c = settles Varied _ marks partners size sized (varied-all marks partners c) (varied-proper words sheet (laid .accepted))
+    pub settles-useful : (size : ℕ) → size ≡ suc count → Settles Useful (givenBy words first noneActive goes′) came′ count variables size
+    settles-useful size sized =
+        settles Useful noneActive _ goes′ came′ size sized goesRoom cameRoom (useful-all goes′ (right .goesTo))
+        (useful-proper words sheet (laid .accepted)) (useful-wired words first noneActive came′ goes′ count (known .readable) all-placed)
 
-    pub settles-useful : GoesTo partners body 0 → Settles Useful (givenBy words first marks partners) count variables size
-    settles-useful c = settles Useful _ marks partners size sized (useful-all marks partners c) (useful-proper words sheet (laid .accepted))
-
-  module _ (marks partners : List ℕ) (sets : List VariableSet) where
-    pub varied-settled : CameFrom partners body 0 → Settled Varied marks partners sets → sets ≡ varied sheet
-    unfolding varied
-    varied-settled c f = settled-at Varied _ marks partners sets (varied-all marks partners c) f
-
-    pub useful-settled : GoesTo partners body 0 → Settled Useful marks partners sets → sets ≡ useful sheet
-    unfolding useful
-    useful-settled c f = settled-at Useful _ marks partners sets (useful-all marks partners c) f
-
-  -- the marks that were written by the first two sets say which rows are active, whatever the third held
-  module _ (marks partners : List ℕ) (v u r : List VariableSet) (before : List ℕ) (room : count ≤ length before)
-      (wrote : marks ≡ written (bytesOf v u r line) count before) where
-    active-marked : ActiveMarked v u marks
-    unfolding byteAt markBy
-    active-marked p b h e =
-        rw (wrote, written-at (bytesOf v u r line) count before room p h, ap (byteAt v u r p) e)
-        (read-back (activityAt v u p b) (markBy v u r p b .saved) .active)
-
-    pub settles-required : (size : ℕ) → size ≡ suc count → CameFrom partners body 0
-        → Settles Required (givenBy words first marks partners) count variables size
-    settles-required size sized c =
-        settles Required _ marks partners size sized (required-all marks partners v u active-marked c)
+    pub settles-required : (v u : List VariableSet) (size : ℕ) → size ≡ suc count
+        → Settles Required (givenBy words first (activeBy words first v u) came′) goes′ count variables size
+    settles-required v u size sized =
+        settles Required (activeBy words first v u) _ came′ goes′ size sized cameRoom goesRoom (required-all came′ v u (right .cameFrom))
         (required-proper words sheet (laid .accepted) v u)
+        (required-wired words first (activeBy words first v u) came′ goes′ count (known .readable) all-placed)
 
-    pub required-settled : (sets : List VariableSet) → CameFrom partners body 0 → v ≡ varied sheet → u ≡ useful sheet
-        → Settled Required marks partners sets → sets ≡ required sheet
+  abbrev Settled : Which → (ℕ → Bool) → (partners : List ℕ) → List VariableSet → Type 0
+  Settled which active partners sets = sets ≡ least variables (suc count) (codeEquations which active partners)
+
+  settled-at : (which : Which) (active : ℕ → Bool) (es : List Equation) (partners : List ℕ) (sets : List VariableSet)
+      → codeEquations which active partners ≡ es → Settled which active partners sets → sets ≡ least (variablesOf sheet) (points sheet) es
+  unfolding points
+  settled-at which active es partners sets e f = rw (sym (laid .variablesAre), sym (laid .rowsAre), sym e) f
+
+  module _ (partners : List ℕ) (sets : List VariableSet) where
+    pub varied-settled : CameFrom partners body 0 → Settled Varied noneActive partners sets → sets ≡ varied sheet
+    unfolding varied
+    varied-settled c f = settled-at Varied noneActive _ partners sets (varied-all partners c) f
+
+    pub useful-settled : GoesTo partners body 0 → Settled Useful noneActive partners sets → sets ≡ useful sheet
+    unfolding useful
+    useful-settled c f = settled-at Useful noneActive _ partners sets (useful-all partners c) f
+
+    pub required-settled : (v u : List VariableSet) → CameFrom partners body 0 → v ≡ varied sheet → u ≡ useful sheet
+        → Settled Required (activeBy words first v u) partners sets → sets ≡ required sheet
     unfolding required
-    required-settled sets c vs us f =
-        rw (sym vs, sym us) (settled-at Required _ marks partners sets (required-all marks partners v u active-marked c) f)
+    required-settled v u c vs us f = rw (sym vs, sym us) (settled-at Required (activeBy words first v u) _ partners sets (required-all partners v u c) f)
 
   -- all marks, whichever sheet the words are said to be
   pub all-marked : (v u r : List VariableSet) (before after : List ℕ) → v ≡ varied sheet → u ≡ useful sheet → r ≡ required sheet

@@ -2,6 +2,7 @@
 use Prim.Native.Nat.{ℕ, zero, suc, _+_, _*_, _≤_, _<_}
 use native.Mathlib.Omega.{arith}
 use mathlib.Core.Path.{_≡_, refl, sym, ap, subst, _∙_}
+use mathlib.Core.Bool.{true, false}
 use mathlib.Core.List.{List, [], _∷_, map}
 use lib.ListN.{length}
 use Rattle.sheet.specs.Bounds.{limit, wordValues}
@@ -9,6 +10,7 @@ use Rattle.sheet.specs.Tree.{Tree, done, one, fork, again, rows, flat, elseLine
 use Rattle.sheet.specs.Rows.{Assignment, _≔_, copy, fixed, sum, difference, product, negation, less, Test, SheetLine}
 use Rattle.sheet.specs.Rows.{rowOfAssignment, sheetRowOf, treeRows}
 use Rattle.sheet.specs.inner.RowLines.{lineOfRow}
+use Rattle.sheet.specs.inner.Kinds.{formFor}
 use Rattle.sheet.specs.Names.{SourcePresent, AssignmentPresent, Present}
 use Rattle.sheet.specs.Reading.{rowAt, rowsAt}
 use Rattle.sheet.proofs.RowsBack.{line-back}
@@ -82,6 +84,9 @@ module _ (words : List ℕ) (first : ℕ) (P : SheetLine → Type 0) where
       let place-is : p + suc i ≡ suc p + i = omega arith in
       rw place-is (row-says ls (suc p) n (place + limit .rowWords) (omega arith) more (h .1) i (omega arith))
 
+not-true : false ≡ true → ⊥
+not-true e = let z : _≡_ {A = ℕ} 0 1 = cc in omega arith
+
 abbrev SmallLine : SheetLine → Type 0
 SmallLine l = Small (sheetRowOf l)
 
@@ -97,23 +102,23 @@ module _ (v k : ℕ) (vs : v ≤ maskBits) (ks : k ≤ maskBits) where
   assignment-small (d ≔ negation a) h = record { d = omega (arith, h); a = omega (arith, h); b = omega arith }
 
   tree-small : (t : Tree Assignment Test) (rest : List SheetLine) → Present v k t → Each SmallLine rest → Each SmallLine (flat t rest)
-  unfolding flat Present sheetRowOf
+  unfolding flat Present sheetRowOf formFor
   tree-small done rest n h = h
   tree-small (one b t) rest n h = (λ z. assignment-small b (n .0), tree-small t rest (n .1) h)
   tree-small (fork (less x y) a b t) rest n h = (
-    λ z. absurd (omega arith),
+    λ z. absurd (not-true z),
     tree-small a _ (n .1)
-        (λ z. absurd (omega arith), tree-small b _ (n .2) (λ z. absurd (omega arith), tree-small t rest (n .3) h)),
+        (λ z. absurd (not-true z), tree-small b _ (n .2) (λ z. absurd (not-true z), tree-small t rest (n .3) h)),
   )
   tree-small (again m a t) rest n h =
-      (λ z. absurd (omega arith), tree-small a _ (n .0) (λ z. absurd (omega arith), tree-small t rest (n .1) h))
+      (λ z. absurd (not-true z), tree-small a _ (n .0) (λ z. absurd (not-true z), tree-small t rest (n .1) h))
 
   pub rows-readable : (words : List ℕ) (first n : ℕ) (t : Tree Assignment Test) → treeRows t ≡ rowsAt words first n → Present v k t
-      → (p : ℕ) → p < rows t → p < wordValues → Readable words first p
+      → (p : ℕ) → p < rows t → p < wordValues → first + (p + 1) * limit .rowWords ≤ length words → Readable words first p
   unfolding treeRows
-  rows-readable words first n t e present p below numbered =
+  rows-readable words first n t e present p below numbered there =
       let each = tree-small t [] present tt in
       let h = row-says words first SmallLine (flat t []) 0 n first (omega arith) e each p (omega (arith, lines-counted t)) in
       let here : 0 + p ≡ p = omega arith in
       let says = rw here at (h .0) in
-      record { says = says; small = rw says at (rw here at (h .1)); numbered = numbered }
+      record { says = says; small = rw says at (rw here at (h .1)); numbered = numbered; there = there }

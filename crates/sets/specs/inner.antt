@@ -4,5 +4,5 @@ pub mod RowWords
 pub mod RowBytes
 pub mod PartnerPass
 pub mod RowEquations
-pub mod Growth
+pub mod Walks
 pub mod Laid

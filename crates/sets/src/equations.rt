@@ -1,23 +1,27 @@
 // A row's equation: the point that it settles, and what the set there must hold.
 ghost use mathlib.Core.Path.{_≡_};
-ghost use mathlib.Core.Bool.{cond};
+ghost use mathlib.Core.Bool.{true};
 ghost use Prim.Native.Nat.{_<_};
+ghost use lib.ListN.{length};
 ghost use Rattle.sheet.specs.Bounds.{wordValues};
 ghost use Rattle.sheet.specs.Answers.{rowSaid};
-ghost use Rattle.sets.specs.VariableSets.{_∪_};
 ghost use Rattle.sets.specs.Equations.{setAt};
-ghost use Rattle.sets.specs.inner.RowEquations.{joinsBy, ownPoint, settledPoint, Small, RightSide};
+ghost use Rattle.sheet.specs.inner.Kinds.{partFor};
+ghost use Rattle.sets.specs.inner.RowEquations.{splits, joinsOn, joinsBack, joinsBy, ownPoint, settledPoint, Known, RightSide};
+ghost use Rattle.sets.specs.inner.Walks.{asksPartner};
 use super::Which;
+use super::rows::Seen;
 use super::transfers;
 use sheet::RowNumber;
-use sheet::RowWords;
 use sheet::kinds;
+use sheet::kinds::Part;
 
-// The set at a point; beyond the last there is none.
+// The set at a point.
 pub fn set_at(sets: &[u64], point: usize) -> u64
+    requires { ⌜ point < length (now sets) ⌝ }
     ensures { λ r. ⌜ r ≡ setAt (now (sets .entry)) point ⌝ }
 {
-    if point < sets.len() { sets[point] } else { 0 }
+    sets[point]
 }
 
 fn own_point(which: Which, row: RowNumber) -> usize
@@ -32,8 +36,8 @@ fn own_point(which: Which, row: RowNumber) -> usize
 }
 
 // The set at a row's own point, which its equation takes.
-fn own_set(which: Which, sets: &[u64], row: RowNumber) -> u64
-    requires { ⌜ row .0 < wordValues ⌝ }
+pub fn own_set(which: Which, sets: &[u64], row: RowNumber) -> u64
+    requires { ⌜ (row .0 < wordValues) × (ownPoint which (row .0) < length (now sets)) ⌝ }
     ensures { λ r. ⌜ r ≡ setAt (now (sets .entry)) (ownPoint which (row .0)) ⌝ }
 {
     set_at(sets, own_point(which, row))
@@ -50,42 +54,75 @@ pub fn settled_point(which: Which, row: RowNumber) -> usize
     }
 }
 
-// Whether a row of a block takes its partner's set besides its own.
-fn joins(which: Which, kind: u16) -> bool
-    ensures { λ r. ⌜ r ≡ joinsBy which kind ⌝ }
+// Whether a row of a block takes its partner's set besides its own: where sets are found from the first row on, and from the last row to the first.
+fn joins_on(part: Part) -> bool
+    ensures { λ r. ⌜ r ≡ joinsOn part ⌝ }
+{
+    match part {
+        Part::Assignment => false,
+        Part::If => false,
+        Part::Else => false,
+        Part::EndIf => true,
+        Part::Repeat => true,
+        Part::EndRepeat => false,
+    }
+}
+
+fn joins_back(part: Part) -> bool
+    ensures { λ r. ⌜ r ≡ joinsBack part ⌝ }
+{
+    match part {
+        Part::Assignment => false,
+        Part::If => true,
+        Part::Else => false,
+        Part::EndIf => false,
+        Part::Repeat => false,
+        Part::EndRepeat => true,
+    }
+}
+
+// "else" takes its partner's set alone.
+fn splits(part: Part) -> bool
+    ensures { λ r. ⌜ r ≡ splits part ⌝ }
+{
+    match part {
+        Part::Assignment => false,
+        Part::If => false,
+        Part::Else => true,
+        Part::EndIf => false,
+        Part::Repeat => false,
+        Part::EndRepeat => false,
+    }
+}
+
+fn joins(which: Which, part: Part) -> bool
+    ensures { λ r. ⌜ r ≡ joinsBy which part ⌝ }
 {
     match which {
-        Which::Useful => (kind == kinds::IF) | (kind == kinds::END_REPEAT),
-        Which::Varied => (kind == kinds::END_IF) | (kind == kinds::REPEAT),
-        Which::Required => (kind == kinds::END_IF) | (kind == kinds::REPEAT),
+        Which::Useful => joins_back(part),
+        Which::Varied => joins_on(part),
+        Which::Required => joins_on(part),
     }
 }
 
-fn joined(which: Which, kind: u16, own: u64, other: u64) -> u64
-    ensures { λ r. ⌜ r ≡ cond (joinsBy which kind) (own ∪ other) own ⌝ }
+pub fn right_side(which: Which, seen: Seen, active: bool, sets: &[u64], partner: RowNumber) -> u64
+    requires { ⌜ Known seen × (partner .0 < wordValues) × (ownPoint which (seen .row .0) < length (now sets))
+        × (asksPartner which (partFor (seen .line .kind)) ≡ true → ownPoint which (partner .0) < length (now sets)) ⌝ }
+    ensures { λ r. ⌜ RightSide which (rowSaid (seen .line)) active (now (sets .entry)) (seen .row .0) (partner .0) r ⌝ }
 {
-    if joins(which, kind) { own | other } else { own }
-}
-
-pub fn right_side(
-    which: Which,
-    line: RowWords,
-    active: bool,
-    sets: &[u64],
-    row: RowNumber,
-    partner: RowNumber,
-) -> u64
-    requires { ⌜ Small (rowSaid line) × (row .0 < wordValues) × (partner .0 < wordValues) ⌝ }
-    ensures { λ r. ⌜ RightSide which (rowSaid line) active (now (sets .entry)) (row .0) (partner .0) r ⌝ }
-{
-    let kind = line.kind;
+    let row = seen.row;
+    let line = seen.line;
+    let form = seen.form;
+    let part = form.3;
     let own = own_set(which, sets, row);
-    if kind < kinds::IF {
-        return transfers::transfer(which, transfers::operation_of(line), active, own);
+    if kinds::assigns(part) {
+        return transfers::transfer(which, transfers::operation_of(line, form), active, own);
     }
-    let other = own_set(which, sets, partner);
-    if kind == kinds::ELSE {
-        return other;
+    if splits(part) {
+        return own_set(which, sets, partner);
     }
-    joined(which, kind, own, other)
+    if joins(which, part) {
+        return own | own_set(which, sets, partner);
+    }
+    own
 }

@@ -1,5 +1,5 @@
 // The sets: any words in; `mark` reads them, finds an accepted sheet's three least sets at every point and marks every row.
-// In reading order: masks, transfers, partners, equations, sweep, marks.
+// In reading order: masks, rows, transfers, partners, equations, walk, marks.
 ghost use mathlib.Core.Path.{_≡_};
 ghost use lib.ListN.{length};
 ghost use Rattle.sheet.specs.Refusals.{given};
@@ -14,8 +14,9 @@ mod equations;
 mod marks;
 mod masks;
 mod partners;
-mod sweep;
+mod rows;
 mod transfers;
+mod walk;
 
 // The bits of a row's mark: whether a is varied before it, whether b is, whether the row is active, whether it is recorded.
 pub const VARIED_A: u8 = 1;
@@ -40,7 +41,7 @@ struct Extent {
     pub variables: usize,
 }
 
-// Marks every row of an accepted sheet. The required sets take each row's activity from its mark, so the rows are marked twice.
+// Marks every row of an accepted sheet.
 fn settle_and_mark(
     words: &[u16],
     variables: usize,
@@ -67,11 +68,9 @@ fn settle_and_mark(
         variables,
     };
     partners::find_partners(words, extent, came, goes);
-    sweep::settle(Which::Varied, words, extent, marks, came, varied);
-    sweep::settle(Which::Useful, words, extent, marks, goes, useful);
-    marks::mark_rows(words, extent, varied, useful, required, marks);
-    sweep::settle(Which::Required, words, extent, marks, came, required);
-    marks::mark_rows(words, extent, varied, useful, required, marks);
+    walk::settle_varied(words, extent, came, goes, varied);
+    walk::settle_useful(words, extent, goes, came, useful);
+    walk::settle_required(words, extent, varied, useful, came, goes, required, marks);
 }
 
 // Every row's marks and every block row's partners of an accepted sheet. The sets themselves are not kept.

@@ -2,18 +2,28 @@
 // "if", for an "end if" its "else" and for a "repeat" its "end repeat", `goes` the other way.
 ghost use mathlib.Core.Path.{_≡_};
 ghost use Prim.Native.Nat.{_<_};
-ghost use lib.ListN.{getD, set};
+ghost use lib.ListN.{getD, set, length};
 ghost use Rattle.sheet.specs.Bounds.{wordValues};
 ghost use Rattle.sets.specs.inner.RowEquations.{AllReadable, lineIn};
-ghost use Rattle.sets.specs.inner.PartnerPass.{found, FoundBy, PartnersFound};
+ghost use Rattle.sets.specs.inner.PartnerPass.{found, foundBy, PartnersFound};
 use super::Extent;
+use super::rows;
 use sheet::RowNumber;
-use sheet::kinds;
+use sheet::kinds::Part;
 
-pub fn partner_of(partners: &[u16], row: RowNumber) -> RowNumber
+fn partner_of(partners: &[u16], row: RowNumber) -> RowNumber
     ensures { λ r. ⌜ (r .0 ≡ getD (now (partners .entry)) (row .0) 0) × (r .0 < wordValues) ⌝ }
 {
     RowNumber(sheet::word_at(partners, row.0) as usize)
+}
+
+// The same of a row that has a place in the list.
+pub fn partner_there(partners: &[u16], row: RowNumber) -> RowNumber
+    requires { ⌜ row .0 < length (now partners) ⌝ }
+    ensures { λ r. ⌜ (r .0 ≡ getD (now (partners .entry)) (row .0) 0) × (r .0 < wordValues) ⌝ }
+{
+    let number = row.0;
+    RowNumber(partners[number] as usize)
 }
 
 fn put(list: &mut [u16], row: RowNumber, partner: RowNumber)
@@ -28,36 +38,46 @@ fn put(list: &mut [u16], row: RowNumber, partner: RowNumber)
 
 // One row: `top` is the innermost open block's last row so far, and the answer is the same after this row.
 fn partner_step(
-    kind: u16,
+    part: Part,
     row: RowNumber,
     top: RowNumber,
     came: &mut [u16],
     goes: &mut [u16],
 ) -> RowNumber
     requires { ⌜ (row .0 < wordValues) × (top .0 < wordValues) ⌝ }
-    ensures { λ r. ⌜ FoundBy kind (row .0) (found (top .0) (now (came .entry)) (now (goes .entry)))
-        (found (r .0) (now (came .exit)) (now (goes .exit))) × (r .0 < wordValues) ⌝ }
+    ensures { λ r. ⌜ (found (r .0) (now (came .exit)) (now (goes .exit))
+        ≡ foundBy part (row .0) (found (top .0) (now (came .entry)) (now (goes .entry)))) × (r .0 < wordValues) ⌝ }
 {
-    if (kind == kinds::IF) | (kind == kinds::REPEAT) {
-        put(goes, row, top);
-        return row;
+    match part {
+        Part::Assignment => top,
+        Part::If => {
+            put(goes, row, top);
+            row
+        }
+        Part::Else => {
+            let outer = partner_of(goes, top);
+            put(came, row, top);
+            put(goes, top, row);
+            put(goes, row, outer);
+            row
+        }
+        Part::EndIf => {
+            let outer = partner_of(goes, top);
+            put(came, row, top);
+            put(goes, top, row);
+            outer
+        }
+        Part::Repeat => {
+            put(goes, row, top);
+            row
+        }
+        Part::EndRepeat => {
+            let outer = partner_of(goes, top);
+            put(came, top, row);
+            put(goes, row, top);
+            outer
+        }
     }
-    if kind < kinds::ELSE {
-        return top;
-    }
-    let outer = partner_of(goes, top);
-    if kind == kinds::END_REPEAT {
-        put(came, top, row);
-        put(goes, row, top);
-        return outer;
-    }
-    put(came, row, top);
-    put(goes, top, row);
-    if kind == kinds::ELSE {
-        put(goes, row, outer);
-        return row;
-    }
-    outer
 }
 
 pub fn find_partners(words: &[u16], extent: Extent, came: &mut [u16], goes: &mut [u16])
@@ -70,8 +90,10 @@ pub fn find_partners(words: &[u16], extent: Extent, came: &mut [u16], goes: &mut
     let mut number: usize = 0;
     while number < rows {
         let row = RowNumber(number);
-        let line = sheet::row_words(words, extent.first, row);
-        top = partner_step(line.kind, row, top, came, goes);
+        let seen = rows::look(words, extent.first, row);
+        let form = seen.form;
+        let part = form.3;
+        top = partner_step(part, row, top, came, goes);
         number += 1;
     }
 }

@@ -1,28 +1,28 @@
 -- The blocks that are open, by their W alone: what the reader keeps of them, and that a row does to that what it does to the blocks.
 use Prim.Native.Nat.{ℕ, suc, _+_, _*_, _-_, _<_, max}
-use mathlib.Core.Path.{_≡_, refl, sym, ap, _∙_}
+use mathlib.Core.Path.{_≡_, refl, sym, _∙_}
 use mathlib.Core.Bool.{Bool, true, false}
 use mathlib.Core.List.{List, [], _∷_}
-use mathlib.Core.Option.{Option, none, some}
 use lib.ListN.{length, getD, set}
 use lib.Seq.{getD-set-same, getD-set-other}
 use lib.Dec.{ltb}
 use native.Mathlib.Omega.{arith}
 use Rattle.sheet.specs.Bounds.{limit}
-use Rattle.sheet.specs.Refusals.{Refusal, Answer, refused, given, _>>=_, badRow, badBlock}
+use Rattle.sheet.specs.Refusals.{Answer, refused, given, badBlock}
 use Rattle.sheet.specs.Tree.{Tree, done, one, fork, again, basic, ifLine, elseLine, endIf, repeat, endRepeat}
-use Rattle.sheet.specs.Rows.{Assignment, Test, SheetLine, Row, Kind, kindOf, wordsFit}
+use Rattle.sheet.specs.Rows.{Assignment, Test, SheetLine}
 use Rattle.sheet.specs.LongestRun.{longestRun}
 use Rattle.sheet.specs.Reading.{Item, row, branches, repeated, Block, inFirst, inSecond, inRepeat, closed, RowsTaken}
-use Rattle.sheet.specs.Reading.{unless, lineBy, lineOf, entered, splitAt, ifEndedAt, repeatEndedAt, taken}
-use Rattle.sheet.specs.inner.Steps.{partOf, saturated, enterOf, splitOf, ifEndOf, repeatEndOf, stepOf, stepOr}
+use Rattle.sheet.specs.Reading.{entered, splitAt, ifEndedAt, repeatEndedAt, taken}
+use Rattle.sheet.specs.inner.Kinds.{partOf}
+use Rattle.sheet.specs.inner.Steps.{saturated, enterOf, splitOf, ifEndOf, repeatEndOf, stepOf}
 use Rattle.sheet.specs.declared.Open.{Open}
 use Rattle.sheet.specs.declared.Open.the-variants as block
 use Rattle.sheet.specs.declared.Level.{Level}
 use Rattle.sheet.specs.declared.Step.{Step}
 use Rattle.sheet.specs.declared.Step.the-variants as step
 use Rattle.sheet.proofs.Judgements.{ltb-tells}
-use Rattle.sheet.proofs.ReadingParts.{not-given}
+use Rattle.sheet.proofs.PartsRead.{turnsOf}
 use Rattle.sheet.proofs.Saturated.{saturated-sum, saturated-larger, saturated-product}
 
 -- ---- what is kept
@@ -87,7 +87,6 @@ pub record Next (answer : Answer RowsTaken) (depth : ℕ) (l : Level) (Stands : 
 
 -- what a step has to say of the row's answer: blocks of some depth, with their levels, were open before
 abbrev pub Follows : (place depth : ℕ) (levels : List Level) (inner : Level) → Step → Answer RowsTaken → Type 0
-Follows place depth levels inner step.BadRow answer = answer ≡ refused (badRow place)
 Follows place depth levels inner step.BadBlock answer = answer ≡ refused (badBlock place)
 Follows place depth levels inner (step.Stay l) answer = Next answer depth l (Stand levels)
 Follows place depth levels inner (step.Enter l) answer =
@@ -175,8 +174,8 @@ module _ (place : ℕ) (levels : List Level) where
     abbrev FollowedBy : Step → Answer RowsTaken → Type 0
     FollowedBy = Follows place (length blocks) levels (levelOf blocks items)
 
-    line-follows : (line : SheetLine)
-        → FollowedBy (stepOr (partOf (given line)) (length blocks) (levelOf blocks items) (outerLevel blocks)) (taken line place blocks items)
+    pub line-follows : (line : SheetLine)
+        → FollowedBy (stepOf (partOf line) (turnsOf line) (length blocks) (levelOf blocks items) (outerLevel blocks)) (taken line place blocks items)
     unfolding stepOf taken
     line-follows (basic b) =
         record {
@@ -191,28 +190,3 @@ module _ (place : ℕ) (levels : List Level) where
     line-follows endIf = if-ended-follows blocks items stands
     line-follows (repeat m) = entered-follows blocks items stands (inRepeat m items) (block.Turns (suc m)) refl refl _ refl
     line-follows endRepeat = repeat-ended-follows blocks items stands
-
-    by-line : (answer : Answer SheetLine) → ((r : Refusal) → answer ≡ refused r → r ≡ badRow place)
-        → FollowedBy (stepOr (partOf answer) (length blocks) (levelOf blocks items) (outerLevel blocks))
-        (answer >>= λ line. taken line place blocks items)
-    unfolding stepOf
-    by-line (refused r) only = ap refused (only r refl)
-    by-line (given line) only = line-follows line
-
--- a row is refused by 5 alone
-only-refusal : {A : Type 0} (test : Bool) (why r : Refusal) (a : A) → (unless test why >>= λ _. given a) ≡ refused r → r ≡ why
-only-refusal true why r a e = not-given (sym e)
-only-refusal false why r a e = cc
-
-row-refused : (v k : ℕ) (o : Option Kind) (r : Row) (place : ℕ) (why : Refusal) → lineBy v k o r place ≡ refused why → why ≡ badRow place
-unfolding lineBy
-row-refused v k none r place why e = cc
-row-refused v k (some kind) r place why e = only-refusal (wordsFit v k kind r) (badRow place) why _ e
-
-pub row-follows : (v k place : ℕ) (levels : List Level) (blocks : List Block) (items : List Item) → Stand levels blocks → (r : Row)
-    → Follows place (length blocks) levels (levelOf blocks items)
-    (stepOr (partOf (lineOf v k r place)) (length blocks) (levelOf blocks items) (getD levels (length blocks) bottom))
-    (lineOf v k r place >>= λ line. taken line place blocks items)
-unfolding lineOf
-row-follows v k place levels blocks items stands r =
-    by-line place levels blocks items stands (lineOf v k r place) (row-refused v k (kindOf (r .kind)) r place)

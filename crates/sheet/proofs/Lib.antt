@@ -21,5 +21,6 @@ pub mod Levels
 pub mod RowsFollowed
 pub mod ShapeRead
 -- what the layers above cite
+pub mod LinesByPart
 pub mod TreeInWords
 pub mod ReaderLaws

@@ -1,116 +1,228 @@
--- A row by the code's table of forms, and as the blocks see it.
-use Prim.Native.Nat.{ℕ, zero, suc, _-_, _≤_, _<_}
-use mathlib.Core.Path.{_≡_, refl, sym, ap}
-use mathlib.Core.Bool.{Bool, true, false}
+-- A row by the code's table of kinds: its rule, and what it is to the blocks.
+use Prim.Native.Nat.{ℕ, zero, suc, _+_, _-_, _≤_, _<_}
+use mathlib.Core.Path.{_≡_, refl, sym, ap, _∙_}
+use mathlib.Core.Bool.{Bool, true, false, _&&_}
 use mathlib.Core.List.{List, [], _∷_, map}
 use mathlib.Core.Option.{Option, none, some}
-use lib.ListN.{length, getD, getElem?}
+use lib.ListN.{length, length-set, getD, getElem?, set}
+use lib.Seq.{getD-set-same, getD-set-other}
+use lib.Dec.{leb, ltb, eqb}
 use native.Mathlib.Numerals.{sub-one}
 use native.Mathlib.Omega.{arith}
-use Rattle.sheet.specs.Refusals.{given}
-use Rattle.sheet.specs.Rows.{Slot, variable, constant, turns, unused, Row, Kind, kinds, kindOf, wordsFit}
+use native.Mathlib.Decide.{decLe}
+use borrow.Author.Tests.{le-leb, lt-leb, lt-ltb, le-ltb, ne-eqb}
+use Rattle.sheet.specs.Bounds.{limit}
+use Rattle.sheet.specs.Refusals.{Answer, refused, given, badRow}
+use Rattle.sheet.specs.Tree.{basic, ifLine, elseLine, endIf, repeat, endRepeat}
+use Rattle.sheet.specs.Rows.{Slot, variable, constant, turns, unused, SheetLine, Row, fits, Kind, kinds, kindOf, wordsFit}
 use Rattle.sheet.specs.Reading.{lineBy, lineOf}
-use Rattle.sheet.specs.inner.Steps.{slotOf, slotSaid, formOf, forms, noForm, formFits, fitsKind, rowFits, partOf, partFor, partIf}
-use Rattle.sheet.specs.declared.Form.{Form}
-use Rattle.sheet.specs.declared.Part.the-variants as part
+use Rattle.sheet.specs.inner.Kinds.{slotOf, partOf, formOf, formBy, formFor, noForm, partFor}
+use Rattle.sheet.specs.inner.Steps.{leastOf, beyondOf, ruleOf, noRule, ruleBy, RulesFor, inRange, fitsRule, fitsKind, rowFits, stepOf}
+use Rattle.sheet.specs.declared.kinds.Form.{Form}
+use Rattle.sheet.specs.declared.Rule.{Rule}
+use Rattle.sheet.specs.declared.Level.{Level}
+use Rattle.sheet.specs.declared.kinds.Part.the-variants as part
 use Rattle.sheet.proofs.EachKind.{each-kind, _then_, end}
 use Rattle.sheet.proofs.RowsBack.{each-fits, turns-above-0}
 
--- ---- the table of forms
+-- ---- the look-up
 
-slot-back : (s : Slot) → slotSaid (slotOf s) ≡ s
-slot-back variable = refl
-slot-back constant = refl
-slot-back turns = refl
-slot-back unused = refl
+in-table : (table : List Kind) (i : ℕ) (other : Form) → i < length table → getD (map formOf table) i other ≡ formBy (getElem? table i)
+in-table [] i other l = absurd (omega arith)
+in-table (kind ∷ table) zero other l = refl
+in-table (kind ∷ table) (suc i) other l = in-table table i other (omega arith)
 
-form-same : (v k : ℕ) (kind : Kind) (r : Row) → formFits v k (formOf kind) r ≡ wordsFit v k kind r
-unfolding wordsFit
-form-same v k kind r = rw (slot-back (kind .d), slot-back (kind .a), slot-back (kind .b))
+beyond-table : (table : List Kind) (i : ℕ) → length table ≤ i → getElem? table i ≡ none
+beyond-table [] i l = refl
+beyond-table (kind ∷ table) zero l = absurd (omega arith)
+beyond-table (kind ∷ table) (suc i) l = beyond-table table i (omega arith)
 
--- a kind of a table, and its form in the table of forms
-record Entry (table : List Kind) (i : ℕ) : Type 0 where
+pub no-kind-above : (n : ℕ) → length kinds < n → kindOf n ≡ none
+unfolding kindOf
+no-kind-above zero l = absurd (omega arith)
+no-kind-above (suc i) l = beyond-table kinds i (omega arith)
+
+pub no-form-below : (n : ℕ) → n < 1 → noForm ≡ formFor n
+unfolding formFor kindOf
+no-form-below zero l = refl
+no-form-below (suc i) l = absurd (omega arith)
+
+pub no-form-above : (n : ℕ) → length kinds < n → noForm ≡ formFor n
+unfolding formFor
+no-form-above n l = rw (no-kind-above n l)
+
+pub form-there : (n : ℕ) (other : Form) → 1 ≤ n → n ≤ length kinds → getD (map formOf kinds) (n - 1) other ≡ formFor n
+unfolding formFor kindOf
+form-there zero other l m = absurd (omega arith)
+form-there (suc i) other l m = rw sub-one (in-table kinds i other (omega arith))
+
+record There (n : ℕ) : Type 0 where
   kind : Kind
-  is : getElem? table i ≡ some kind
-  form : getD (map formOf table) i noForm ≡ formOf kind
+  is : kindOf n ≡ some kind
 
-entry : (table : List Kind) (i : ℕ) → i < length table → Entry table i
-entry [] i l = absurd (omega arith)
-entry (kind ∷ table) zero l = record { kind = kind; is = refl; form = refl }
-entry (kind ∷ table) (suc i) l = let e = entry table i (omega arith) in record { kind = e .kind; is = e .is; form = e .form }
+kind-there : (n : ℕ) → 1 ≤ n → n ≤ length kinds → There n
+unfolding kindOf
+kind-there zero l m = absurd (omega arith)
+kind-there (suc i) l m = by kinds i (omega arith) refl
+  where
+    by : (table : List Kind) (j : ℕ) → j < length table → getElem? kinds i ≡ getElem? table j → There (suc i)
+    by [] j l e = absurd (omega arith)
+    by (kind ∷ table) zero l e = record { kind = kind; is = e }
+    by (kind ∷ table) (suc j) l e = by table j (omega arith) e
 
-no-entry : (table : List Kind) (i : ℕ) → length table ≤ i → getElem? table i ≡ none
-no-entry [] i l = refl
-no-entry (kind ∷ table) zero l = absurd (omega arith)
-no-entry (kind ∷ table) (suc i) l = no-entry table i (omega arith)
+-- ---- the rules
 
-module _ (v k : ℕ) (r : Row) where
-  -- whether a row fits, by its kind's place in the table
-  by-table : (n : ℕ) → 1 ≤ n → n ≤ length kinds → formFits v k (getD forms (n - 1) noForm) r ≡ fitsKind v k (kindOf n) r
-  unfolding kindOf
-  by-table zero l m = absurd (omega arith)
-  by-table (suc i) l m = let e = entry kinds i (omega arith) in rw (sub-one, e .form, e .is) (form-same v k (e .kind) r)
+at-most : (n word : ℕ) → ltb word (suc n) ≡ leb word n
+at-most n word = by (decLe word n)
+  where
+    by : Dec (word ≤ n) → ltb word (suc n) ≡ leb word n
+    by (yes h) = rw (lt-ltb word (suc n) (omega arith), le-leb word n h)
+    by (no h) = rw (le-ltb word (suc n) (omega arith), lt-leb word n (omega arith))
 
-  above-table : (n : ℕ) → length kinds < n → fitsKind v k (kindOf n) r ≡ false
-  unfolding kindOf
-  above-table zero l = absurd (omega arith)
-  above-table (suc i) l = rw (no-entry kinds i (omega arith))
+module _ (v k : ℕ) where
+  in-range : (s : Slot) (word : ℕ) → inRange (leastOf (slotOf s)) (beyondOf v k (slotOf s)) word ≡ fits v k s word
+  unfolding fits
+  in-range variable word = rw (le-leb 0 word (omega arith))
+  in-range constant word = rw (le-leb 0 word (omega arith))
+  in-range turns word = rw (at-most (limit .turns) word)
+  in-range unused zero = refl
+  in-range unused (suc word) = rw (le-leb 0 (suc word) (omega arith), le-ltb (suc word) 1 (omega arith), ne-eqb (suc word) 0 (λ e. omega arith))
 
-  module _ (kind : ℕ) (is : kind ≡ r .kind) where
-    pub below-all-kinds : kind < 1 → false ≡ rowFits v k r
-    unfolding rowFits kindOf
-    below-all-kinds l = let none : r .kind ≡ 0 = omega arith in rw none
+  -- a word without a least of its own
+  below : (s : Slot) (word : ℕ) → leastOf (slotOf s) ≡ 0 → ltb word (beyondOf v k (slotOf s)) ≡ fits v k s word
+  below s word e = sym (ap (λ least. inRange least (beyondOf v k (slotOf s)) word) e ∙ rw (le-leb 0 word (omega arith))) ∙ in-range s word
 
-    pub above-all-kinds : length kinds < kind → false ≡ rowFits v k r
+  module _ (r : Row) where
+    -- the third word of no kind is a repeat's count
+    kind-fits : (kind : Kind) → leastOf (slotOf (kind .b)) ≡ 0 → fitsRule (ruleOf v k (formOf kind)) r ≡ wordsFit v k kind r
+    unfolding wordsFit
+    kind-fits kind e = rw (in-range (kind .d) (r .d), in-range (kind .a) (r .a), below (kind .b) (r .b) e)
+
+    none-fits : fitsRule noRule r ≡ false
+    none-fits = rw (le-leb 0 (r .d) (omega arith), le-ltb (r .d) 0 (omega arith))
+
+    rule-fits : (n : ℕ) → fitsRule (ruleBy v k (kindOf n)) r ≡ fitsKind v k (kindOf n) r
+    rule-fits =
+        each-kind (λ n o. fitsRule (ruleBy v k o) r ≡ fitsKind v k o r) (λ n. none-fits)
+        (kind-fits _ refl
+        then kind-fits _ refl
+        then kind-fits _ refl
+        then kind-fits _ refl
+        then kind-fits _ refl
+        then kind-fits _ refl
+        then kind-fits _ refl
+        then kind-fits _ refl
+        then kind-fits _ refl
+        then kind-fits _ refl
+        then kind-fits _ refl
+        then end)
+
+    pub above-all-kinds : length kinds < r .kind → rowFits v k r ≡ false
     unfolding rowFits
-    above-all-kinds l = sym (above-table (r .kind) (omega arith))
+    above-all-kinds l = rw (no-kind-above (r .kind) l)
 
-    pub of-a-kind : (form : Form) (fit : Bool) → 1 ≤ kind → kind ≤ length kinds → form ≡ getD forms (kind - 1) noForm → fit ≡ formFits v k form r
-        → fit ≡ rowFits v k r
-    unfolding rowFits
-    of-a-kind form fit l m isForm isFit = rw (isFit, isForm, is) (by-table (r .kind) (omega arith) (omega arith))
+    -- by the rule that was looked up
+    module _ (rules : List Rule) (made : RulesFor v k rules) (kind : ℕ) (is : kind ≡ r .kind) (within : kind ≤ length kinds) where
+      pub fits-by-rule : fitsRule (getD rules kind noRule) r ≡ rowFits v k r
+      unfolding rowFits
+      fits-by-rule = rw (made kind within, is) (rule-fits (r .kind))
+
+      pub part-by-rule : rowFits v k r ≡ true → getD rules kind noRule .part ≡ partFor (r .kind)
+      unfolding rowFits formFor
+      part-by-rule e = rw (made kind within, is) (by (kindOf (r .kind)) e)
+        where
+          by : (o : Option Kind) → fitsKind v k o r ≡ true → ruleBy v k o .part ≡ formBy o .3
+          by none e = refl
+          by (some kind) e = refl
+
+-- the rules as far as they are made
+pub record Made (v k : ℕ) (rules : List Rule) (kind : ℕ) : Type 0 where
+  pub room : length rules ≡ suc (length kinds)
+  pub upTo : (n : ℕ) → n < kind → getD rules n noRule ≡ ruleBy v k (kindOf n)
+  pub some-made : 1 ≤ kind
+
+pub made-starts : (v k : ℕ) (rules : List Rule) → length rules ≡ suc (length kinds) → getD rules 0 noRule ≡ noRule → Made v k rules 1
+unfolding kindOf
+made-starts v k rules room first = record { room = room; upTo = by; some-made = omega arith }
+  where
+    by : (n : ℕ) → n < 1 → getD rules n noRule ≡ ruleBy v k (kindOf n)
+    by zero l = first
+    by (suc n) l = absurd (omega arith)
+
+pub made-on : {v k : ℕ} {rules : List Rule} {kind : ℕ} → Made v k rules kind → (rule : Rule) → kind ≤ length kinds
+    → rule ≡ ruleOf v k (formFor kind) → Made v k (set rules kind rule) (kind + 1)
+unfolding formFor
+made-on {v} {k} {rules} {kind} made rule l e =
+    record {
+      room = simp length-set (made .room);
+      upTo = λ n below-next. by n (decLe kind n) below-next;
+      some-made = omega arith;
+    }
+  where
+    by : (n : ℕ) → Dec (kind ≤ n) → n < kind + 1 → getD (set rules kind rule) n noRule ≡ ruleBy v k (kindOf n)
+    by n (yes h) m =
+        let same : n ≡ kind = omega arith in
+        let there = kind-there kind (made .some-made) l in
+        rw same (getD-set-same rules kind rule noRule (omega (arith, made .room)) ∙ e ∙ rw (there .is))
+    by n (no h) m = getD-set-other rules kind n rule noRule (λ e. omega arith) ∙ made .upTo n (omega arith)
 
 -- ---- as the blocks see it
+
+-- what a line is to the blocks besides: a repeat's count
+abbrev pub turnsOf : SheetLine → ℕ
+turnsOf (basic b) = 0
+turnsOf (ifLine f) = 0
+turnsOf elseLine = 0
+turnsOf endIf = 0
+turnsOf (repeat m) = suc m
+turnsOf endRepeat = 0
+
+-- a row does to the blocks what its line does
+abbrev SameStep : Row → SheetLine → Type 0
+SameStep r line = (depth : ℕ) (inner outer : Level)
+    → stepOf (partFor (r .kind)) (r .a) depth inner outer ≡ stepOf (partOf line) (turnsOf line) depth inner outer
+
+pub data Judged (place : ℕ) (r : Row) : Bool → Answer SheetLine → Type 0 where
+  unfit : Judged place r false (refused (badRow place))
+  fit : (line : SheetLine) → SameStep r line → Judged place r true (given line)
 
 module _ (v k place d a b : ℕ) where
   abbrev rowOfKind : ℕ → Row
   rowOfKind n = record { kind = n; d = d; a = a; b = b }
 
   abbrev Seen : ℕ → Option Kind → Type 0
-  Seen n o = partOf (lineBy v k o (rowOfKind n) place) ≡ partIf (fitsKind v k o (rowOfKind n)) (partFor n a)
+  Seen n o = Judged place (rowOfKind n) (fitsKind v k o (rowOfKind n)) (lineBy v k o (rowOfKind n) place)
 
-  -- a row of a kind, once its words are judged
-  seen : (n : ℕ) {kind : Kind} → kindOf n ≡ some kind
-      → (wordsFit v k kind (rowOfKind n) ≡ true → partOf (given (kind .means d a b)) ≡ some (partFor n a)) → Seen n (some kind)
+  seen : (n : ℕ) (kind : Kind) → (wordsFit v k kind (rowOfKind n) ≡ true → SameStep (rowOfKind n) (kind .means d a b)) → Seen n (some kind)
   unfolding lineBy
-  seen n {kind} is means = by (wordsFit v k kind (rowOfKind n)) refl
+  seen n kind same = by (wordsFit v k kind (rowOfKind n)) refl
     where
-      by : (fit : Bool) → wordsFit v k kind (rowOfKind n) ≡ fit → Seen n (some kind)
-      by true e = rw e (means e)
-      by false e = rw e
+      by : (fits : Bool) → wordsFit v k kind (rowOfKind n) ≡ fits → Seen n (some kind)
+      by true e = rw e (fit _ (same e))
+      by false e = rw e unfit
 
   not-seen : (n : ℕ) → Seen n none
   unfolding lineBy
-  not-seen n = refl
+  not-seen n = unfit
 
   -- a repeat's count is not 0, so that it comes back from its line
   seen-by-kind : (n : ℕ) → Seen n (kindOf n)
-  unfolding kindOf partFor
+  unfolding formFor stepOf
   seen-by-kind =
       each-kind Seen not-seen
-      (seen 1 refl (λ fit. refl)
-      then seen 2 refl (λ fit. refl)
-      then seen 3 refl (λ fit. refl)
-      then seen 4 refl (λ fit. refl)
-      then seen 5 refl (λ fit. refl)
-      then seen 6 refl (λ fit. refl)
-      then seen 7 refl (λ fit. refl)
-      then seen 8 refl (λ fit. refl)
-      then seen 9 refl (λ fit. refl)
-      then seen 10 refl (λ fit. ap (λ m. some (part.Repeat m)) (turns-above-0 v k a (each-fits v k _ _ fit .1)))
-      then seen 11 refl (λ fit. refl)
+      (seen 1 _ (λ fit depth inner outer. refl)
+      then seen 2 _ (λ fit depth inner outer. refl)
+      then seen 3 _ (λ fit depth inner outer. refl)
+      then seen 4 _ (λ fit depth inner outer. refl)
+      then seen 5 _ (λ fit depth inner outer. refl)
+      then seen 6 _ (λ fit depth inner outer. refl)
+      then seen 7 _ (λ fit depth inner outer. refl)
+      then seen 8 _ (λ fit depth inner outer. refl)
+      then seen 9 _ (λ fit depth inner outer. refl)
+      then seen 10 _ (λ fit depth inner outer. ap (λ m. stepOf part.Repeat m depth inner outer) (sym (turns-above-0 v k a (each-fits v k _ _ fit .1))))
+      then seen 11 _ (λ fit depth inner outer. refl)
       then end)
 
-pub part-seen : (v k : ℕ) (r : Row) (place : ℕ) → partOf (lineOf v k r place) ≡ partIf (rowFits v k r) (partFor (r .kind) (r .a))
+pub row-judged : (v k place : ℕ) (r : Row) → Judged place r (rowFits v k r) (lineOf v k r place)
 unfolding lineOf rowFits
-part-seen v k r place = seen-by-kind v k place (r .d) (r .a) (r .b) (r .kind)
+row-judged v k place r = seen-by-kind v k place (r .d) (r .a) (r .b) (r .kind)

@@ -9,29 +9,40 @@ use native.Mathlib.Decide.{decLe}
 use native.Mathlib.Omega.{arith}
 use native.Mathlib.Numerals.{add-one, sub-one}
 use Rattle.sheet.specs.Bounds.{limit}
-use Rattle.sheet.specs.Refusals.{Refusal, Answer, refused, given, _>>=_, badBlock}
+use Rattle.sheet.specs.Refusals.{Refusal, Answer, refused, given, _>>=_, badRow, badBlock}
 use Rattle.sheet.specs.Rows.{SheetLine, Row}
 use Rattle.sheet.specs.LongestRun.{longestRun}
 use Rattle.sheet.specs.Reading.{Item, Block, RowsTaken, closed, rowAt, rowsAt, lineOf, taken, bodyOf}
-use Rattle.sheet.specs.inner.Steps.{rowFits, partOf, partFor, partIf, saturated, stepOf, stepOr, judgedBy, rowStep, bodySaid, afterRowsOf, bodyRun}
-use Rattle.sheet.specs.declared.Part.{Part}
+use Rattle.sheet.specs.inner.Kinds.{partOf, partFor}
+use Rattle.sheet.specs.inner.Steps.{rowFits, saturated, stepOf, bodySaid, afterRowsOf, bodyRun}
 use Rattle.sheet.specs.declared.Level.{Level}
 use Rattle.sheet.specs.declared.Step.{Step}
 use Rattle.sheet.specs.declared.Step.the-variants as step
 use Rattle.sheet.proofs.Judgements.{bind-assoc}
-use Rattle.sheet.proofs.PartsRead.{part-seen}
-use Rattle.sheet.proofs.Levels.{levelOf, bottom, Stand, Next, Follows, itemsRun, closed-done, row-follows}
+use Rattle.sheet.proofs.PartsRead.{turnsOf, Judged, unfit, fit, row-judged}
+use Rattle.sheet.proofs.Levels.{levelOf, bottom, Stand, Next, Follows, itemsRun, closed-done, line-follows}
 
-judged-step : (fit : Bool) (part : Part) (depth : ℕ) (inner outer : Level)
-    → judgedBy fit (stepOf part depth inner outer) ≡ stepOr (partIf fit part) depth inner outer
-judged-step true part depth inner outer = refl
-judged-step false part depth inner outer = refl
+-- a row that fits says a line, which does to the blocks what the row does; one that doesn't is refused by 5
+pub record Says (v k place : ℕ) (r : Row) : Type 0 where
+  pub line : SheetLine
+  pub is : lineOf v k r place ≡ given line
+  pub same : (depth : ℕ) (inner outer : Level)
+      → stepOf (partFor (r .kind)) (r .a) depth inner outer ≡ stepOf (partOf line) (turnsOf line) depth inner outer
 
--- a row's step is that of its line
-row-step : (v k : ℕ) (r : Row) (place depth : ℕ) (inner outer : Level)
-    → rowStep v k r depth inner outer ≡ stepOr (partOf (lineOf v k r place)) depth inner outer
-unfolding rowStep
-row-step v k r place depth inner outer = rw (part-seen v k r place) (judged-step (rowFits v k r) (partFor (r .kind) (r .a)) depth inner outer)
+module _ (v k place : ℕ) (r : Row) where
+  says-line : rowFits v k r ≡ true → Says v k place r
+  says-line = by (row-judged v k place r) refl
+    where
+      by : {fits : Bool} {answer : Answer SheetLine} → Judged place r fits answer → lineOf v k r place ≡ answer → fits ≡ true → Says v k place r
+      by unfit is e = let z : _≡_ {A = ℕ} 0 1 = cc in absurd (omega arith)
+      by (fit line same) is e = record { line = line; is = is; same = same }
+
+  says-none : rowFits v k r ≡ false → lineOf v k r place ≡ refused (badRow place)
+  says-none = by (row-judged v k place r)
+    where
+      by : {fits : Bool} {answer : Answer SheetLine} → Judged place r fits answer → fits ≡ false → answer ≡ refused (badRow place)
+      by unfit e = refl
+      by (fit line same) e = let z : _≡_ {A = ℕ} 0 1 = cc in absurd (omega arith)
 
 module _ (v k : ℕ) where
   -- the answer of one row
@@ -116,11 +127,16 @@ module _ {words : List ℕ} {first count v k : ℕ} {levels : List Level} {depth
   abbrev pub rowHere : Answer RowsTaken
   rowHere = rowTaken v k (rowAt words place) place (going .blocks) (going .items)
 
-  pub step-follows : (row : Row) (s : Step) → row ≡ rowAt words place → s ≡ rowStep v k row depth inner (getD levels depth bottom)
+  pub unfit-refused : rowFits v k (rowAt words place) ≡ false → rowHere ≡ refused (badRow place)
+  unfit-refused e = rw (says-none v k place (rowAt words place) e)
+
+  pub step-follows : (s : Step) → rowFits v k (rowAt words place) ≡ true
+      → s ≡ stepOf (partFor (rowAt words place .kind)) (rowAt words place .a) depth inner (getD levels depth bottom)
       → Follows place depth levels inner s rowHere
-  step-follows row s isRow is =
-      rw (is, isRow, row-step v k (rowAt words place) place, going .here, ← going .deep)
-      (row-follows v k place levels (going .blocks) (going .items) (going .stands) (rowAt words place))
+  step-follows s fits is =
+      let says = says-line v k place (rowAt words place) fits in
+      rw (is, says .same, says .is, going .here, ← going .deep)
+      (line-follows place levels (going .blocks) (going .items) (going .stands) (says .line))
 
   module _ (some : 0 < left) where
     from-here : wholeRun words first count v k ≡ (rowHere >>= restRun v k (rowsAt words (place + limit .rowWords) (left - 1)) place)

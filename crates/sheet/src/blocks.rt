@@ -5,20 +5,18 @@ ghost use mathlib.Core.List.{[]};
 ghost use lib.ListN.{length};
 ghost use Rattle.sheet.specs.Bounds.{limit};
 ghost use Rattle.sheet.specs.Reading.{rowsAt};
-ghost use Rattle.sheet.specs.Answers.{rowSaid};
-ghost use Rattle.sheet.specs.inner.Steps.{partFor, saturated, counted, enterOf, splitOf, ifEndOf, repeatEndOf, stepOf};
-ghost use Rattle.sheet.specs.inner.Steps.{breaksBlock, judgedBy, rowStep, bodySaid, afterRowsOf, bodyRun};
+ghost use Rattle.sheet.specs.inner.Steps.{saturated, counted, enterOf, splitOf, ifEndOf, repeatEndOf, stepOf};
+ghost use Rattle.sheet.specs.inner.Steps.{bodySaid, afterRowsOf, bodyRun};
 use super::Body;
 use super::Level;
 use super::MAX_DEPTH;
 use super::MAX_LONGEST;
 use super::No;
 use super::Open;
-use super::Part;
 use super::ROW_WORDS;
-use super::RowWords;
 use super::Step;
 use super::kinds;
+use super::kinds::Part;
 use super::row_at;
 use super::rows;
 use super::wide;
@@ -27,20 +25,6 @@ const OUTERMOST: Level = Level {
     block: Open::Outermost,
     longest: 0,
 };
-
-// What a row is to the blocks, by its kind alone: a row of no kind opens and closes none.
-fn part_for(kind: u16, a: u16) -> Part
-    ensures { λ r. ⌜ r ≡ partFor kind a ⌝ }
-{
-    match kind {
-        kinds::IF => Part::If,
-        kinds::ELSE => Part::Else,
-        kinds::END_IF => Part::EndIf,
-        kinds::REPEAT => Part::Repeat(a),
-        kinds::END_REPEAT => Part::EndRepeat,
-        _ => Part::Assignment,
-    }
-}
 
 // W, or one above its bound: eight nested repeats of 1000 go beyond any integer.
 fn capped(longest: usize) -> u16
@@ -114,8 +98,8 @@ fn end_repeat(block: Open, longest: u16, outer: Level) -> Step
 }
 
 // What a row does to the block that is being read, `depth` levels deep, and to the one outside it.
-fn follow(part: Part, depth: usize, inner: Level, outer: Level) -> Step
-    ensures { λ r. ⌜ r ≡ stepOf part depth inner outer ⌝ }
+fn follow(part: Part, turns: u16, depth: usize, inner: Level, outer: Level) -> Step
+    ensures { λ r. ⌜ r ≡ stepOf part turns depth inner outer ⌝ }
 {
     let block = inner.block;
     let longest = inner.longest;
@@ -124,50 +108,9 @@ fn follow(part: Part, depth: usize, inner: Level, outer: Level) -> Step
         Part::If => enter(depth, Open::First),
         Part::Else => split(block, longest),
         Part::EndIf => end_if(block, longest, outer),
-        Part::Repeat(turns) => enter(depth, Open::Turns(turns)),
+        Part::Repeat => enter(depth, Open::Turns(turns)),
         Part::EndRepeat => end_repeat(block, longest, outer),
     }
-}
-
-fn breaks_block(step: Step) -> bool
-    ensures { λ r. ⌜ r ≡ breaksBlock step ⌝ }
-{
-    match step {
-        Step::BadRow => false,
-        Step::BadBlock => true,
-        Step::Stay(_) => false,
-        Step::Enter(_) => false,
-        Step::Leave(_) => false,
-    }
-}
-
-// A row's two refusals in their order: 5 comes before 6.
-fn judged(fit: bool, step: Step) -> Step
-    ensures { λ r. ⌜ r ≡ judgedBy fit step ⌝ }
-{
-    let broken = breaks_block(step);
-    if !fit {
-        return Step::BadRow;
-    }
-    if broken {
-        return Step::BadBlock;
-    }
-    step
-}
-
-fn row_step(
-    row: RowWords,
-    variables: usize,
-    constants: usize,
-    depth: usize,
-    inner: Level,
-    outer: Level,
-) -> Step
-    ensures { λ r. ⌜ r ≡ rowStep variables constants (rowSaid row) depth inner outer ⌝ }
-{
-    let fit = rows::row_fits(row, variables, constants);
-    let part = part_for(row.kind, row.a);
-    judged(fit, follow(part, depth, inner, outer))
 }
 
 // After the rows: W, unless a block was never closed.
@@ -189,9 +132,11 @@ pub fn rows_read(
     variables: usize,
     constants: usize,
 ) -> Body
-    requires { ⌜ first + count * limit .rowWords ≤ length (now words) ⌝ }
+    requires { ⌜ (first + count * limit .rowWords ≤ length (now words))
+        × (variables ≤ limit .variables) × (constants ≤ limit .constants) ⌝ }
     ensures { λ r. ⌜ bodySaid r ≡ bodyRun variables constants (rowsAt (now (words .entry)) first count) first [] [] ⌝ }
 {
+    let rules = rows::rules_of(variables as u16, constants as u16);
     let mut levels = [OUTERMOST; MAX_DEPTH + 1];
     let mut depth: usize = 0;
     let mut inner = OUTERMOST;
@@ -199,21 +144,32 @@ pub fn rows_read(
     let mut left = count;
     while 0 < left {
         let row = row_at(words, place);
-        let step = row_step(row, variables, constants, depth, inner, levels[depth]);
+        let kind = wide(row.kind);
+        if kinds::LAST < kind {
+            return Body::Refused(No::BadRow(place));
+        }
+        let rule = rules[kind];
+        if !rows::row_fits(rule, row) {
+            return Body::Refused(No::BadRow(place));
+        }
+        let part = rule.part;
         let next = place + ROW_WORDS;
         let fewer = left - 1;
-        match step {
-            Step::BadRow => return Body::Refused(No::BadRow(place)),
-            Step::BadBlock => return Body::Refused(No::BadBlock(place)),
-            Step::Stay(level) => inner = level,
-            Step::Enter(level) => {
-                depth = depth + 1;
-                levels[depth] = inner;
-                inner = level;
-            }
-            Step::Leave(level) => {
-                depth = depth - 1;
-                inner = level;
+        if let Part::Assignment = part {
+            inner = counted(inner, 1);
+        } else {
+            match follow(part, row.a, depth, inner, levels[depth]) {
+                Step::BadBlock => return Body::Refused(No::BadBlock(place)),
+                Step::Stay(level) => inner = level,
+                Step::Enter(level) => {
+                    depth = depth + 1;
+                    levels[depth] = inner;
+                    inner = level;
+                }
+                Step::Leave(level) => {
+                    depth = depth - 1;
+                    inner = level;
+                }
             }
         }
         place = next;

@@ -1,4 +1,7 @@
-// The kinds of a sheet's rows, each by its number.
+// The kinds of a sheet's rows: each by its number, and one fixed table that says what a row of each kind is.
+ghost use mathlib.Core.Path.{_≡_};
+ghost use Rattle.sheet.specs.inner.Kinds.{formFor, namesVariable, assigns};
+
 pub const COPY: u16 = 1;
 
 pub const CONSTANT: u16 = 2;
@@ -20,3 +23,104 @@ pub const END_IF: u16 = 9;
 pub const REPEAT: u16 = 10;
 
 pub const END_REPEAT: u16 = 11;
+
+// They are 1 to 11: as many as `kinds` in specs/Rows.antt has.
+pub const LAST: usize = 11;
+
+// What a word of a row may be.
+pub enum Slot {
+    Variable,
+    Constant,
+    Turns,
+    Unused,
+}
+
+// What a row is to the blocks.
+pub enum Part {
+    Assignment,
+    If,
+    Else,
+    EndIf,
+    Repeat,
+    EndRepeat,
+}
+
+// What the three words after the kind are, d, a and b, and what the row is to the blocks.
+pub struct Form(pub Slot, pub Slot, pub Slot, pub Part);
+
+// What a number that is no kind's is taken for: its words name nothing, and it opens and closes no block.
+const NO_FORM: Form = Form(Slot::Unused, Slot::Unused, Slot::Unused, Part::Assignment);
+
+// The one table of kinds, for every layer: which of a row's three words name a variable, what the others are, and what its rows are to the blocks.
+pub fn form_of(kind: u16) -> Form
+    ensures { λ r. ⌜ r ≡ formFor kind ⌝ }
+{
+    match kind {
+        COPY => Form(
+            Slot::Variable,
+            Slot::Variable,
+            Slot::Unused,
+            Part::Assignment,
+        ),
+        CONSTANT => Form(
+            Slot::Variable,
+            Slot::Constant,
+            Slot::Unused,
+            Part::Assignment,
+        ),
+        SUM => Form(
+            Slot::Variable,
+            Slot::Variable,
+            Slot::Variable,
+            Part::Assignment,
+        ),
+        DIFFERENCE => Form(
+            Slot::Variable,
+            Slot::Variable,
+            Slot::Variable,
+            Part::Assignment,
+        ),
+        PRODUCT => Form(
+            Slot::Variable,
+            Slot::Variable,
+            Slot::Variable,
+            Part::Assignment,
+        ),
+        NEGATION => Form(
+            Slot::Variable,
+            Slot::Variable,
+            Slot::Unused,
+            Part::Assignment,
+        ),
+        IF => Form(Slot::Unused, Slot::Variable, Slot::Variable, Part::If),
+        ELSE => Form(Slot::Unused, Slot::Unused, Slot::Unused, Part::Else),
+        END_IF => Form(Slot::Unused, Slot::Unused, Slot::Unused, Part::EndIf),
+        REPEAT => Form(Slot::Unused, Slot::Turns, Slot::Unused, Part::Repeat),
+        END_REPEAT => Form(Slot::Unused, Slot::Unused, Slot::Unused, Part::EndRepeat),
+        _ => NO_FORM,
+    }
+}
+
+pub fn names_variable(slot: Slot) -> bool
+    ensures { λ r. ⌜ r ≡ namesVariable slot ⌝ }
+{
+    match slot {
+        Slot::Variable => true,
+        Slot::Constant => false,
+        Slot::Turns => false,
+        Slot::Unused => false,
+    }
+}
+
+pub fn assigns(part: Part) -> bool
+    ensures { λ r. ⌜ r ≡ assigns part ⌝ }
+{
+    match part {
+        Part::Assignment => true,
+        Part::If => false,
+        Part::Else => false,
+        Part::EndIf => false,
+        Part::Repeat => false,
+        Part::EndRepeat => false,
+    }
+}

@@ -126,24 +126,15 @@ enum Body {
     Longest(u16),
 }
 
-// What a word of a row may be, and what the three words after the kind may be: d, a and b.
-enum Slot {
-    Variable,
-    Constant,
-    Turns,
-    Unused,
-}
-
-struct Form(pub Slot, pub Slot, pub Slot);
-
-// A row as the blocks see it.
-enum Part {
-    Assignment,
-    If,
-    Else,
-    EndIf,
-    Repeat(u16),
-    EndRepeat,
+// What a row of a kind must be, in a sheet with so many variables and constants: each word from the least that it may be to below what it may not
+// be, and what the row is to the blocks.
+struct Rule {
+    pub least_d: u16,
+    pub d: u16,
+    pub least_a: u16,
+    pub a: u16,
+    pub b: u16,
+    pub part: kinds::Part,
 }
 
 // The block that is being read: the second branch knows the first one's W, a repeat its turns.
@@ -160,9 +151,8 @@ struct Level {
     pub longest: u16,
 }
 
-// What a row does to the blocks.
+// What a row that fits does to the blocks.
 enum Step {
-    BadRow,
     BadBlock,
     Stay(Level),
     Enter(Level),
@@ -255,8 +245,29 @@ pub fn word_at(words: &[u16], place: usize) -> u16
     0
 }
 
-// The row at a place. Words that are missing count as 0.
+// The row at a place.
 fn row_at(words: &[u16], place: usize) -> RowWords
+    requires { ⌜ place + limit .rowWords ≤ length (now words) ⌝ }
+    ensures { λ r. ⌜ rowSaid r ≡ rowAt (now (words .entry)) place ⌝ }
+{
+    let kind = words[place];
+    let d = words[place + 1];
+    let a = words[place + 2];
+    let b = words[place + 3];
+    RowWords { kind, d, a, b }
+}
+
+// A row, by its number among the rows that start at `first`.
+pub fn row_of(words: &[u16], first: usize, row: RowNumber) -> RowWords
+    requires { ⌜ first + (row .0 + 1) * limit .rowWords ≤ length (now words) ⌝ }
+    ensures { λ r. ⌜ rowSaid r ≡ rowAt (now (words .entry)) (first + row .0 * limit .rowWords) ⌝ }
+{
+    let number = row.0;
+    row_at(words, first + number * ROW_WORDS)
+}
+
+// The row at a place near the words. Words that are missing count as 0.
+fn row_near(words: &[u16], place: usize) -> RowWords
     requires { ⌜ place ≤ length (now words) * limit .rowWords ⌝ }
     ensures { λ r. ⌜ rowSaid r ≡ rowAt (now (words .entry)) place ⌝ }
 {
@@ -267,7 +278,7 @@ fn row_at(words: &[u16], place: usize) -> RowWords
     RowWords { kind, d, a, b }
 }
 
-// A row, by its number among the rows that start at `first`.
+// A row by its number that may not be there.
 pub fn row_words(words: &[u16], first: usize, row: RowNumber) -> RowWords
     ensures { λ r. ⌜ rowSaid r ≡ rowAt (now (words .entry)) (first + row .0 * limit .rowWords) ⌝ }
 {
@@ -278,5 +289,5 @@ pub fn row_words(words: &[u16], first: usize, row: RowNumber) -> RowWords
     if words.len() - first <= number {
         return NO_ROW;
     }
-    row_at(words, first + number * ROW_WORDS)
+    row_near(words, first + number * ROW_WORDS)
 }

@@ -1,83 +1,93 @@
 // A row by itself: whether it is of a kind and each of its words is what the kind asks for.
 ghost use mathlib.Core.Path.{_≡_};
-ghost use Prim.Native.Nat.{_-_, _≤_};
-ghost use lib.ListN.{length, getD};
-ghost use lib.Dec.{ltb};
-ghost use Rattle.sheet.specs.Rows.{kinds};
 ghost use Rattle.sheet.specs.Answers.{rowSaid};
-ghost use Rattle.sheet.specs.inner.Steps.{fitsSlot, forms, noForm, formFits, rowFits};
-use super::Form;
+ghost use Rattle.sheet.specs.inner.Steps.{leastOf, beyondOf, ruleOf, RulesFor, inRange, fitsRule};
 use super::MAX_TURNS;
 use super::RowWords;
-use super::Slot;
-use super::Variable;
-use super::wide;
+use super::Rule;
+use super::kinds;
+use super::kinds::Form;
+use super::kinds::Part;
+use super::kinds::Slot;
 
-// The kinds of a sheet's rows are 1 to 11: as many as `kinds` in specs/Rows.antt has.
-const KINDS: usize = 11;
-
-// One fixed table: for each kind, from 1 on, which of its three words name a variable, and what the others are.
-const FORMS: [Form; KINDS] = [
-    Form(Slot::Variable, Slot::Variable, Slot::Unused),
-    Form(Slot::Variable, Slot::Constant, Slot::Unused),
-    Form(Slot::Variable, Slot::Variable, Slot::Variable),
-    Form(Slot::Variable, Slot::Variable, Slot::Variable),
-    Form(Slot::Variable, Slot::Variable, Slot::Variable),
-    Form(Slot::Variable, Slot::Variable, Slot::Unused),
-    Form(Slot::Unused, Slot::Variable, Slot::Variable),
-    Form(Slot::Unused, Slot::Unused, Slot::Unused),
-    Form(Slot::Unused, Slot::Unused, Slot::Unused),
-    Form(Slot::Unused, Slot::Turns, Slot::Unused),
-    Form(Slot::Unused, Slot::Unused, Slot::Unused),
-];
-
-// Whether a variable is there.
-fn present(variable: Variable, variables: usize) -> bool
-    ensures { λ r. ⌜ r ≡ ltb (variable .0) variables ⌝ }
+// The least that a word may be.
+fn least(slot: Slot) -> u16
+    ensures { λ r. ⌜ r ≡ leastOf slot ⌝ }
 {
-    variable.0 < variables
-}
-
-// Whether a word is what its slot asks for.
-fn fits(slot: Slot, word: u16, variables: usize, constants: usize) -> bool
-    ensures { λ r. ⌜ r ≡ fitsSlot variables constants slot word ⌝ }
-{
-    let number = wide(word);
     match slot {
-        Slot::Variable => present(Variable(number), variables),
-        Slot::Constant => number < constants,
-        Slot::Turns => (1 <= number) & (number <= MAX_TURNS),
-        Slot::Unused => number == 0,
+        Slot::Variable => 0,
+        Slot::Constant => 0,
+        Slot::Turns => 1,
+        Slot::Unused => 0,
     }
 }
 
-fn form_of(kind: usize) -> Form
-    requires { ⌜ (1 ≤ kind) × (kind ≤ length kinds) ⌝ }
-    ensures { λ r. ⌜ r ≡ getD forms (kind - 1) noForm ⌝ }
+// What a word must stay below.
+fn beyond(slot: Slot, variables: u16, constants: u16) -> u16
+    ensures { λ r. ⌜ r ≡ beyondOf variables constants slot ⌝ }
 {
-    FORMS[kind - 1]
+    match slot {
+        Slot::Variable => variables,
+        Slot::Constant => constants,
+        Slot::Turns => (MAX_TURNS + 1) as u16,
+        Slot::Unused => 1,
+    }
 }
 
-fn words_fit(form: Form, row: RowWords, variables: usize, constants: usize) -> bool
-    ensures { λ r. ⌜ r ≡ formFits variables constants form (rowSaid row) ⌝ }
+fn rule_of(form: Form, variables: u16, constants: u16) -> Rule
+    ensures { λ r. ⌜ r ≡ ruleOf variables constants form ⌝ }
 {
     let of_d = form.0;
     let of_a = form.1;
     let of_b = form.2;
-    fits(of_d, row.d, variables, constants)
-        & fits(of_a, row.a, variables, constants)
-        & fits(of_b, row.b, variables, constants)
+    let part = form.3;
+    let least_d = least(of_d);
+    let d = beyond(of_d, variables, constants);
+    let least_a = least(of_a);
+    let a = beyond(of_a, variables, constants);
+    let b = beyond(of_b, variables, constants);
+    Rule {
+        least_d,
+        d,
+        least_a,
+        a,
+        b,
+        part,
+    }
 }
 
-pub fn row_fits(row: RowWords, variables: usize, constants: usize) -> bool
-    ensures { λ r. ⌜ r ≡ rowFits variables constants (rowSaid row) ⌝ }
+// No row is of kind 0.
+const NO_RULE: Rule = Rule {
+    least_d: 0,
+    d: 0,
+    least_a: 0,
+    a: 0,
+    b: 0,
+    part: Part::Assignment,
+};
+
+// Every kind's rule, from the table of kinds.
+pub fn rules_of(variables: u16, constants: u16) -> [Rule; kinds::LAST + 1]
+    ensures { λ r. ⌜ RulesFor variables constants r ⌝ }
 {
-    let kind = wide(row.kind);
-    if kind < 1 {
-        return false;
+    let mut rules = [NO_RULE; kinds::LAST + 1];
+    let mut kind: usize = 1;
+    while kind <= kinds::LAST {
+        let form = kinds::form_of(kind as u16);
+        rules[kind] = rule_of(form, variables, constants);
+        kind += 1;
     }
-    if KINDS < kind {
-        return false;
-    }
-    words_fit(form_of(kind), row, variables, constants)
+    rules
+}
+
+fn in_range(least: u16, beyond: u16, word: u16) -> bool
+    ensures { λ r. ⌜ r ≡ inRange least beyond word ⌝ }
+{
+    (least <= word) & (word < beyond)
+}
+
+pub fn row_fits(rule: Rule, row: RowWords) -> bool
+    ensures { λ r. ⌜ r ≡ fitsRule rule (rowSaid row) ⌝ }
+{
+    in_range(rule.least_d, rule.d, row.d) & in_range(rule.least_a, rule.a, row.a) & (row.b < rule.b)
 }

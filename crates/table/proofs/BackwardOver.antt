@@ -6,6 +6,8 @@ use lib.ListN.{getD}
 use native.Mathlib.Omega.{arith}
 use Rattle.sheet.specs.Rows.{Row}
 use Rattle.sheet.specs.inner.RowLines.{lineOfRow}
+use Rattle.sheet.specs.inner.Kinds.{partOf}
+use Rattle.sheet.specs.declared.kinds.Part.{Part}
 use Rattle.table.specs.inner.MarkedRows.{Handed, rowOfNumber, backwardOfLine, stepBack, turnsBack, backwardAt, wayBack, backwardRows, Visited, Walks}
 
 pub backward-turn : (given : Handed) (n end : ℕ)
@@ -14,13 +16,15 @@ unfolding backwardRows
 backward-turn given n end = refl
 
 -- one turn of the walk, by the row that was read there
-pub backward-next : (given : Handed) (left end : ℕ) {r : Row} {turns next : ℕ} → 0 < left → r ≡ rowOfNumber given (end - 1)
-    → turns ≡ turnsBack (given .words) (given .first) (given .goes) (end - 1) (r .kind)
-    → next ≡ stepBack (given .came) (given .goes) (end - 1) (r .kind)
+pub backward-next : (given : Handed) (left end : ℕ) {r : Row} {p : Part} {turns next : ℕ} → 0 < left → r ≡ rowOfNumber given (end - 1)
+    → p ≡ partOf (lineOfRow r) → turns ≡ turnsBack (given .words) (given .first) (given .goes) (end - 1) p
+    → next ≡ stepBack (given .came) (given .goes) (end - 1) p
     → backwardRows given left end
     ≡ backwardOfLine (given .variables) (getD (given .marks) (end - 1) 0) turns (lineOfRow r) ++ backwardRows given (left - 1) next
-backward-next given zero end h is turns-are goes = absurd (omega arith)
-backward-next given (suc n) end h is turns-are goes = let less : suc n - 1 ≡ n = omega arith in rw (less, turns-are, goes, is) (backward-turn given n end)
+backward-next given zero end h is part-is turns-are goes = absurd (omega arith)
+backward-next given (suc n) end h is part-is turns-are goes =
+    let less : suc n - 1 ≡ n = omega arith in
+    rw (less, turns-are, goes, part-is, is) (backward-turn given n end)
 
 pub backward-none : (given : Handed) (left end : ℕ) → left ≤ 0 → backwardRows given left end ≡ []
 unfolding backwardRows
@@ -35,7 +39,7 @@ pub visit-now : (given : Handed) (left end : ℕ) → 0 < left → Walks given l
 visit-now given zero end h w = absurd (omega arith)
 visit-now given (suc n) end h w = visited given n end w .0
 
-pub walk-on : (given : Handed) (left end : ℕ) {r : Row} {next : ℕ} → 0 < left → r ≡ rowOfNumber given (end - 1)
-    → next ≡ stepBack (given .came) (given .goes) (end - 1) (r .kind) → Walks given left end → Walks given (left - 1) next
-walk-on given zero end h is goes w = absurd (omega arith)
-walk-on given (suc n) end h is goes w = let less : suc n - 1 ≡ n = omega arith in rw (less, goes, is) (visited given n end w .1)
+pub walk-on : (given : Handed) (left end : ℕ) {r : Row} {p : Part} {next : ℕ} → 0 < left → r ≡ rowOfNumber given (end - 1)
+    → p ≡ partOf (lineOfRow r) → next ≡ stepBack (given .came) (given .goes) (end - 1) p → Walks given left end → Walks given (left - 1) next
+walk-on given zero end h is part-is goes w = absurd (omega arith)
+walk-on given (suc n) end h is part-is goes w = let less : suc n - 1 ≡ n = omega arith in rw (less, goes, part-is, is) (visited given n end w .1)

@@ -8,6 +8,8 @@ use native.Mathlib.Omega.{arith}
 use Rattle.sheet.specs.Tree.{Tree, done, one, fork, again, basic, ifLine, elseLine, endIf, repeat, endRepeat, flat, rows, RowNumber}
 use Rattle.sheet.specs.Rows.{Assignment, Test, less, SheetLine, Row, sheetRowOf, rowOf, rowOfAssignment, rowOfTest, treeRows, _≔_, Source, copy, fixed, sum, difference, product, negation}
 use Rattle.sheet.specs.inner.RowLines.{lineOfRow}
+use Rattle.sheet.specs.inner.Kinds.{partOf}
+use Rattle.sheet.specs.declared.kinds.Part.the-variants as part
 use Rattle.sheet.specs.Reading.{rowsAt}
 use Rattle.sets.specs.Transfers.{Activity}
 use Rattle.sets.specs.Marks.{Marked, numbered}
@@ -77,42 +79,26 @@ module _ (v : ℕ) where
 
 -- ---- one turn of the walk
 
--- from an assignment to the row before
-pub step-assignment : (came goes : List ℕ) (q : ℕ) (b : Assignment) → stepBack came goes q (sheetRowOf (basic b) .kind) ≡ q
-unfolding stepBack sheetRowOf rowOf rowOfAssignment
-step-assignment came goes q (d ≔ copy a) = refl
-step-assignment came goes q (d ≔ fixed a) = refl
-step-assignment came goes q (d ≔ sum a b) = refl
-step-assignment came goes q (d ≔ difference a b) = refl
-step-assignment came goes q (d ≔ product a b) = refl
-step-assignment came goes q (d ≔ negation a) = refl
-
-pub step-if : (came goes : List ℕ) (q : ℕ) (f : Test) → stepBack came goes q (sheetRowOf (ifLine f) .kind) ≡ getD goes (getD goes q 0) 0
-unfolding stepBack sheetRowOf rowOf rowOfTest
-step-if came goes q (less a b) = refl
-
 module _ (given : Handed) (mark : ℕ → Assignment → Marked) where
-  -- a line's rows at row q, which has the kind
-  abbrev rowsAtRow : (q kind : ℕ) → SheetLine → List Row
-  rowsAtRow q kind l =
-      backwardOfLine (given .variables) (getD (given .marks) q 0) (turnsBack (given .words) (given .first) (given .goes) q kind) l
+  -- a line's rows at row q
+  abbrev rowsAtRow : (q : ℕ) → SheetLine → List Row
+  rowsAtRow q l =
+      backwardOfLine (given .variables) (getD (given .marks) q 0) (turnsBack (given .words) (given .first) (given .goes) q (partOf l)) l
 
   -- these, then those from `next` on
   backward-step : (l : SheetLine) (q next n : ℕ) → rowOfNumber given q ≡ sheetRowOf l
-      → stepBack (given .came) (given .goes) q (sheetRowOf l .kind) ≡ next
-      → backwardRows given (suc n) (suc q) ≡ rowsAtRow q (sheetRowOf l .kind) l ++ backwardRows given n next
+      → stepBack (given .came) (given .goes) q (partOf l) ≡ next
+      → backwardRows given (suc n) (suc q) ≡ rowsAtRow q l ++ backwardRows given n next
   backward-step l q next n stands goes =
       let here : suc q - 1 ≡ q = omega arith in
-      let kind = sheetRowOf l .kind in
       backward-turn given n (suc q)
       ∙ ap (λ p. backwardAt given p ++ backwardRows given n (wayBack given p)) here
-      ∙ ap (λ r. rowsAtRow q (r .kind) (lineOfRow r) ++ backwardRows given n (stepBack (given .came) (given .goes) q (r .kind))) stands
-      ∙ ap (λ line. rowsAtRow q kind line ++ backwardRows given n (stepBack (given .came) (given .goes) q kind)) (line-back l)
-      ∙ ap (λ p. rowsAtRow q kind l ++ backwardRows given n p) goes
+      ∙ ap (λ line. rowsAtRow q line ++ backwardRows given n (stepBack (given .came) (given .goes) q (partOf line))) (ap lineOfRow stands ∙ line-back l)
+      ∙ ap (λ p. rowsAtRow q l ++ backwardRows given n p) goes
 
   -- an "end repeat" at row q whose "repeat" is at row p becomes that "repeat"
   repeat-back : (m p q : ℕ) → getD (given .goes) q 0 ≡ p → rowOfNumber given p ≡ sheetRowOf (repeat m)
-      → rowsAtRow q 11 endRepeat ≡ rowWith 10 0 (suc m) 0 ∷ []
+      → rowsAtRow q endRepeat ≡ rowWith 10 0 (suc m) 0 ∷ []
   unfolding backwardOfLine turnsBack sheetRowOf rowOf
   repeat-back m p q opens stands = ap (λ n. rowWith 10 0 n 0 ∷ []) (ap (λ x. rowOfNumber given x .a) opens ∙ ap (λ r. r .a) stands)
 
@@ -131,10 +117,10 @@ module _ (given : Handed) (mark : ℕ → Assignment → Marked) where
       let v = given .variables in
       let m = mark p b in
       let this = backwardOf v (m .assignment) (m .row) (m .known) (m .saved) rest in
-      let turns = turnsBack (given .words) (given .first) (given .goes) p (sheetRowOf (basic b) .kind) in
+      let turns = turnsBack (given .words) (given .first) (given .goes) p part.Assignment in
       let rs = backwardOfLine v (getD (given .marks) p 0) turns (basic b) in
       let row =
-      backward-step (basic b) p p n (s .0) (step-assignment (given .came) (given .goes) p b) ∙ ap (λ l. rs ++ l) h
+      backward-step (basic b) p p n (s .0) refl ∙ ap (λ l. rs ++ l) h
       ∙ sym (append-assoc rs (rowsIn rest) after) ∙ ap (λ l. l ++ after) (sym (marked-backward v (w .0) turns rest)) in
       backward-tree k ls this after (suc p) (suc n) c e (omega arith) (omega arith) (s .1) (w .1) row
   backward-tree (fork f a b k) ls rest after p n c e hc he s w h =
@@ -153,7 +139,7 @@ module _ (given : Handed) (mark : ℕ → Assignment → Marked) where
       backward-tree b (endIf ∷ flat k ls) done last (suc split) (suc n) (rows b + suc n) end refl refl (atSplit .1) (w .1 .1 .0) elseRow in
       let ifRow =
       backward-step (ifLine f) p end (rows b + suc n) (s .0)
-      (step-if (given .came) (given .goes) p f ∙ ap (λ x. getD (given .goes) x 0) (partners .ifGoes) ∙ partners .elseGoes)
+      (ap (λ x. getD (given .goes) x 0) (partners .ifGoes) ∙ partners .elseGoes)
       ∙ ap (λ l. rowWith 8 0 0 0 ∷ l) secondBranch ∙ sym (none-before middle) in
       let firstBranch =
       backward-tree a (elseLine ∷ flat b (endIf ∷ flat k ls)) done middle (suc p) (suc (rows b + suc n)) (rows a + suc (rows b + suc n)) split

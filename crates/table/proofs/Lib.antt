@@ -3,6 +3,7 @@ pub mod TableLength
 pub mod TableBounds
 pub mod WritingLaws
 pub mod AssignmentRows
+pub mod PartsApart
 pub mod LineRows
 pub mod ForwardOver
 pub mod BackwardOver

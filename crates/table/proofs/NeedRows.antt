@@ -1,5 +1,5 @@
 -- What the code learns of a row's need from its kind, and of the numbers that it has kept for the rows after it.
-use Prim.Native.Nat.{ℕ, zero, suc, pred, _+_, _*_, _-_, _≤_, _<_, max}
+use Prim.Native.Nat.{ℕ, zero, suc, _+_, _*_, _-_, _≤_, _<_, max}
 use mathlib.Core.Path.{_≡_, refl, sym, ap, _∙_, subst}
 use mathlib.Core.List.{List, [], _∷_}
 use native.Mathlib.Omega.{arith}
@@ -7,38 +7,39 @@ use borrow.Author.Tests.{lt-ltb, le-ltb}
 use lib.ListN.{length, getD, set, replicate, getD-replicate, List·getD-eq-default}
 use lib.Seq.{getD-set-same, getD-set-other}
 use Rattle.sheet.specs.Bounds.{greatestWord}
-use Rattle.sheet.specs.Rows.{Row, sheetRowOf, rowOf}
+use Rattle.sheet.specs.Tree.{basic, ifLine, elseLine, endIf, repeat, endRepeat}
+use Rattle.sheet.specs.Rows.{Row, SheetLine, sheetRowOf, rowOf}
+use Rattle.sheet.specs.inner.Kinds.{partOf}
+use Rattle.sheet.specs.declared.kinds.Part.{Part}
+use Rattle.sheet.specs.declared.kinds.Part.the-variants as part
 use Rattle.sheet.specs.inner.RowLines.{lineOfRow}
-use Rattle.table.specs.inner.MarkedRows.{savedBy, rowNumbered, Says}
+use Rattle.table.specs.inner.MarkedRows.{savedBy, rowNumbered, SaysPart}
 use Rattle.table.specs.inner.Needs.{capped, ofSaved, ofBranch, needOfLine, blockEnd, afterRow, HoldsFrom, LooksUp, needAt, needsFrom}
 use Rattle.table.specs.declared.needs.Stack.{Stack}
-use Rattle.table.proofs.LineRows.{assignment-line, if-line, repeat-line, block-line, says-assigns}
 
 -- ---- one row
 
-module _ (stack : Stack) (mark next second beyond : ℕ) {r : Row} (says : Says r) where
-  pub assignment-need : r .kind < 7 → needOfLine stack mark (lineOfRow r) next second beyond ≡ ofSaved stack (savedBy mark) + next
-  unfolding needOfLine
-  assignment-need h = rw (assignment-line r (says-assigns says h))
+-- by what the row is to the blocks
+abbrev pub needFor : Stack → (mark : ℕ) → Part → Row → (next second beyond : ℕ) → ℕ
+needFor stack mark part.Assignment r next second beyond = ofSaved stack (savedBy mark) + next
+needFor stack mark part.If r next second beyond = ofBranch stack + max next second + beyond
+needFor stack mark part.Else r next second beyond = 0
+needFor stack mark part.EndIf r next second beyond = 0
+needFor stack mark part.Repeat r next second beyond = r .a * next + beyond
+needFor stack mark part.EndRepeat r next second beyond = 0
 
-  pub if-need : r .kind ≡ 7 → needOfLine stack mark (lineOfRow r) next second beyond ≡ ofBranch stack + max next second + beyond
-  unfolding needOfLine
-  if-need e = rw (if-line r e)
-
-  -- a row that says "repeat" has a turn at least
-  turns-counted : r .kind ≡ 10 → suc (pred (r .a)) ≡ r .a
-  unfolding sheetRowOf rowOf
-  turns-counted e = ap (λ x. x .a) (ap sheetRowOf (sym (repeat-line r e)) ∙ says .back)
-
-  pub repeat-need : r .kind ≡ 10 → needOfLine stack mark (lineOfRow r) next second beyond ≡ r .a * next + beyond
-  unfolding needOfLine
-  repeat-need e = rw (repeat-line r e) (ap (λ m. m * next + beyond) (turns-counted e))
-
-  pub closing-need : 7 ≤ r .kind → (r .kind ≡ 7 → ⊥) → (r .kind ≡ 10 → ⊥) → needOfLine stack mark (lineOfRow r) next second beyond ≡ 0
-  unfolding needOfLine
-  closing-need h not-if not-repeat =
-      block-line r h (λ l. needOfLine stack mark l next second beyond ≡ 0) (λ e. absurd (not-if e)) (λ e. refl) (λ e. refl)
-      (λ e. absurd (not-repeat e)) refl
+pub need-by : {r : Row} {p q : Part} → SaysPart r p → p ≡ q → (stack : Stack) (mark next second beyond : ℕ)
+    → needOfLine stack mark (lineOfRow r) next second beyond ≡ needFor stack mark q r next second beyond
+unfolding needOfLine sheetRowOf rowOf
+need-by {r} {p} {q} s told stack mark next second beyond = by (lineOfRow r) refl ∙ rw (sym (s .is) ∙ told)
+  where
+    by : (l : SheetLine) → lineOfRow r ≡ l → needOfLine stack mark l next second beyond ≡ needFor stack mark (partOf l) r next second beyond
+    by (basic b) e = refl
+    by (ifLine f) e = refl
+    by elseLine e = refl
+    by endIf e = refl
+    by (repeat m) e = ap (λ x. x .a * next + beyond) (ap sheetRowOf (sym e) ∙ s .says .back)
+    by endRepeat e = refl
 
 -- ---- the rows after it
 
@@ -97,29 +98,30 @@ module _ (stack : Stack) (words : List ℕ) (first : ℕ) (marks came goes : Lis
       zeros : (k : ℕ) → k ≡ 0 → _≡_ {A = ℕ} (getD (replicate places 0) (q + k) 0) (getD (0 ∷ []) k 0)
       zeros k none = rw none (getD-replicate places (q + 0) 0 0 (omega arith))
 
-  need-found : (q : ℕ) (later : List ℕ) {r : Row} {split end value next second beyond : ℕ}
-      → r ≡ rowNumbered words first q → split ≡ getD goes q 0 → end ≡ blockEnd came goes q (r .kind)
+  need-found : (q : ℕ) (later : List ℕ) {r : Row} {p : Part} {split end value next second beyond : ℕ}
+      → r ≡ rowNumbered words first q → p ≡ partOf (lineOfRow r) → split ≡ getD goes q 0 → end ≡ blockEnd came goes q p
       → value ≡ capped (needOfLine stack (getD marks q 0) (lineOfRow r) next second beyond)
       → next ≡ afterRow q later q → second ≡ afterRow q later split → beyond ≡ afterRow q later end
       → value ≡ needAt stack words first marks came goes q later
   unfolding needAt
-  need-found q later is splits ends found is-next is-second is-beyond = found ∙ rw (is-next, is-second, is-beyond, splits, ends, is)
+  need-found q later is part-is splits ends found is-next is-second is-beyond =
+      found ∙ rw (is-next, is-second, is-beyond, splits, ends, part-is, is)
 
   -- a turn: the need of row q, by what was read there and looked up after it, kept in its place
-  pub needs-held-more : {sums : List ℕ} (q left rows : ℕ) {r : Row} {split end value next second beyond : ℕ}
+  pub needs-held-more : {sums : List ℕ} (q left rows : ℕ) {r : Row} {p : Part} {split end value next second beyond : ℕ}
       → left ≡ suc q → left ≤ rows → q < length sums → HoldsFrom sums left (needs left (rows - left))
-      → r ≡ rowNumbered words first q → split ≡ getD goes q 0 → end ≡ blockEnd came goes q (r .kind)
+      → r ≡ rowNumbered words first q → p ≡ partOf (lineOfRow r) → split ≡ getD goes q 0 → end ≡ blockEnd came goes q p
       → value ≡ capped (needOfLine stack (getD marks q 0) (lineOfRow r) next second beyond)
       → LooksUp sums rows q q next → LooksUp sums rows q split second → LooksUp sums rows q end beyond
       → HoldsFrom (set sums q value) q (needs q (rows - q))
-  needs-held-more {sums} q left rows {value = value} e within there held is splits ends found next second beyond =
+  needs-held-more {sums} q left rows {value = value} e within there held is part-is splits ends found next second beyond =
       let n = rows - suc q in
       let later = needs (suc q) n in
       let holds : HoldsFrom sums (suc q) later = subst (λ i. HoldsFrom sums i (needs i (rows - i))) e held in
       let counted : length later ≡ rows - q = needs-length (suc q) n ∙ omega arith in
       let more : rows - q ≡ suc n = omega arith in
       let value-is =
-      need-found q later is splits ends found (next later counted holds) (second later counted holds) (beyond later counted holds) in
+      need-found q later is part-is splits ends found (next later counted holds) (second later counted holds) (beyond later counted holds) in
       rw (more, needs-turn q n, ← value-is) (holds-more q value there holds)
 
   -- after the last turn

@@ -10,6 +10,8 @@ use Rattle.sheet.specs.Bounds.{greatestWord}
 use Rattle.sheet.specs.Tree.{Tree, done, one, fork, again, basic, ifLine, elseLine, endIf, repeat, endRepeat, flat, rows}
 use Rattle.sheet.specs.Rows.{Assignment, Test, less, SheetLine, rowOf, rowOfTest, sheetRowOf, treeRows}
 use Rattle.sheet.specs.inner.RowLines.{lineOfRow}
+use Rattle.sheet.specs.inner.Kinds.{partOf}
+use Rattle.sheet.specs.declared.kinds.Part.the-variants as part
 use Rattle.sheet.specs.Reading.{rowsAt}
 use Rattle.sheet.specs.LongestRun.{longestRun}
 use Rattle.sets.specs.Marks.{Marked, MarkedTest, numbered}
@@ -58,15 +60,6 @@ needed-within-run stack.Turns t = turns-within-run t
 
 -- ---- the rows
 
-module _ (came goes : List ℕ) (p : ℕ) where
-  end-of-if : (f : Test) → blockEnd came goes p (sheetRowOf (ifLine f) .kind) ≡ getD goes (getD goes p 0) 0
-  unfolding blockEnd sheetRowOf rowOf rowOfTest
-  end-of-if (less a b) = refl
-
-  end-of-repeat : (m : ℕ) → blockEnd came goes p (sheetRowOf (repeat m) .kind) ≡ getD came p 0
-  unfolding blockEnd sheetRowOf rowOf
-  end-of-repeat m = refl
-
 module _ (stack : Stack) (words : List ℕ) (first : ℕ) (marks came goes : List ℕ) (mark : ℕ → Assignment → Marked) where
   abbrev needs : (q count : ℕ) → List ℕ
   needs q n = needsFrom stack words first marks came goes q n
@@ -95,21 +88,21 @@ module _ (stack : Stack) (words : List ℕ) (first : ℕ) (marks came goes : Lis
   from-turn : (p n : ℕ) → from p (suc n)
       ≡ capped (needOfLine stack (getD marks p 0) (lineOfRow (rowNumbered words first p)) (afterRow p (needs (suc p) n) p)
       (afterRow p (needs (suc p) n) (getD goes p 0))
-      (afterRow p (needs (suc p) n) (blockEnd came goes p (rowNumbered words first p .kind))))
+      (afterRow p (needs (suc p) n) (blockEnd came goes p (partOf (lineOfRow (rowNumbered words first p))))))
   unfolding needsFrom needAt
   from-turn p n = refl
 
   -- a line that stands at row p, with its block's split and end
   from-line : (l : SheetLine) (p n c split end : ℕ) → c ≡ suc n → rowNumbered words first p ≡ sheetRowOf l
-      → getD goes p 0 ≡ split → blockEnd came goes p (sheetRowOf l .kind) ≡ end
+      → getD goes p 0 ≡ split → blockEnd came goes p (partOf l) ≡ end
       → let later = needs (suc p) n in
       from p c ≡ capped (needOfLine stack (getD marks p 0) l (afterRow p later p) (afterRow p later split) (afterRow p later end))
   from-line l p n c split end hc stands is-split is-end =
       let later = needs (suc p) n in
       ap (from p) hc ∙ from-turn p n
-      ∙ ap (λ r. capped (needOfLine stack (getD marks p 0) (lineOfRow r) (afterRow p later p) (afterRow p later (getD goes p 0))
-      (afterRow p later (blockEnd came goes p (r .kind))))) stands
-      ∙ rw (line-back l, is-split, is-end)
+      ∙ ap (λ line. capped (needOfLine stack (getD marks p 0) line (afterRow p later p) (afterRow p later (getD goes p 0))
+      (afterRow p later (blockEnd came goes p (partOf line))))) (ap lineOfRow stands ∙ line-back l)
+      ∙ rw (is-split, is-end)
 
   -- a line that closes a block or its first branch
   from-closing : (l : SheetLine) (p n : ℕ) → ((mark next second beyond : ℕ) → needOfLine stack mark l next second beyond ≡ 0)
@@ -119,7 +112,7 @@ module _ (stack : Stack) (words : List ℕ) (first : ℕ) (marks came goes : Lis
         arith,
         from-line l p n (suc n) _ _ refl stands refl refl,
         closes (getD marks p 0) (afterRow p (needs (suc p) n) p) (afterRow p (needs (suc p) n) (getD goes p 0))
-            (afterRow p (needs (suc p) n) (blockEnd came goes p (sheetRowOf l .kind))),
+            (afterRow p (needs (suc p) n) (blockEnd came goes p (partOf l))),
       )
 
   closes-first : (mark next second beyond : ℕ) → needOfLine stack mark elseLine next second beyond ≡ 0
@@ -140,7 +133,7 @@ module _ (stack : Stack) (words : List ℕ) (first : ℕ) (marks came goes : Lis
       → c ≡ rows t + n → e ≡ p + rows t → StandsAt words first (flat t ls) p → Noted marks came goes mark t p
       → neededOn stack (numbered mark t p) + from e n ≤ greatestWord
       → from p c ≡ neededOn stack (numbered mark t p) + from e n
-  unfolding StandsAt Noted flat rows numbered needOfLine
+  unfolding StandsAt Noted flat rows numbered needOfLine blockEnd
   need-tree done ls p n c e hc he s w few =
       let same : c ≡ n = omega arith in
       let here : e ≡ p = omega arith in
@@ -153,7 +146,7 @@ module _ (stack : Stack) (words : List ℕ) (first : ℕ) (marks came goes : Lis
         arith,
         whole,
         ap (ofSaved stack) (w .0 .saved),
-        from-line (basic b) p rest c (getD goes p 0) (blockEnd came goes p (sheetRowOf (basic b) .kind)) (omega arith) (s .0) refl refl,
+        from-line (basic b) p rest c (getD goes p 0) (blockEnd came goes p part.Assignment) (omega arith) (s .0) refl refl,
         from-after p p rest rest (suc p) (omega arith) (omega arith) refl,
         need-tree k ls (suc p) n rest e refl (omega arith) (s .1) (w .1) (omega (arith, whole)),
       )
@@ -175,7 +168,7 @@ module _ (stack : Stack) (words : List ℕ) (first : ℕ) (marks came goes : Lis
         arith,
         whole,
         from-line (ifLine f) p first-on c split end (omega arith) (s .0) (w .0 .ifGoes)
-            (end-of-if came goes p f ∙ ap (λ i. getD goes i 0) (w .0 .ifGoes) ∙ w .0 .elseGoes),
+            (ap (λ i. getD goes i 0) (w .0 .ifGoes) ∙ w .0 .elseGoes),
         from-after p p first-on first-on (suc p) (omega arith) (omega arith) refl,
         from-after p split first-on second (suc split) (omega arith) (omega arith) refl,
         from-after p end first-on rest (suc end) (omega arith) (omega arith) refl,
@@ -202,7 +195,7 @@ module _ (stack : Stack) (words : List ℕ) (first : ℕ) (marks came goes : Lis
       omega (
         arith,
         whole,
-        from-line (repeat m) p body c (getD goes p 0) end (omega arith) (s .0) refl (end-of-repeat came goes p m ∙ w .0 .repeatCame),
+        from-line (repeat m) p body c (getD goes p 0) end (omega arith) (s .0) refl (w .0 .repeatCame),
         ap (λ x. suc m * x) turn,
         from-after p end body rest (suc end) (omega arith) (omega arith) refl,
         need-tree k ls (suc end) n rest e refl (omega arith) (atEnd .1) (w .1 .1) (omega (arith, whole)),

@@ -31,7 +31,7 @@ marksOf sheet = markBy (varied sheet) (useful sheet) (required sheet)
 module _ {words : List ℕ} {sheet : Sheet} {shape : Shape} (lies : Lies words sheet shape) where
   pub readable : (marks : List ℕ) → shape .rows ≤ length marks → Readable words shape marks
   readable marks long =
-      record { few = lies .fewRows; marked = long; says = tree-says words (shape .«first_row») (shape .rows) (sheet .body) (lies .says) }
+      record { few = lies .fewRows; marked = long; says = tree-says words (shape .«first_row») (shape .rows) (sheet .body) (lies .says); there = lies .there }
 
   module _ (marks came goes : List ℕ) (noted : SheetNoted sheet marks came goes) where
     abbrev given : Handed

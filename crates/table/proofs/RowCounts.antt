@@ -2,14 +2,15 @@
 use Prim.Native.Nat.{ℕ, suc, _+_, _*_, _-_, _≤_, _<_}
 use mathlib.Core.Path.{_≡_, refl, ap, _∙_}
 use mathlib.Core.Bool.{Bool, true, false, cond}
-use mathlib.Core.List.{List}
+use mathlib.Core.List.{List, [], _∷_, _++_}
 use lib.ListN.{length, length-append, getD}
 use native.Mathlib.Omega.{arith}
 use Rattle.sheet.specs.Rows.{Row}
 use Rattle.sheet.specs.inner.RowLines.{lineOfRow}
-use Rattle.table.specs.inner.MarkedRows.{rowIf, knownBy, savedBy, rowNumbered, Says, partRows, derivativesOf, assignmentBack, forwardOfLine, backwardOfLine, bothParts, countRows}
+use Rattle.sheet.specs.declared.kinds.Part.{Part}
+use Rattle.table.specs.inner.MarkedRows.{rowIf, knownBy, savedBy, rowNumbered, SaysPart, partRows, derivativesOf, assignmentBack, forwardOfLine, backwardOfLine, bothParts, countRows}
 use Rattle.table.proofs.AssignmentRows.{constant-rows, copy-rows, negation-rows, two-rows, product-rows, active-rows, inactive-rows, assignment-rows}
-use Rattle.table.proofs.LineRows.{says-assigns, block-line, assignment-forward, assignment-backward, else-forward, end-if-forward, plain-forward}
+use Rattle.table.proofs.LineRows.{forwardFor, forward-by, backwardFor, backward-by}
 
 one-if : (b : Bool) (r : Row) → length (rowIf b r) ≡ cond b 1 0
 one-if true r = refl
@@ -50,28 +51,12 @@ both-length : (v mark : ℕ) (r : Row)
     → length (bothParts v mark (lineOfRow r)) ≡ length (forwardOfLine mark (lineOfRow r)) + length (backwardOfLine v mark 0 (lineOfRow r))
 both-length v mark r = length-append (forwardOfLine mark (lineOfRow r)) (backwardOfLine v mark 0 (lineOfRow r))
 
--- a block's row has one row backward
-one-back : (v mark : ℕ) (r : Row) → 7 ≤ r .kind → length (backwardOfLine v mark 0 (lineOfRow r)) ≡ 1
-unfolding backwardOfLine
-one-back v mark r h = block-line r h (λ l. length (backwardOfLine v mark 0 l) ≡ 1) (λ e. refl) (λ e. refl) (λ e. refl) (λ e. refl) refl
+pub both-by : {r : Row} {p q : Part} → SaysPart r p → p ≡ q → (v mark : ℕ) {saved : Bool} → saved ≡ savedBy mark
+    → length (bothParts v mark (lineOfRow r)) ≡ length (forwardFor q saved r) + length (backwardFor v mark 0 q r)
+both-by {r} s told v mark e = both-length v mark r ∙ rw (forward-by s told mark e, backward-by s told v mark 0)
 
-module _ (v mark : ℕ) {r : Row} (says : Says r) where
-  pub assignment-both : {saved : Bool} → saved ≡ savedBy mark → r .kind < 7
-      → length (bothParts v mark (lineOfRow r)) ≡ cond saved 1 0 + 1 + length (assignmentBack v r mark)
-  assignment-both {saved} e h =
-      let forward : length (forwardOfLine mark (lineOfRow r)) ≡ cond saved 1 0 + 1 =
-      ap length (assignment-forward mark says e h) ∙ simp (length-append, one-if) in
-      omega (arith, both-length v mark r, forward, ap length (assignment-backward v mark 0 r (says-assigns says h)))
-
-  pub else-both : r .kind ≡ 8 → length (bothParts v mark (lineOfRow r)) ≡ 3
-  else-both e = omega (arith, both-length v mark r, ap length (else-forward mark says e), one-back v mark r (omega arith))
-
-  pub end-if-both : r .kind ≡ 9 → length (bothParts v mark (lineOfRow r)) ≡ 3
-  end-if-both e = omega (arith, both-length v mark r, ap length (end-if-forward mark says e), one-back v mark r (omega arith))
-
-  pub plain-both : 7 ≤ r .kind → (r .kind ≡ 8 → ⊥) → (r .kind ≡ 9 → ⊥) → length (bothParts v mark (lineOfRow r)) ≡ 2
-  plain-both h not-else not-end =
-      omega (arith, both-length v mark r, ap length (plain-forward mark says h not-else not-end), one-back v mark r h)
+pub saved-first : (saved : Bool) (first r : Row) → length (rowIf saved first ++ (r ∷ [])) ≡ cond saved 1 0 + 1
+saved-first saved first r = simp (length-append, one-if)
 
 -- ---- all rows
 

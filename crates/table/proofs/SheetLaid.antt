@@ -37,6 +37,7 @@ pub record Lies (words : List ℕ) (sheet : Sheet) (shape : Shape) : Type 0 wher
   pub variables : shape .variables ≡ variablesOf sheet
   pub fewVariables : shape .variables ≤ limit .variables
   pub fewRows : shape .rows ≤ limit .rows
+  pub there : shape .«first_row» + shape .rows * limit .rowWords ≤ length words
   pub small : (p : ℕ) → p < shape .rows → Small (shape .variables) (rowNumbered words (shape .«first_row») p)
   pub short : longestRun (sheet .body) ≤ limit .longestRun
 
@@ -68,6 +69,7 @@ sheet-lies words sheet e =
       variables = refl;
       fewVariables = shaped .variablesWithin;
       fewRows = shaped .rowsWithin;
+      there = omega (arith, shaped .allWords);
       small = λ p below. rows-small _ _ (shaped .variablesWithin) (shaped .constantsWithin) words first _ _ [] [] (sheet .body) body p _ below refl;
       short = parts .short;
     }

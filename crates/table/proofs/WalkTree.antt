@@ -7,13 +7,13 @@ use native.Mathlib.Omega.{arith}
 use Rattle.sheet.specs.Tree.{Tree, done, one, fork, again, basic, ifLine, elseLine, endIf, repeat, endRepeat, flat, rows}
 use Rattle.sheet.specs.Rows.{Assignment, Test, SheetLine, Row, sheetRowOf, rowOf, treeRows}
 use Rattle.sheet.specs.inner.RowLines.{lineOfRow}
+use Rattle.sheet.specs.inner.Kinds.{partOf}
 use Rattle.sheet.specs.Reading.{rowsAt}
 use Rattle.sheet.proofs.RowsCounted.{lines-counted, rows-counted}
 use Rattle.sets.specs.Marks.{Marked}
 use Rattle.table.specs.inner.MarkedRows.{rowNumbered, Says, stepBack, Handed, rowOfNumber, wayBack, Visited, Walks, Noted}
 use Rattle.sheet.proofs.RowsBack.{line-back}
 use Rattle.table.proofs.TreeRows.{StandsAt, tree-stands, stands-after}
-use Rattle.table.proofs.BackwardTree.{step-assignment, step-if}
 
 -- ---- each row says a line
 
@@ -46,13 +46,13 @@ module _ (given : Handed) (mark : ℕ → Assignment → Marked) where
   walk-turn n e v w = (v, w)
 
   walk-step : (l : SheetLine) (q next n : ℕ) → rowOfNumber given q ≡ sheetRowOf l
-      → stepBack (given .came) (given .goes) q (sheetRowOf l .kind) ≡ next → q < given .rows
+      → stepBack (given .came) (given .goes) q (partOf l) ≡ next → q < given .rows
       → Walks given n next → Walks given (suc n) (suc q)
   walk-step l q next n stands goes below w =
       let here : suc q - 1 ≡ q = omega arith in
-      let kind = ap (λ r. r .kind) stands in
+      let same = ap partOf (ap lineOfRow stands ∙ line-back l) in
       walk-turn n (suc q) (record { some = omega arith; within = omega arith })
-      (rw here (subst (Walks given n) (sym (ap (stepBack (given .came) (given .goes) q) kind ∙ goes)) w))
+      (rw here (subst (Walks given n) (sym (ap (stepBack (given .came) (given .goes) q) same ∙ goes)) w))
 
   walks-tree : (t : Tree Assignment Test) (ls : List SheetLine) (p n c e : ℕ)
       → c ≡ rows t + n → e ≡ p + rows t → e ≤ given .rows → StandsAt (given .words) (given .first) (flat t ls) p
@@ -64,7 +64,7 @@ module _ (given : Handed) (mark : ℕ → Assignment → Marked) where
       let here : e ≡ p = omega arith in
       rw (same, here) h
   walks-tree (one b k) ls p n c e hc he below s w h =
-      let row = walk-step (basic b) p p n (s .0) (step-assignment (given .came) (given .goes) p b) (omega arith) h in
+      let row = walk-step (basic b) p p n (s .0) refl (omega arith) h in
       walks-tree k ls (suc p) (suc n) c e (omega arith) (omega arith) below (s .1) (w .1) row
   walks-tree (fork f a b k) ls p n c e hc he below s w h =
       let split = suc p + rows a in
@@ -77,7 +77,7 @@ module _ (given : Handed) (mark : ℕ → Assignment → Marked) where
       walks-tree b (endIf ∷ flat k ls) (suc split) (suc n) (rows b + suc n) end refl refl (omega arith) (atSplit .1) (w .1 .1 .0) elseRow in
       let ifRow =
       walk-step (ifLine f) p end (rows b + suc n) (s .0)
-      (step-if (given .came) (given .goes) p f ∙ ap (λ x. getD (given .goes) x 0) (partners .ifGoes) ∙ partners .elseGoes)
+      (ap (λ x. getD (given .goes) x 0) (partners .ifGoes) ∙ partners .elseGoes)
       (omega arith) secondBranch in
       let firstBranch =
       walks-tree a (elseLine ∷ flat b (endIf ∷ flat k ls)) (suc p) (suc (rows b + suc n)) (rows a + suc (rows b + suc n)) split

@@ -5,10 +5,12 @@ ghost use Prim.Native.Nat.{ℕ, _+_, _≤_};
 ghost use Rattle.sheet.specs.inner.RowLines.{lineOfRow};
 ghost use Rattle.sheet.specs.Answers.{rowSaid};
 ghost use Rattle.table.specs.Sizes.{mostParts, mostBackward, mostRowsEach};
-ghost use Rattle.table.specs.inner.MarkedRows.{Assigns, Says, Readable, partRows, assignmentBack, bothParts, Counted, countAll};
+ghost use Rattle.table.specs.inner.MarkedRows.{Assigns, SaysPart, Readable, partRows, assignmentBack, bothParts, Counted, countAll};
 use super::rows;
 use sheet::RowNumber;
 use sheet::RowWords;
+use sheet::kinds;
+use sheet::kinds::Part;
 
 pub fn one_if(given: bool) -> usize
     ensures { λ r. ⌜ (r ≡ cond given 1 0) × (r ≤ 1) ⌝ }
@@ -28,16 +30,16 @@ fn parts_count(row: RowWords, mark: u8) -> usize
     let second = rows::bit(mark, sets::VARIED_B);
     let into_a = one_if(first);
     let into_b = one_if(second);
-    if row.kind == sheet::kinds::COPY {
+    if row.kind == kinds::COPY {
         return into_a;
     }
-    if row.kind == sheet::kinds::CONSTANT {
+    if row.kind == kinds::CONSTANT {
         return 0;
     }
-    if row.kind == sheet::kinds::NEGATION {
+    if row.kind == kinds::NEGATION {
         return into_a;
     }
-    if row.kind == sheet::kinds::PRODUCT {
+    if row.kind == kinds::PRODUCT {
         return 2 * into_a + 2 * into_b;
     }
     into_a + into_b
@@ -59,23 +61,23 @@ fn assignment_count(row: RowWords, mark: u8) -> usize
 }
 
 // How many rows a sheet's row has in both parts.
-fn row_count(row: RowWords, mark: u8) -> usize
-    requires { ⌜ Says (rowSaid row) ⌝ }
+fn row_count(row: RowWords, part: Part, mark: u8) -> usize
+    requires { ⌜ SaysPart (rowSaid row) part ⌝ }
     ensures { λ r. ⌜ Counted mostRowsEach r (λ v. bothParts v mark (lineOfRow (rowSaid row))) ⌝ }
 {
-    if row.kind < sheet::kinds::IF {
-        let saved = rows::bit(mark, sets::SAVED);
-        let forward = one_if(saved);
-        let backward = assignment_count(row, mark);
-        return forward + 1 + backward;
+    match part {
+        Part::Assignment => {
+            let saved = rows::bit(mark, sets::SAVED);
+            let forward = one_if(saved);
+            let backward = assignment_count(row, mark);
+            forward + 1 + backward
+        }
+        Part::If => 2,
+        Part::Else => 3,
+        Part::EndIf => 3,
+        Part::Repeat => 2,
+        Part::EndRepeat => 2,
     }
-    if row.kind == sheet::kinds::ELSE {
-        return 3;
-    }
-    if row.kind == sheet::kinds::END_IF {
-        return 3;
-    }
-    2
 }
 
 // R: the rows of both parts and row 17.
@@ -87,8 +89,10 @@ pub fn table_rows(words: &[u16], shape: sheet::Shape, marks: &[u8]) -> usize
     let mut sum: usize = 1;
     let mut p: usize = 0;
     while p < rows {
-        let row = sheet::row_words(words, shape.first_row, RowNumber(p));
-        let more = row_count(row, marks[p]);
+        let row = sheet::row_of(words, shape.first_row, RowNumber(p));
+        let form = kinds::form_of(row.kind);
+        let part = form.3;
+        let more = row_count(row, part, marks[p]);
         sum += more;
         p += 1;
     }

@@ -4,13 +4,15 @@ ghost use Prim.Native.Nat.{_≤_, _<_, max};
 ghost use lib.ListN.{length};
 ghost use Rattle.sheet.specs.inner.RowLines.{lineOfRow};
 ghost use Rattle.sheet.specs.Answers.{rowSaid};
-ghost use Rattle.table.specs.inner.MarkedRows.{Says, Readable, savedBy};
+ghost use Rattle.table.specs.inner.MarkedRows.{SaysPart, Readable, savedBy};
 ghost use Rattle.table.specs.inner.Needs.{capped, ofSaved, ofBranch, needOfLine, blockEnd, LooksUp, needOver};
 use super::count;
 use super::partners;
 use super::rows;
 use sheet::RowNumber;
 use sheet::RowWords;
+use sheet::kinds;
+use sheet::kinds::Part;
 
 // Which stack's need is counted.
 pub enum Stack {
@@ -64,32 +66,44 @@ fn of_branches(first: u16, second: u16) -> usize
 }
 
 // What a row and the rows after it in its block need.
-fn of_row(stack: Stack, row: RowWords, mark: u8, next: u16, second: u16, beyond: u16) -> u16
-    requires { ⌜ Says (rowSaid row) ⌝ }
+fn of_row(
+    stack: Stack,
+    row: RowWords,
+    part: Part,
+    mark: u8,
+    next: u16,
+    second: u16,
+    beyond: u16,
+) -> u16
+    requires { ⌜ SaysPart (rowSaid row) part ⌝ }
     ensures { λ r. ⌜ r ≡ capped (needOfLine stack mark (lineOfRow (rowSaid row)) next second beyond) ⌝ }
 {
     let after = beyond as usize;
-    if row.kind < sheet::kinds::IF {
-        let own = of_saved(stack, mark);
-        return capped(own + next as usize);
+    match part {
+        Part::Assignment => {
+            let own = of_saved(stack, mark);
+            capped(own + next as usize)
+        }
+        Part::If => {
+            let own = of_branch(stack);
+            let branches = of_branches(next, second);
+            capped(own + branches + after)
+        }
+        Part::Else => 0,
+        Part::EndIf => 0,
+        Part::Repeat => {
+            let body = row.a as usize * next as usize;
+            capped(body + after)
+        }
+        Part::EndRepeat => 0,
     }
-    if row.kind == sheet::kinds::IF {
-        let own = of_branch(stack);
-        let branches = of_branches(next, second);
-        return capped(own + branches + after);
-    }
-    if row.kind == sheet::kinds::REPEAT {
-        let body = row.a as usize * next as usize;
-        return capped(body + after);
-    }
-    0
 }
 
 // The last row of the block that a row opens.
-fn block_end(came: &[u16], goes: &[u16], row: RowNumber, kind: u16) -> RowNumber
-    ensures { λ r. ⌜ r .0 ≡ blockEnd (now (came .entry)) (now (goes .entry)) (row .0) kind ⌝ }
+fn block_end(came: &[u16], goes: &[u16], row: RowNumber, part: Part) -> RowNumber
+    ensures { λ r. ⌜ r .0 ≡ blockEnd (now (came .entry)) (now (goes .entry)) (row .0) part ⌝ }
 {
-    if kind == sheet::kinds::REPEAT {
+    if let Part::Repeat = part {
         return partners::partner(came, row);
     }
     partners::if_end(goes, row)
@@ -128,13 +142,15 @@ pub fn needed(
     while 0 < left {
         let q = left - 1;
         let row = RowNumber(q);
-        let line = sheet::row_words(words, shape.first_row, row);
+        let line = sheet::row_of(words, shape.first_row, row);
+        let form = kinds::form_of(line.kind);
+        let part = form.3;
         let split = partners::partner(goes, row);
-        let end = block_end(came, goes, row, line.kind);
+        let end = block_end(came, goes, row, part);
         let next = after_row(&sums, rows, row, row);
         let second = after_row(&sums, rows, row, split);
         let beyond = after_row(&sums, rows, row, end);
-        sums[q] = of_row(stack, line, marks[q], next, second, beyond);
+        sums[q] = of_row(stack, line, part, marks[q], next, second, beyond);
         left = q;
     }
     sums[0] as usize

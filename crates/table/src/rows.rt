@@ -7,9 +7,10 @@ ghost use Prim.Native.Nat.{_≤_};
 ghost use mathlib.Core.List.{[], _∷_};
 ghost use Rattle.sets.specs.MarkBytes.{bitOf};
 ghost use Rattle.table.specs.TableRows.{t};
-ghost use Rattle.table.specs.inner.MarkedRows.{rowWith, Room, Wrote, rowIf, Small, scaledRows, partRows, derivativesOf, assignmentBack, Assigns, Says, forwardOfLine, backwardOfLine};
+ghost use Rattle.table.specs.inner.MarkedRows.{rowWith, Room, Wrote, rowIf, Small, scaledRows, partRows, derivativesOf, assignmentBack, Assigns, SaysPart, forwardOfLine, backwardOfLine};
 use super::kinds;
 use sheet::RowWords;
+use sheet::kinds::Part;
 
 // One row of the table, its words from place on. Answers the place after it.
 pub fn put(table: &mut [u16], place: usize, kind: u16, d: u16, a: u16, b: u16) -> usize
@@ -138,24 +139,28 @@ fn assignment_back(
 }
 
 // A sheet row's rows in the forward part: the row itself, after a save of d or, at a branch's end, of the turn.
-pub fn forward_row(table: &mut [u16], place: usize, row: RowWords, mark: u8) -> usize
-    requires { ⌜ Room (now table) place (forwardOfLine mark (lineOfRow (rowSaid row))) ⌝ ∗ ⌜ Says (rowSaid row) ⌝ }
+pub fn forward_row(table: &mut [u16], place: usize, row: RowWords, part: Part, mark: u8) -> usize
+    requires { ⌜ Room (now table) place (forwardOfLine mark (lineOfRow (rowSaid row))) ⌝ ∗ ⌜ SaysPart (rowSaid row) part ⌝ }
     ensures { λ r. ⌜ Wrote (now (table .entry)) place (forwardOfLine mark (lineOfRow (rowSaid row))) (now (table .exit)) r ⌝ }
 {
-    if row.kind < sheet::kinds::IF {
-        let saved = bit(mark, sets::SAVED);
-        let next = put_if(saved, table, place, kinds::SAVE, row.d, 0, 0);
-        return put(table, next, row.kind, row.d, row.a, row.b);
+    match part {
+        Part::Assignment => {
+            let saved = bit(mark, sets::SAVED);
+            let next = put_if(saved, table, place, kinds::SAVE, row.d, 0, 0);
+            put(table, next, row.kind, row.d, row.a, row.b)
+        }
+        Part::If => put(table, place, row.kind, row.d, row.a, row.b),
+        Part::Else => {
+            let next = put(table, place, kinds::SAVE_TURN, 0, 1, 0);
+            put(table, next, row.kind, row.d, row.a, row.b)
+        }
+        Part::EndIf => {
+            let next = put(table, place, kinds::SAVE_TURN, 0, 0, 0);
+            put(table, next, row.kind, row.d, row.a, row.b)
+        }
+        Part::Repeat => put(table, place, row.kind, row.d, row.a, row.b),
+        Part::EndRepeat => put(table, place, row.kind, row.d, row.a, row.b),
     }
-    if row.kind == sheet::kinds::ELSE {
-        let next = put(table, place, kinds::SAVE_TURN, 0, 1, 0);
-        return put(table, next, row.kind, row.d, row.a, row.b);
-    }
-    if row.kind == sheet::kinds::END_IF {
-        let next = put(table, place, kinds::SAVE_TURN, 0, 0, 0);
-        return put(table, next, row.kind, row.d, row.a, row.b);
-    }
-    put(table, place, row.kind, row.d, row.a, row.b)
 }
 
 // A sheet row's rows in the backward part; turns are those of an "end repeat"'s "repeat".
@@ -164,27 +169,20 @@ pub fn backward_row(
     place: usize,
     variables: u16,
     row: RowWords,
+    part: Part,
     mark: u8,
     turns: u16,
 ) -> usize
     requires { ⌜ Room (now table) place (backwardOfLine variables mark turns (lineOfRow (rowSaid row))) ⌝
-        ∗ ⌜ Says (rowSaid row) ⌝ ∗ ⌜ Small variables (rowSaid row) ⌝ }
+        ∗ ⌜ SaysPart (rowSaid row) part ⌝ ∗ ⌜ Small variables (rowSaid row) ⌝ }
     ensures { λ r. ⌜ Wrote (now (table .entry)) place (backwardOfLine variables mark turns (lineOfRow (rowSaid row))) (now (table .exit)) r ⌝ }
 {
-    if row.kind < sheet::kinds::IF {
-        return assignment_back(table, place, variables, row, mark);
+    match part {
+        Part::Assignment => assignment_back(table, place, variables, row, mark),
+        Part::If => put(table, place, sheet::kinds::ELSE, 0, 0, 0),
+        Part::Else => put(table, place, sheet::kinds::END_IF, 0, 0, 0),
+        Part::EndIf => put(table, place, kinds::ON_TURN, 0, 0, 0),
+        Part::Repeat => put(table, place, sheet::kinds::END_REPEAT, 0, 0, 0),
+        Part::EndRepeat => put(table, place, sheet::kinds::REPEAT, 0, turns, 0),
     }
-    if row.kind == sheet::kinds::IF {
-        return put(table, place, sheet::kinds::ELSE, 0, 0, 0);
-    }
-    if row.kind == sheet::kinds::ELSE {
-        return put(table, place, sheet::kinds::END_IF, 0, 0, 0);
-    }
-    if row.kind == sheet::kinds::END_IF {
-        return put(table, place, kinds::ON_TURN, 0, 0, 0);
-    }
-    if row.kind == sheet::kinds::REPEAT {
-        return put(table, place, sheet::kinds::END_REPEAT, 0, 0, 0);
-    }
-    put(table, place, sheet::kinds::REPEAT, 0, turns, 0)
 }

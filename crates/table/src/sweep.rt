@@ -10,6 +10,7 @@ use super::partners;
 use super::rows;
 use sheet::RowNumber;
 use sheet::Shape;
+use sheet::kinds::Part;
 
 // The forward part: each row's rows in the sheet's order, from place on. Answers the place after them.
 fn forward_part(words: &[u16], shape: Shape, marks: &[u8], table: &mut [u16], place: usize) -> usize
@@ -20,37 +21,43 @@ fn forward_part(words: &[u16], shape: Shape, marks: &[u8], table: &mut [u16], pl
     let mut next: usize = place;
     let mut p: usize = 0;
     while p < rows {
-        let row = sheet::row_words(words, shape.first_row, RowNumber(p));
-        next = rows::forward_row(table, next, row, marks[p]);
+        let row = sheet::row_of(words, shape.first_row, RowNumber(p));
+        let form = sheet::kinds::form_of(row.kind);
+        let part = form.3;
+        next = rows::forward_row(table, next, row, part, marks[p]);
         p += 1;
     }
     next
 }
 
 // Where the backward walk goes from a row: to the end of what comes next there.
-fn step_back(came: &[u16], goes: &[u16], row: RowNumber, kind: u16) -> usize
-    ensures { λ r. ⌜ r ≡ stepBack (now (came .entry)) (now (goes .entry)) (row .0) kind ⌝ }
+fn step_back(came: &[u16], goes: &[u16], row: RowNumber, part: Part) -> usize
+    ensures { λ r. ⌜ r ≡ stepBack (now (came .entry)) (now (goes .entry)) (row .0) part ⌝ }
 {
-    if kind == sheet::kinds::IF {
-        let end = partners::if_end(goes, row);
-        return end.0;
+    match part {
+        Part::Assignment => row.0,
+        Part::If => {
+            let end = partners::if_end(goes, row);
+            end.0
+        }
+        Part::Else => {
+            let start = partners::partner(came, row);
+            start.0
+        }
+        Part::EndIf => {
+            let split = partners::partner(came, row);
+            split.0
+        }
+        Part::Repeat => row.0,
+        Part::EndRepeat => row.0,
     }
-    if kind == sheet::kinds::ELSE {
-        let start = partners::partner(came, row);
-        return start.0;
-    }
-    if kind == sheet::kinds::END_IF {
-        let split = partners::partner(came, row);
-        return split.0;
-    }
-    row.0
 }
 
 // The turns of an "end repeat"'s "repeat"; 0 for any other row.
-fn turns_back(words: &[u16], first: usize, goes: &[u16], row: RowNumber, kind: u16) -> u16
-    ensures { λ r. ⌜ r ≡ turnsBack (now (words .entry)) first (now (goes .entry)) (row .0) kind ⌝ }
+fn turns_back(words: &[u16], first: usize, goes: &[u16], row: RowNumber, part: Part) -> u16
+    ensures { λ r. ⌜ r ≡ turnsBack (now (words .entry)) first (now (goes .entry)) (row .0) part ⌝ }
 {
-    if kind == sheet::kinds::END_REPEAT {
+    if let Part::EndRepeat = part {
         let start = partners::partner(goes, row);
         let opened = sheet::row_words(words, first, start);
         return opened.a;
@@ -81,10 +88,12 @@ fn backward_part(
     let mut left: usize = shape.rows;
     while 0 < left {
         let q = end - 1;
-        let row = sheet::row_words(words, shape.first_row, RowNumber(q));
-        let turns = turns_back(words, shape.first_row, goes, RowNumber(q), row.kind);
-        next = rows::backward_row(table, next, variables, row, marks[q], turns);
-        end = step_back(came, goes, RowNumber(q), row.kind);
+        let row = sheet::row_of(words, shape.first_row, RowNumber(q));
+        let form = sheet::kinds::form_of(row.kind);
+        let part = form.3;
+        let turns = turns_back(words, shape.first_row, goes, RowNumber(q), part);
+        next = rows::backward_row(table, next, variables, row, part, marks[q], turns);
+        end = step_back(came, goes, RowNumber(q), part);
         left -= 1;
     }
     next

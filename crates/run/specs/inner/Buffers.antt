@@ -44,6 +44,16 @@ module _ (A : Arithmetic) where
     pub turnHeight : ℕ
     pub copied : List (A .Carrier)
 
+  -- the buffers themselves, without the heights
+  pub record Cells : Type 0 where
+    pub store : List (A .Carrier)
+    pub values : List (A .Carrier)
+    pub turns : List ℕ
+    pub copied : List (A .Carrier)
+
+  abbrev pub cellsOf : (store values : List (A .Carrier)) → (turns : List ℕ) → (copied : List (A .Carrier)) → Cells
+  cellsOf store values turns copied = record { store = store; values = values; turns = turns; copied = copied }
+
   abbrev pub memoryOf : Buffers → Memory A
   memoryOf buffers =
       record {

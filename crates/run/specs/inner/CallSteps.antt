@@ -109,6 +109,7 @@ answerAt (ended.Stopped row) =
     let stopped = notFiniteResult (row .0) in
     record { number = numberOf stopped; place = placeOf stopped }
 answerAt ended.Stuck = record { number = stuckNumber doubles; place = 0 }
+answerAt ended.Unfinished = record { number = stuckNumber doubles; place = 0 }
 
 -- ---- buffers
 
@@ -124,3 +125,4 @@ module _ (A : Arithmetic) where
   resultAt ended.Finished roles copied store result = resultFrom A roles copied store
   resultAt (ended.Stopped row) roles copied store result = result
   resultAt ended.Stuck roles copied store result = result
+  resultAt ended.Unfinished roles copied store result = result

@@ -7,10 +7,6 @@ use Rattle.number.specs.Doubles.{doubles, notFinite}
 use Rattle.number.specs.Residues.{residues}
 use Rattle.run.specs.Attempts.{Attempt, through, halted, stuck}
 use Rattle.run.specs.Actions.{Try}
-use Rattle.run.specs.declared.ResidueRead.{ResidueRead}
-use Rattle.run.specs.declared.ResidueRead.the-variants as residue-read
-use Rattle.run.specs.declared.DoubleRead.{DoubleRead}
-use Rattle.run.specs.declared.DoubleRead.the-variants as double-read
 use Rattle.run.specs.declared.ResiduePair.{ResiduePair}
 use Rattle.run.specs.declared.ResiduePair.the-variants as residue-pair
 use Rattle.run.specs.declared.DoublePair.{DoublePair}
@@ -26,15 +22,6 @@ use Rattle.run.specs.declared.Branch.the-variants as branch
 use Rattle.run.specs.declared.Branched.{Branched}
 use Rattle.run.specs.declared.Branched.the-variants as branched
 
-abbrev pub readResidue : ResidueRead → Try residues ℕ
-readResidue (residue-read.Is x) = through x
-readResidue residue-read.Stuck = stuck
-
-abbrev pub readDouble : DoubleRead → Try doubles Float
-readDouble (double-read.Is x) = through x
-readDouble double-read.Stopped = halted notFinite
-readDouble double-read.Stuck = stuck
-
 abbrev pub pairOfResidues : ResiduePair → Try residues (ℕ × ℕ)
 pairOfResidues (residue-pair.Are x y) = through (x, y)
 pairOfResidues residue-pair.Missing = stuck
@@ -46,7 +33,6 @@ pairOfDoubles double-pair.Missing = stuck
 abbrev pub whetherDid : Did → Try doubles (Unit {0})
 whetherDid did.On = through tt
 whetherDid did.Stopped = halted notFinite
-whetherDid did.Stuck = stuck
 
 module _ {Why : Type 0} where
   abbrev pub whetherWent : Went → Attempt Why (Unit {0})

@@ -1,10 +1,8 @@
 -- One row of the code, held against one step of the row machine: what each row's answer says, and what every buffer then stands for.
 use Prim.Native.Nat.{ℕ, zero, suc, pred, _+_, _*_, _≤_, _<_}
 use mathlib.Core.Path.{_≡_}
-use mathlib.Core.Bool.{Bool, _||_}
-use lib.Dec.{eqb}
 use mathlib.Core.List.{List, [], _∷_}
-use mathlib.Core.Option.{some}
+use mathlib.Core.Option.{none, some}
 use mathlib.Core.Logic.{_⊎_, _≢_}
 use lib.ListN.{length, getD, drop}
 use Rattle.number.specs.Arithmetic.{Arithmetic}
@@ -17,12 +15,9 @@ use Rattle.table.specs.TableRows.{TableLine, TableRow, Origin, Action, tableRow
 use Rattle.run.specs.Attempts.{Attempt, through, halted, stuck}
 use Rattle.run.specs.Actions.{Setting, Try}
 use Rattle.run.specs.Machine.{Repeat, State, Step, goesOn, ended, stops, sticks, stepAt, step}
-use Rattle.run.specs.inner.Buffers.{Buffers, memoryOf, Sound, Does, RoundSizes}
-use Rattle.run.specs.inner.RowWords.{actionOf, actionSaid}
-use Rattle.run.specs.inner.Runnable.{Holds, Jumps}
-use Rattle.run.specs.declared.Straight.{Straight}
-use Rattle.run.specs.declared.Found.{Found}
-use Rattle.run.specs.declared.Found.the-variants as found-as
+use Rattle.run.specs.inner.Buffers.{Buffers, Cells, cellsOf, memoryOf, Sound, Does, RoundSizes}
+use Rattle.run.specs.inner.RowWords.{actionOf}
+use Rattle.run.specs.inner.Runnable.{Holds, Jumps, Suits}
 use Rattle.run.specs.declared.Met.{Met}
 use Rattle.run.specs.declared.Met.the-variants as met-as
 use Rattle.run.specs.declared.Place.{Place}
@@ -40,8 +35,9 @@ use Rattle.run.specs.declared.Acted.{Acted}
 use Rattle.run.specs.declared.Acted.the-variants as acted
 use Rattle.run.specs.declared.Crossed.{Crossed}
 use Rattle.run.specs.declared.Crossed.the-variants as crossed
+use Rattle.run.specs.declared.Ended.{Ended}
 use Rattle.run.specs.declared.Ended.the-variants as ended-as
-use Rattle.run.specs.inner.RunsRows.{Cells, cellsOf, Suits}
+use Rattle.run.specs.declared.Ran.{Ran}
 
 -- the open repeats, nearest first: where the body of each starts, and the turns of it still to come
 unfoldable pub Nested : (depth : ℕ) → (bodies toCome : List ℕ) → List Repeat → Type 0
@@ -74,13 +70,12 @@ within place depth = record { at = place .at; depth = depth; values = place .val
 abbrev pub firstPlace : (steps : ℕ) → Place
 firstPlace steps = record { at = 0; depth = 0; values = 0; turns = 0; left = steps }
 
+abbrev pub leftAt : Place → Ended → Ran
+leftAt place how = record { place = place; ended = how }
+
 -- the place at the row after, with one step fewer left
 abbrev pub following : Place → (at left : ℕ) → Place
 following place at left = record { at = at; depth = place .depth; values = place .values; turns = place .turns; left = left }
-
--- kinds 7 to 11 and 15
-abbrev pub isOfBlock : (kind : ℕ) → Bool
-isOfBlock kind = ((eqb kind 7 || eqb kind 8 || eqb kind 9) || (eqb kind 10 || eqb kind 11)) || eqb kind 15
 
 -- the row before a place, with one step more left
 abbrev pub preceding : Place → (at : ℕ) → Place
@@ -93,7 +88,6 @@ wentTo went-as.Stuck place = acted.Stuck
 abbrev pub didTo : Did → Place → Acted
 didTo did-as.On place = acted.On place
 didTo did-as.Stopped place = acted.Stopped
-didTo did-as.Stuck place = acted.Stuck
 
 abbrev pub valuesTo : Moved → Place → Acted
 valuesTo (moved-as.To height) place = acted.On (raised place height (place .turns))
@@ -115,6 +109,7 @@ ActedLeft left (acted.On next) = suc (next .left) ≡ left
 ActedLeft left acted.Block = Unit {0}
 ActedLeft left acted.Stopped = Unit {0}
 ActedLeft left acted.Stuck = Unit {0}
+ActedLeft left acted.Spent = Unit {0}
 
 abbrev pub CrossedLeft : (left : ℕ) → Crossed → Type 0
 CrossedLeft left (crossed.On next) = suc (next .left) ≡ left
@@ -136,25 +131,6 @@ pub record Follows (place next : Place) : Type 0 where
   pub is : next ≡ following place (place .at + 1) left
   pub spends : place .left ≡ suc left
 
--- a straight row stands there, and its words say what it does
-pub record StandsStraight (lines : List TableLine) (at : ℕ) (words : Row) : Type 0 where
-  pub row : TableRow
-  pub rest : List TableLine
-  pub is : drop at lines ≡ basic row ∷ rest
-  pub said : actionOf words ≡ some (row .action)
-
-pub record FindsRow (table : List ℕ) (rows : ℕ) (place : Place) (words : Row) (next : Place) : Type 0 where
-  pub follows : Follows place next
-  pub stands : (lines : List TableLine) → Holds table lines → length lines ≡ rows → StandsStraight lines (place .at) words
-
-pub record FindsNone (table : List ℕ) (rows : ℕ) (place : Place) : Type 0 where
-  pub none : (lines : List TableLine) → Holds table lines → length lines ≡ rows → NoneStraight (place .at) lines
-
-abbrev pub Finds : (table : List ℕ) → (rows : ℕ) → Place → Found → Type 0
-Finds table rows place (found-as.Row words next) = FindsRow table rows place (rowSaid words) next
-Finds table rows place found-as.Block = FindsNone table rows place
-Finds table rows place found-as.Spent = place .left ≡ 0
-
 pub record MeetsRow (table : List ℕ) (rows : ℕ) (place : Place) (row : Row) (next : Place) : Type 0 where
   pub follows : Follows place next
   pub within : place .at < rows
@@ -170,7 +146,8 @@ pub record MeetsCompare (table : List ℕ) (rows : ℕ) (place : Place) (a b : �
 abbrev pub Meets : (table : List ℕ) → (rows : ℕ) → Place → Met → Type 0
 Meets table rows place (met-as.Out ended-as.Finished) = (0 < place .left) × (rows ≤ place .at)
 Meets table rows place (met-as.Out (ended-as.Stopped row)) = ⊥
-Meets table rows place (met-as.Out ended-as.Stuck) = place .left ≡ 0
+Meets table rows place (met-as.Out ended-as.Stuck) = ⊥
+Meets table rows place (met-as.Out ended-as.Unfinished) = place .left ≡ 0
 Meets table rows place (met-as.Compare a b next) = MeetsCompare table rows place (a .0) (b .0) next
 Meets table rows place (met-as.Other row next) = MeetsRow table rows place (rowSaid row) next × (row .kind ≢ 7)
 
@@ -196,7 +173,7 @@ TurnsTo beyond at next branched-as.Stuck answer = answer ≡ stuckThere
 -- one repeat more, of which `count` turns are to run; its body starts at the next row
 pub record Opens (count : ℕ) (next : Place) (bodies toCome bodiesAfter toComeAfter : List ℕ) (answer : Crossed) : Type 0 where
   pub left : CrossedLeft (suc (next .left)) answer
-  pub full : limit .depth ≤ next .depth → answer ≡ stuckThere
+  pub full : limit .depth ≤ next .depth → (answer ≡ stuckThere) × (bodiesAfter ≡ bodies) × (toComeAfter ≡ toCome)
   pub room : next .depth < limit .depth → (m : ℕ) → count ≡ suc m → answer ≡ crossed.On (within next (suc (next .depth)))
   pub opened : next .depth < limit .depth → (m start : ℕ) (repeats : List Repeat) → count ≡ suc m → next .at ≡ suc start
       → Opened (next .depth) bodies toCome repeats
@@ -205,7 +182,7 @@ pub record Opens (count : ℕ) (next : Place) (bodies toCome bodiesAfter toComeA
 -- the end of a turn: out of the repeat, or back to its body
 pub record Closes (next : Place) (bodies toCome bodiesAfter toComeAfter : List ℕ) (answer : Crossed) : Type 0 where
   pub left : CrossedLeft (suc (next .left)) answer
-  pub none : Opened (next .depth) bodies toCome [] → answer ≡ stuckThere
+  pub none : Opened (next .depth) bodies toCome [] → (answer ≡ stuckThere) × Opened (next .depth) bodiesAfter toComeAfter []
   pub out : next .depth ≤ limit .depth → (r : Repeat) (outer : List Repeat)
       → Opened (next .depth) bodies toCome (r ∷ outer)
       → r .left ≡ 0
@@ -248,16 +225,21 @@ module _ (A : Arithmetic) where
     pub does : Does A setting action (buffersAt next before former) (buffersAt (raised next height turnHeight) after held) went
     pub copies : CopiesOn former before held after
 
-  -- the row says which action it is
-  pub record ActsBy (what : Straight) (roles constants : List ℕ) (seeds : List (A .Carrier)) (next : Place) (before after : Cells A) (answer : Acted)
+  -- the row's words say which action it is, or none
+  pub record ActsBy (row : Row) (roles constants : List ℕ) (seeds : List (A .Carrier)) (next : Place) (before after : Cells A) (answer : Acted)
       : Type 0 where
     pub left : ActedLeft (suc (next .left)) answer
     pub acts : (setting : Setting A) (action : Action) (former : List (A .Carrier))
-        → actionSaid what ≡ some action
+        → actionOf row ≡ some action
         → Suits A roles constants seeds setting
         → RoundSizes A roles seeds (before .store) (before .copied)
         → Sound A setting (buffersAt next before former)
         → Acts setting action next before after former answer
+    pub other : actionOf row ≡ none → (answer ≡ acted.Block) × (after ≡ before)
+
+  -- a row that does not go through leaves all as it stood
+  abbrev pub Stays : Place → (before after : Cells A) → (former held : List (A .Carrier)) → Type 0
+  Stays place before after former held = buffersAt place after held ≡ buffersAt place before former
 
   -- a stop at this row
   pub record StopsAt (at : ℕ) (found : Step A) : Type 0 where
@@ -286,8 +268,11 @@ module _ (A : Arithmetic) where
       (next .depth ≡ place .depth) × GoesTo setting place next repeats after held found
   ActedSays setting lines place repeats before after former held found acted.Block =
       NoneStraight (place .at) lines × (after ≡ before) × (held ≡ former)
-  ActedSays setting lines place repeats before after former held found acted.Stopped = (0 < place .left) × StopsAt (place .at) found
-  ActedSays setting lines place repeats before after former held found acted.Stuck = (place .left ≡ 0) ⊎ Blocked found
+  ActedSays setting lines place repeats before after former held found acted.Stopped =
+      (0 < place .left) × StopsAt (place .at) found × Stays place before after former held
+  ActedSays setting lines place repeats before after former held found acted.Stuck =
+      (0 < place .left) × Blocked found × Stays place before after former held
+  ActedSays setting lines place repeats before after former held found acted.Spent = (place .left ≡ 0) × Stays place before after former held
 
   pub record StepsStraight (setting : Setting A) (lines : List TableLine) (place : Place) (repeats : List Repeat) (before after : Cells A)
       (former : List (A .Carrier)) (answer : Acted) : Type 0 where
@@ -314,13 +299,22 @@ module _ (A : Arithmetic) where
     pub opened : Opened (next .depth) bodies toCome repeats
     pub goes : GoesTo setting place next repeats after held found
 
-  abbrev pub CrossedSays : Setting A → Place → (bodies toCome : List ℕ) → (after : Cells A) → (held : List (A .Carrier))
+  -- where the run is left the same repeats are open
+  pub record Rests (place : Place) (repeats : List Repeat) (bodies toCome : List ℕ) (before after : Cells A) (held : List (A .Carrier)) : Type 0 where
+    pub opened : Opened (place .depth) bodies toCome repeats
+    pub stays : Stays place before after held held
+
+  abbrev pub CrossedSays : Setting A → Place → List Repeat → (bodies toCome : List ℕ) → (before after : Cells A) → (held : List (A .Carrier))
       → Step A → Crossed → Type 0
-  CrossedSays setting place bodies toCome after held found (crossed.On next) = CrossesTo setting place next bodies toCome after held found
-  CrossedSays setting place bodies toCome after held found (crossed.Out ended-as.Finished) =
-      (0 < place .left) × (found ≡ ended (memoryOf A (buffersAt place after held)))
-  CrossedSays setting place bodies toCome after held found (crossed.Out (ended-as.Stopped row)) = ⊥
-  CrossedSays setting place bodies toCome after held found (crossed.Out ended-as.Stuck) = (place .left ≡ 0) ⊎ Blocked found
+  CrossedSays setting place repeats bodies toCome before after held found (crossed.On next) =
+      CrossesTo setting place next bodies toCome after held found
+  CrossedSays setting place repeats bodies toCome before after held found (crossed.Out ended-as.Finished) =
+      (0 < place .left) × (found ≡ ended (memoryOf A (buffersAt place after held))) × Rests place repeats bodies toCome before after held
+  CrossedSays setting place repeats bodies toCome before after held found (crossed.Out (ended-as.Stopped row)) = ⊥
+  CrossedSays setting place repeats bodies toCome before after held found (crossed.Out ended-as.Stuck) =
+      (0 < place .left) × Blocked found × Rests place repeats bodies toCome before after held
+  CrossedSays setting place repeats bodies toCome before after held found (crossed.Out ended-as.Unfinished) =
+      (place .left ≡ 0) × Rests place repeats bodies toCome before after held
 
   -- The rows of blocks change the turn stack and the open repeats alone.
   pub record BlockRow (table : List ℕ) (rows : ℕ) (beyond : List ℕ) (place : Place) (store : List (A .Carrier))
@@ -334,7 +328,7 @@ module _ (A : Arithmetic) where
         → Opened (place .depth) bodies toCome repeats
         → place .depth ≤ limit .depth
         → Sound A setting (buffersAt place (cellsOf A store values turns copied) held)
-        → CrossedSays setting place bodiesAfter toComeAfter (cellsOf A store values turnsAfter copied) held
+        → CrossedSays setting place repeats bodiesAfter toComeAfter (cellsOf A store values turns copied) (cellsOf A store values turnsAfter copied) held
         (step A setting lines (stateAt place repeats (cellsOf A store values turns copied) held)) answer
 
   -- the same of the line that a row's words say, but for the comparison; `next` is the place of the row after it
@@ -351,5 +345,6 @@ module _ (A : Arithmetic) where
         → Opened (next .depth) bodies toCome repeats
         → next .depth ≤ limit .depth
         → Sound A setting (buffersAt next (cellsOf A store values turns copied) held)
-        → CrossedSays setting (preceding next at) bodiesAfter toComeAfter (cellsOf A store values turnsAfter copied) held
+        → CrossedSays setting (preceding next at) repeats bodiesAfter toComeAfter (cellsOf A store values turns copied)
+        (cellsOf A store values turnsAfter copied) held
         (stepAt A setting (stateAt (preceding next at) repeats (cellsOf A store values turns copied) held) (line ∷ rest)) answer

@@ -1,20 +1,12 @@
 -- What a row's words say, which no arithmetic has a part in: a right side, and a straight row's action. What the code's choice by the kind is held
--- against, and what its answers stand for.
-use Prim.Native.Nat.{ℕ}
-use mathlib.Core.Path.{_≡_}
+-- against.
+use Prim.Native.Nat.{ℕ, _<_}
 use mathlib.Core.Bool.{cond}
-use mathlib.Core.List.{List}
 use mathlib.Core.Option.{Option, none, some}
 use lib.Dec.{eqb}
-use Rattle.number.specs.Arithmetic.{Arithmetic}
 use Rattle.sheet.specs.Rows.{Source, copy, fixed, sum, difference, product, negation, _≔_, Row}
+use Rattle.sheet.specs.Names.{AssignmentPresent}
 use Rattle.table.specs.TableRows.{Action, assign, save, takeBack, saveTurn, clear, turnRound}
-use Rattle.run.specs.Attempts.{_>>=_, present}
-use Rattle.run.specs.Actions.{Try, evaluated}
-use Rattle.run.specs.declared.RightSide.{RightSide}
-use Rattle.run.specs.declared.RightSide.the-variants as right-side
-use Rattle.run.specs.declared.Straight.{Straight}
-use Rattle.run.specs.declared.Straight.the-variants as straight
 
 unfoldable pub sourceOf : Row → Option Source
 sourceOf row =
@@ -38,23 +30,18 @@ actionOf row =
     (cond (eqb (row .kind) 16) (some (clear (row .d)))
     (cond (eqb (row .kind) 17) (some turnRound) (assignmentOf (row .d) (sourceOf row))))))
 
-abbrev pub sourceSaid : RightSide → Option Source
-sourceSaid (right-side.Copy a) = some (copy (a .0))
-sourceSaid (right-side.Constant c) = some (fixed c)
-sourceSaid (right-side.Sum a b) = some (sum (a .0) (b .0))
-sourceSaid (right-side.Difference a b) = some (difference (a .0) (b .0))
-sourceSaid (right-side.Product a b) = some (product (a .0) (b .0))
-sourceSaid (right-side.Negation a) = some (negation (a .0))
-sourceSaid right-side.None = none
+-- every variable and every constant that an action names is there
+abbrev pub ActionPresent : (variables constants : ℕ) → Action → Type 0
+ActionPresent v k (assign b) = AssignmentPresent v k b
+ActionPresent v k (save d) = d < v
+ActionPresent v k (takeBack d) = d < v
+ActionPresent v k (saveTurn first) = Unit {0}
+ActionPresent v k (clear d) = d < v
+ActionPresent v k turnRound = Unit {0}
 
-abbrev pub actionSaid : Straight → Option Action
-actionSaid (straight.Save d) = some (save (d .0))
-actionSaid (straight.TakeBack d) = some (takeBack (d .0))
-actionSaid (straight.SaveTurn first) = some (saveTurn first)
-actionSaid (straight.Clear d) = some (clear (d .0))
-actionSaid straight.TurnRound = some turnRound
-actionSaid (straight.Assign d source) = assignmentOf (d .0) (sourceSaid source)
+abbrev PresentIn : (variables constants : ℕ) → Option Action → Type 0
+PresentIn v k none = Unit {0}
+PresentIn v k (some action) = ActionPresent v k action
 
--- words of no assignment are stuck
-abbrev pub EvaluatesSaid : (A : Arithmetic) → Option Source → (constants : List ℕ) → (store : List (A .Carrier)) → Try A (A .Carrier) → Type 0
-EvaluatesSaid A source constants store got = got ≡ (present source >>= λ s. evaluated A constants s store)
+pub record Named (variables constants : ℕ) (action : Option Action) : Type 0 where
+  pub present : PresentIn variables constants action

@@ -1,5 +1,5 @@
 -- What the runner is handed: a table's rows in a buffer, where each "if" and each "else" goes on to, and room for the open repeats.
-use Prim.Native.Nat.{ℕ, _+_, _*_, _≤_}
+use Prim.Native.Nat.{ℕ, _+_, _*_, _≤_, _<_}
 use mathlib.Core.Path.{_≡_}
 use mathlib.Core.List.{List, _∷_}
 use mathlib.Core.Option.{Option, some}
@@ -10,6 +10,7 @@ use Rattle.sheet.specs.Tree.{ifLine, elseLine}
 use Rattle.sheet.specs.Reading.{rowAt}
 use Rattle.table.specs.TableRows.{TableLine, TableTest, tableRowOf}
 use Rattle.run.specs.Actions.{Setting}
+use Rattle.run.specs.inner.RowWords.{actionOf, Named}
 use Rattle.run.specs.Machine.{itsElse, itsEnd, oneMore, seek, State, goesOn, stateAfter}
 
 -- where row p of a table stands in its buffer: after the row count, four words a row
@@ -20,6 +21,11 @@ placeOfRow p = 1 + limit .rowWords * p
 pub record Holds (buffer : List ℕ) (lines : List TableLine) : Type 0 where
   pub within : placeOfRow (length lines) ≤ length buffer
   pub held : (p : ℕ) (line : TableLine) (rest : List TableLine) → drop p lines ≡ line ∷ rest → rowAt buffer (placeOfRow p) ≡ tableRowOf line
+
+-- rows that lie in a buffer, of which every straight one names only variables and constants that are there: so many of each
+pub record Indexed (buffer : List ℕ) (count variables constants : ℕ) : Type 0 where
+  pub within : placeOfRow count ≤ length buffer
+  pub named : (p : ℕ) → p < count → Named variables constants (actionOf (rowAt buffer (1 + p * limit .rowWords)))
 
 -- how far a search goes, and that a list of rows names the row there
 pub record Reached (found : Option ℕ) (from to : ℕ) : Type 0 where
@@ -33,6 +39,13 @@ pub record Jumps (lines : List TableLine) (beyond : List ℕ) : Type 0 where
       → Reached (oneMore (seek itsElse 0 rest)) p (getD beyond p 0)
   pub fromElse : (p : ℕ) (rest : List TableLine) → drop p lines ≡ elseLine ∷ rest
       → Reached (oneMore (seek itsEnd 0 rest)) p (getD beyond p 0)
+
+-- the setting that a run's sections and seeds make
+pub record Suits (A : Arithmetic) (roleWords constantWords : List ℕ) (lentSeeds : List (A .Carrier)) (setting : Setting A) : Type 0 where
+  pub variables : setting .variables ≡ length roleWords
+  pub roles : setting .roles ≡ roleWords
+  pub constants : setting .constants ≡ constantWords
+  pub seeds : setting .seeds ≡ lentSeeds
 
 -- as many repeats as a sheet may nest are open at most, at every step
 abbrev pub Shallow : (A : Arithmetic) → Setting A → List TableLine → State A → Type 0

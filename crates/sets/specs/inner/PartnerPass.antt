@@ -3,8 +3,10 @@ use Prim.Native.Nat.{ℕ, zero, suc}
 use mathlib.Core.Path.{_≡_}
 use mathlib.Core.List.{List}
 use lib.ListN.{getD, set}
-use Rattle.sheet.specs.Tree.{basic, ifLine, elseLine, endIf, repeat, endRepeat}
-use Rattle.sheet.specs.Rows.{SheetLine, sheetRowOf}
+use Rattle.sheet.specs.Rows.{SheetLine}
+use Rattle.sheet.specs.inner.Kinds.{partOf}
+use Rattle.sheet.specs.declared.kinds.Part.{Part}
+use Rattle.sheet.specs.declared.kinds.Part.the-variants as part
 
 -- The innermost open block's last row so far, and both lists of partners. An open block's row has in `goes`, until its own partner is known,
 -- the row that was innermost outside it, so that no stack is needed.
@@ -16,22 +18,24 @@ pub record Found : Type 0 where
 abbrev pub found : (top : ℕ) (came goes : List ℕ) → Found
 found top came goes = record { top = top; came = came; goes = goes }
 
+-- what one row does, by what it is to the blocks
+unfoldable pub foundBy : Part → (row : ℕ) → Found → Found
+foundBy part.Assignment p s = s
+foundBy part.If p s = found p (s .came) (set (s .goes) p (s .top))
+foundBy part.Else p s = found p (set (s .came) p (s .top)) (set (set (s .goes) (s .top) p) p (getD (s .goes) (s .top) 0))
+foundBy part.EndIf p s = found (getD (s .goes) (s .top) 0) (set (s .came) p (s .top)) (set (s .goes) (s .top) p)
+foundBy part.Repeat p s = found p (s .came) (set (s .goes) p (s .top))
+foundBy part.EndRepeat p s = found (getD (s .goes) (s .top) 0) (set (s .came) (s .top) p) (set (s .goes) p (s .top))
+
+-- and so by its line
 unfoldable pub foundAt : SheetLine → (row : ℕ) → Found → Found
-foundAt (basic b) p s = s
-foundAt (ifLine f) p s = found p (s .came) (set (s .goes) p (s .top))
-foundAt elseLine p s = found p (set (s .came) p (s .top)) (set (set (s .goes) (s .top) p) p (getD (s .goes) (s .top) 0))
-foundAt endIf p s = found (getD (s .goes) (s .top) 0) (set (s .came) p (s .top)) (set (s .goes) (s .top) p)
-foundAt (repeat m) p s = found p (s .came) (set (s .goes) p (s .top))
-foundAt endRepeat p s = found (getD (s .goes) (s .top) 0) (set (s .came) (s .top) p) (set (s .goes) p (s .top))
+unfolding foundBy
+foundAt l p s = foundBy (partOf l) p s
 
 unfoldable pub foundOver : (ℕ → SheetLine) → (from count : ℕ) → Found → Found
 unfolding foundAt
 foundOver line p zero s = s
 foundOver line p (suc n) s = foundOver line (suc p) n (foundAt (line p) p s)
-
--- what one row of this kind does
-abbrev pub FoundBy : (kind row : ℕ) (before after : Found) → Type 0
-FoundBy kind p before after = (l : SheetLine) → sheetRowOf l .kind ≡ kind → after ≡ foundAt l p before
 
 -- one pass over all rows, from whatever the lists had
 abbrev pub PartnersFound : (ℕ → SheetLine) → (rows : ℕ) → (came goes came′ goes′ : List ℕ) → Type 0

@@ -2,23 +2,25 @@
 -- row of the same block that its set comes from.
 use Prim.Native.Nat.{ℕ, zero, suc, _+_, _*_, _-_, _≤_, _<_}
 use mathlib.Core.Path.{_≡_}
-use mathlib.Core.Bool.{Bool, false, _||_}
+use mathlib.Core.Bool.{Bool, true, false}
 use mathlib.Core.List.{List, [], _∷_}
 use lib.ListN.{getD, take, drop, length as List·length}
-use lib.Dec.{eqb}
 use Rattle.sheet.specs.Bounds.{limit, wordValues}
 use Rattle.sheet.specs.Tree.{basic, ifLine, elseLine, endIf, repeat, endRepeat}
 use Rattle.sheet.specs.Rows.{Assignment, SheetLine, Row, sheetRowOf, isIndependent, isDependent}
 use Rattle.sheet.specs.inner.RowLines.{lineOfRow}
+use Rattle.sheet.specs.inner.Kinds.{assigns, formFor, partFor}
+use Rattle.sheet.specs.Answers.{rowSaid}
 use Rattle.sheet.specs.Reading.{rowAt}
+use Rattle.sheet.specs.declared.kinds.Part.{Part}
+use Rattle.sheet.specs.declared.kinds.Part.the-variants as part
+use Rattle.sets.specs.declared.rows.Seen.{Seen}
 use Rattle.sets.specs.declared.Which.{Which}
 use Rattle.sets.specs.declared.Which.the-variants.{Varied, Useful, Required}
 use Rattle.sets.specs.VariableSets.{VariableSet, places}
 use Rattle.sets.specs.Equations.{Equation, starts, passes, joins, unchanged, rightSide, setAt}
-use Rattle.sets.specs.inner.ProperEquations.{Proper}
-use Rattle.sets.specs.Transfers.{variedAfter, usefulBefore, requiredAfter}
-use Rattle.sets.specs.inner.RowWords.{maskBits, InMask}
-use Rattle.sets.specs.MarkBytes.{weight, bitOf}
+use Rattle.sets.specs.Transfers.{variedAfter, usefulBefore, requiredAfter, activityOf}
+use Rattle.sets.specs.inner.RowWords.{InMask}
 
 -- the line of a sheet's row
 abbrev pub lineIn : List ℕ → (first row : ℕ) → SheetLine
@@ -56,26 +58,39 @@ equationOf Required active l p c = forwardOf (turnOf Required active) l p c
 
 -- ---- all rows' equations
 
--- the sheet's words, the place of its first row, a byte of marks and a partner for each row
+-- the sheet's words, the place of its first row, which rows are active and a partner for each row
 pub record Given : Type 0 where
   pub words : List ℕ
   pub first : ℕ
-  pub marks : List ℕ
+  pub active : ℕ → Bool
   pub partners : List ℕ
 
-abbrev pub givenBy : (words : List ℕ) (first : ℕ) (marks partners : List ℕ) → Given
-givenBy words first marks partners = record { words = words; first = first; marks = marks; partners = partners }
+abbrev pub givenBy : (words : List ℕ) (first : ℕ) (active : ℕ → Bool) (partners : List ℕ) → Given
+givenBy words first active partners = record { words = words; first = first; active = active; partners = partners }
+
+-- the first two sets don't ask which rows are active
+abbrev pub noneActive : ℕ → Bool
+noneActive p = false
+
+-- by the sets of varied variables before a row and of useful ones after it
+unfoldable pub activeLine : (varied useful : VariableSet) → SheetLine → Bool
+unfolding activityOf
+activeLine varied useful (basic b) = activityOf b varied useful .active
+activeLine varied useful (ifLine f) = false
+activeLine varied useful elseLine = false
+activeLine varied useful endIf = false
+activeLine varied useful (repeat m) = false
+activeLine varied useful endRepeat = false
+
+abbrev pub activeBy : (words : List ℕ) (first : ℕ) (varied useful : List VariableSet) → ℕ → Bool
+activeBy words first varied useful p = activeLine (setAt varied p) (setAt useful (suc p)) (lineIn words first p)
 
 abbrev pub rowIn : Given → ℕ → Row
 rowIn given p = rowAt (given .words) (given .first + p * limit .rowWords)
 
--- its mark says that it is active
-abbrev pub activeIn : Given → ℕ → Bool
-activeIn given p = bitOf (getD (given .marks) p 0) (weight .active)
-
 unfoldable pub equationIn : Which → Given → ℕ → Equation
 unfolding lineOfRow equationOf
-equationIn which given p = equationOf which (activeIn given p) (lineOfRow (rowIn given p)) p (getD (given .partners) p 0)
+equationIn which given p = equationOf which (given .active p) (lineOfRow (rowIn given p)) p (getD (given .partners) p 0)
 
 -- in the order of the sweep: useful variables are found from the last row to the first
 unfoldable pub rowInTurn : Which → (rows turn : ℕ) → ℕ
@@ -113,28 +128,69 @@ settledPoint Varied p = p + 1
 settledPoint Useful p = p
 settledPoint Required p = p + 1
 
--- whether a row of a block takes its partner's set besides its own
-unfoldable pub joinsBy : Which → ℕ → Bool
-joinsBy Varied kind = eqb kind 9 || eqb kind 10
-joinsBy Useful kind = eqb kind 7 || eqb kind 11
-joinsBy Required kind = eqb kind 9 || eqb kind 10
+-- whether a row takes its partner's set alone
+abbrev pub splits : Part → Bool
+splits part.Assignment = false
+splits part.If = false
+splits part.Else = true
+splits part.EndIf = false
+splits part.Repeat = false
+splits part.EndRepeat = false
+
+-- whether a row of a block takes its partner's set besides its own: where sets are found from the first row on, and from the last to the first
+abbrev pub joinsOn : Part → Bool
+joinsOn part.Assignment = false
+joinsOn part.If = false
+joinsOn part.Else = false
+joinsOn part.EndIf = true
+joinsOn part.Repeat = true
+joinsOn part.EndRepeat = false
+
+abbrev pub joinsBack : Part → Bool
+joinsBack part.Assignment = false
+joinsBack part.If = true
+joinsBack part.Else = false
+joinsBack part.EndIf = false
+joinsBack part.Repeat = false
+joinsBack part.EndRepeat = true
+
+unfoldable pub joinsBy : Which → Part → Bool
+joinsBy Varied part = joinsOn part
+joinsBy Useful part = joinsBack part
+joinsBy Required part = joinsOn part
 
 -- an assignment's words are bits of a mask
 abbrev pub Small : Row → Type 0
-Small row = row .kind < 7 → InMask row
+Small row = assigns (partFor (row .kind)) ≡ true → InMask row
 
 -- r is the right side of the equation of row p, whose words these are
 abbrev pub RightSide : Which → Row → (active : Bool) → List VariableSet → (p partner r : ℕ) → Type 0
 RightSide which row active sets p c r = (l : SheetLine) → sheetRowOf l ≡ row → r ≡ rightSide (equationOf which active l p c) (setAt sets)
 
--- the words of a row say its line, and name no variable or constant beyond a mask's bits
+-- all words of a row are there
+abbrev pub RowThere : (words : List ℕ) (first row : ℕ) → Type 0
+RowThere words first p = first + (p + 1) * limit .rowWords ≤ List·length words
+
+-- the words of a row are there, say its line, and name no variable or constant beyond a mask's bits
 pub record Readable (words : List ℕ) (first row : ℕ) : Type 0 where
   pub says : let r = rowAt words (first + row * limit .rowWords) in sheetRowOf (lineOfRow r) ≡ r
   pub small : Small (rowAt words (first + row * limit .rowWords))
   pub numbered : row < wordValues
+  pub there : RowThere words first row
 
 abbrev pub AllReadable : List ℕ → (first rows : ℕ) → Type 0
 AllReadable words first rows = (p : ℕ) → p < rows → Readable words first p
+
+-- a row was looked up: these are its words, and its form is its kind's
+pub record Sees (words : List ℕ) (first : ℕ) (seen : Seen) : Type 0 where
+  pub says : rowSaid (seen .line) ≡ rowAt words (first + seen .row .0 * limit .rowWords)
+  pub formed : seen .form ≡ formFor (seen .line .kind)
+
+-- what is asked of a row that was looked up
+pub record Known (seen : Seen) : Type 0 where
+  pub formed : seen .form ≡ formFor (seen .line .kind)
+  pub small : Small (rowSaid (seen .line))
+  pub numbered : seen .row .0 < wordValues
 
 -- ---- the start
 
@@ -146,11 +202,3 @@ hasRole Required role = false
 -- the variables that the start point has; the roles stand after the sheet's first word
 unfoldable pub seedIn : Which → List ℕ → (variables : ℕ) → VariableSet
 seedIn which words v = places (hasRole which) (take v (drop 1 words))
-
--- what the code needs to settle the sets
-pub record Settles (which : Which) (given : Given) (rows variables length : ℕ) : Type 0 where
-  pub readable : AllReadable (given .words) (given .first) rows
-  pub variablesSmall : variables ≤ maskBits
-  pub rolesThere : variables < List·length (given .words)
-  pub long : length ≡ suc rows
-  pub proper : Proper variables (suc rows) (allEquations which given rows (seedIn which (given .words) variables))

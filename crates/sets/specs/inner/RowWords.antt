@@ -1,9 +1,10 @@
 -- An assignment by the four words of its row, as the code has it.
 use Prim.Native.Nat.{ℕ, _<_}
 use mathlib.Core.Path.{_≡_}
-use mathlib.Core.Bool.{Bool, not, _&&_, _||_, cond}
-use lib.Dec.{eqb, ltb}
+use mathlib.Core.Bool.{Bool, _&&_, _||_, cond}
+use lib.Dec.{eqb}
 use Rattle.sheet.specs.Rows.{Assignment, Row, rowOfAssignment}
+use Rattle.sheet.specs.inner.Kinds.{namesVariable, formFor}
 use Rattle.sets.specs.declared.transfers.Operation.{Operation}
 use Rattle.sets.specs.VariableSets.{VariableSet, empty, has, _∪_, single}
 use Rattle.sets.specs.Transfers.{Activity}
@@ -21,12 +22,17 @@ pub record InMask (row : Row) : Type 0 where
   pub a : row .a < maskBits
   pub b : row .b < maskBits
 
--- which of an assignment's words a and b name a variable that it reads
+-- which of an assignment's words a and b name a variable that it reads, by the table of kinds
 abbrev pub readsFirst : (kind : ℕ) → Bool
-readsFirst kind = not (eqb kind 2)
+readsFirst kind = namesVariable (formFor kind .1)
 
 abbrev pub readsSecond : (kind : ℕ) → Bool
-readsSecond kind = ltb 2 kind && ltb kind 6
+readsSecond kind = namesVariable (formFor kind .2)
+
+-- as the code has it at hand
+pub record Reads (operation : Operation) : Type 0 where
+  pub first : operation .first ≡ readsFirst (operation .kind)
+  pub second : operation .second ≡ readsSecond (operation .kind)
 
 -- some variable that it reads is one of s
 abbrev pub anyReadBy : VariableSet → Row → Bool

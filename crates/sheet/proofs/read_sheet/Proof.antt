@@ -51,7 +51,7 @@ add-first-row-2 : tie.Need-add-first-row-2
 add-first-row-2 c = omega (arith, within c)
 
 rows-read-requires : tie.Need-rows-read-requires
-rows-read-requires c κs = within c .there
+rows-read-requires c κs = (within c .there, within c .variables, within c .constants)
 
 enum-known-why-2 : tie.Need-enum-known-why-2
 enum-known-why-2 c = search needs

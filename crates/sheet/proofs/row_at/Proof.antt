@@ -4,41 +4,56 @@ use borrow.Author.Needs.{needs}
 use Rattle.sheet.proofs.row_at.Statement.{statement}
 use Rattle.sheet.proofs.row_at.Tie as tie
 
-word-at-requires : tie.Need-word-at-requires
-word-at-requires c κs = search needs
+mul-kind : tie.Need-mul-kind
+mul-kind c = search needs
 
-add-word-at : tie.Need-add-word-at
-add-word-at c = search needs
+shared-slice-read-kind : tie.Need-shared-slice-read-kind
+shared-slice-read-kind c = search needs
 
-word-at-requires-2 : tie.Need-word-at-requires-2
-word-at-requires-2 c κs = search needs
+add-d : tie.Need-add-d
+add-d c = search needs
 
-add-word-at-2 : tie.Need-add-word-at-2
-add-word-at-2 c = search needs
+mul-d : tie.Need-mul-d
+mul-d c = search needs
 
-word-at-requires-3 : tie.Need-word-at-requires-3
-word-at-requires-3 c κs = search needs
+shared-slice-read-d : tie.Need-shared-slice-read-d
+shared-slice-read-d c = search needs
 
-add-word-at-3 : tie.Need-add-word-at-3
-add-word-at-3 c = search needs
+add-a : tie.Need-add-a
+add-a c = search needs
 
-word-at-requires-4 : tie.Need-word-at-requires-4
-word-at-requires-4 c κs = search needs
+mul-a : tie.Need-mul-a
+mul-a c = search needs
+
+shared-slice-read-a : tie.Need-shared-slice-read-a
+shared-slice-read-a c = search needs
+
+add-b : tie.Need-add-b
+add-b c = search needs
+
+mul-b : tie.Need-mul-b
+mul-b c = search needs
+
+shared-slice-read-b : tie.Need-shared-slice-read-b
+shared-slice-read-b c = search needs
 
 returns : tie.Need-returns
 unfolding rowAt
-returns c =
-    rw (c .before .before .before .word-at .ensures, c .before .before .word-at2 .ensures, c .before .word-at3 .ensures, c .word-at4 .ensures)
+returns c = search needs
 
 pub row-at-spec : {M : Type 1} → statement M
 row-at-spec =
     tie.close
     (tie.spec
-    word-at-requires
-    add-word-at
-    word-at-requires-2
-    add-word-at-2
-    word-at-requires-3
-    add-word-at-3
-    word-at-requires-4
+    mul-kind
+    shared-slice-read-kind
+    add-d
+    mul-d
+    shared-slice-read-d
+    add-a
+    mul-a
+    shared-slice-read-a
+    add-b
+    mul-b
+    shared-slice-read-b
     returns)

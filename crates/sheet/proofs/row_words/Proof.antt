@@ -15,18 +15,18 @@ sub-if2 c = search needs
 returns-2 : tie.Need-returns-2
 returns-2 c = sym (no-row-there _ _ (omega arith))
 
-mul-row-at : tie.Need-mul-row-at
-mul-row-at c = search needs
+mul-row-near : tie.Need-mul-row-near
+mul-row-near c = search needs
 
-add-row-at : tie.Need-add-row-at
-add-row-at c = search needs
+add-row-near : tie.Need-add-row-near
+add-row-near c = search needs
 
-row-at-requires : tie.Need-row-at-requires
-row-at-requires c κs = search needs
+row-near-requires : tie.Need-row-near-requires
+row-near-requires c κs = search needs
 
 returns-3 : tie.Need-returns-3
 returns-3 c = search needs
 
 pub row-words-spec : {M : Type 1} → statement M
 row-words-spec =
-    tie.close (tie.spec returns sub-if2 returns-2 mul-row-at add-row-at row-at-requires returns-3)
+    tie.close (tie.spec returns sub-if2 returns-2 mul-row-near add-row-near row-near-requires returns-3)

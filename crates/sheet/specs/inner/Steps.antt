@@ -1,17 +1,15 @@
 -- What the reader's inner functions answer: counts and roles, a row as the blocks see it, the open blocks by their W alone, and W kept from
 -- growing beyond its bound. Nothing here needs to be believed: the contract of `read_sheet` cites none of it.
-use Prim.Native.Nat.{ℕ, suc, _+_, _*_, min, max}
+use Prim.Native.Nat.{ℕ, suc, _+_, _*_, _≤_, min, max}
 use mathlib.Core.Path.{_≡_}
 use mathlib.Core.Bool.{Bool, true, false, _&&_}
-use mathlib.Core.List.{List, map}
+use mathlib.Core.List.{List}
 use mathlib.Core.Option.{Option, none, some}
-use lib.ListN.{length, take, drop}
+use lib.ListN.{length, getD, take, drop}
 use lib.Dec.{leb, ltb, eqb}
 use Rattle.sheet.specs.Bounds.{limit}
 use Rattle.sheet.specs.Refusals.{Answer, refused, given, _>>=_}
-use Rattle.sheet.specs.Tree.{basic, ifLine, elseLine, endIf, repeat, endRepeat}
-use Rattle.sheet.specs.Rows.{SheetLine, Row, fits, Kind, kinds, kindOf, wordsFit}
-use Rattle.sheet.specs.Rows as rows
+use Rattle.sheet.specs.Rows.{Row, Kind, kinds, kindOf, wordsFit}
 use Rattle.sheet.specs.LongestRun.{longestRun}
 use Rattle.sheet.specs.Reading.{countAt, rolesFit, Block, Item, bodyOf}
 use Rattle.sheet.specs.Answers.{refusalOf, shapeRead}
@@ -26,11 +24,13 @@ use Rattle.sheet.specs.declared.Roles.the-variants as roles
 use Rattle.sheet.specs.declared.Counts.{Counts}
 use Rattle.sheet.specs.declared.Counting.{Counting}
 use Rattle.sheet.specs.declared.Counting.the-variants as counting
-use Rattle.sheet.specs.declared.Slot.{Slot}
-use Rattle.sheet.specs.declared.Slot.the-variants as slot
-use Rattle.sheet.specs.declared.Form.{Form}
-use Rattle.sheet.specs.declared.Part.{Part}
-use Rattle.sheet.specs.declared.Part.the-variants as part
+use Rattle.sheet.specs.declared.kinds.Slot.{Slot}
+use Rattle.sheet.specs.declared.kinds.Slot.the-variants as slot
+use Rattle.sheet.specs.declared.kinds.Form.{Form}
+use Rattle.sheet.specs.declared.kinds.Part.{Part}
+use Rattle.sheet.specs.declared.kinds.Part.the-variants as part
+use Rattle.sheet.specs.declared.Rule.{Rule}
+use Rattle.sheet.specs.inner.Kinds.{formOf}
 use Rattle.sheet.specs.declared.Open.{Open}
 use Rattle.sheet.specs.declared.Open.the-variants as block
 use Rattle.sheet.specs.declared.Level.{Level}
@@ -65,39 +65,49 @@ abbrev pub CountsSaid : List ℕ → Counting → Type 0
 CountsSaid words (counting.Refused why) = refused (refusalOf why) ≡ shapeRead words
 CountsSaid words (counting.Done counts) = CountsJudged words counts
 
--- ---- the table of kinds
+-- ---- what a row of each kind must be
 
--- a slot as the code names it
-abbrev pub slotOf : rows.Slot → Slot
-slotOf rows.variable = slot.Variable
-slotOf rows.constant = slot.Constant
-slotOf rows.turns = slot.Turns
-slotOf rows.unused = slot.Unused
+-- from the least that a word may be to below what it may not be
+abbrev pub leastOf : Slot → ℕ
+leastOf slot.Variable = 0
+leastOf slot.Constant = 0
+leastOf slot.Turns = 1
+leastOf slot.Unused = 0
 
--- and what it stands for
-abbrev pub slotSaid : Slot → rows.Slot
-slotSaid slot.Variable = rows.variable
-slotSaid slot.Constant = rows.constant
-slotSaid slot.Turns = rows.turns
-slotSaid slot.Unused = rows.unused
+abbrev pub beyondOf : (variables constants : ℕ) → Slot → ℕ
+beyondOf v k slot.Variable = v
+beyondOf v k slot.Constant = k
+beyondOf v k slot.Turns = suc (limit .turns)
+beyondOf v k slot.Unused = 1
 
-abbrev pub fitsSlot : (variables constants : ℕ) → Slot → ℕ → Bool
-fitsSlot v k slot word = fits v k (slotSaid slot) word
+abbrev pub ruleOf : (variables constants : ℕ) → Form → Rule
+ruleOf v k form =
+    record {
+      «least_d» = leastOf (form .0);
+      d = beyondOf v k (form .0);
+      «least_a» = leastOf (form .1);
+      a = beyondOf v k (form .1);
+      b = beyondOf v k (form .2);
+      part = form .3;
+    }
 
-abbrev pub formOf : Kind → Form
-formOf kind = record { 0 = slotOf (kind .d); 1 = slotOf (kind .a); 2 = slotOf (kind .b) }
+-- no row is of kind 0
+abbrev pub noRule : Rule
+noRule = record { «least_d» = 0; d = 0; «least_a» = 0; a = 0; b = 0; part = part.Assignment }
 
--- the form of each kind, from kind 1 on
-abbrev pub forms : List Form
-forms = map formOf kinds
+abbrev pub ruleBy : (variables constants : ℕ) → Option Kind → Rule
+ruleBy v k none = noRule
+ruleBy v k (some kind) = ruleOf v k (formOf kind)
 
--- what the logic reads beyond the table; the code never looks there
-abbrev pub noForm : Form
-noForm = record { 0 = slot.Variable; 1 = slot.Variable; 2 = slot.Variable }
+-- each kind's rule, by its number
+abbrev pub RulesFor : (variables constants : ℕ) → List Rule → Type 0
+RulesFor v k rules = (n : ℕ) → n ≤ length kinds → getD rules n noRule ≡ ruleBy v k (kindOf n)
 
--- each of a row's three words fits its slot
-abbrev pub formFits : (variables constants : ℕ) → Form → Row → Bool
-formFits v k form r = fitsSlot v k (form .0) (r .d) && fitsSlot v k (form .1) (r .a) && fitsSlot v k (form .2) (r .b)
+abbrev pub inRange : (least beyond word : ℕ) → Bool
+inRange least beyond word = leb least word && ltb word beyond
+
+abbrev pub fitsRule : Rule → Row → Bool
+fitsRule rule r = inRange (rule .«least_d») (rule .d) (r .d) && inRange (rule .«least_a») (rule .a) (r .a) && ltb (r .b) (rule .b)
 
 -- a row is of a kind, and its words fit that
 abbrev pub fitsKind : (variables constants : ℕ) → Option Kind → Row → Bool
@@ -107,32 +117,6 @@ fitsKind v k (some kind) r = wordsFit v k kind r
 unfoldable pub rowFits : (variables constants : ℕ) → Row → Bool
 unfolding kindOf
 rowFits v k r = fitsKind v k (kindOf (r .kind)) r
-
--- ---- a row as the blocks see it
-
--- by its line, unless that is refused
-abbrev pub partOf : Answer SheetLine → Option Part
-partOf (refused r) = none
-partOf (given (basic b)) = some part.Assignment
-partOf (given (ifLine f)) = some part.If
-partOf (given elseLine) = some part.Else
-partOf (given endIf) = some part.EndIf
-partOf (given (repeat m)) = some (part.Repeat (suc m))
-partOf (given endRepeat) = some part.EndRepeat
-
--- by its kind and its repeat count alone
-unfoldable pub partFor : (kind a : ℕ) → Part
-partFor kind a =
-    pick (eqb kind 7) part.If
-    (pick (eqb kind 8) part.Else
-    (pick (eqb kind 9) part.EndIf
-    (pick (eqb kind 10) (part.Repeat a)
-    (pick (eqb kind 11) part.EndRepeat part.Assignment))))
-
--- only of a row that fits
-abbrev pub partIf : Bool → Part → Option Part
-partIf true p = some p
-partIf false p = none
 
 -- ---- what a row does to the blocks that are open
 
@@ -167,35 +151,15 @@ repeatEndOf block.First longest outer = step.BadBlock
 repeatEndOf (block.Second first) longest outer = step.BadBlock
 repeatEndOf (block.Turns m) longest outer = step.Leave (counted outer (1 + m * (1 + longest)))
 
-unfoldable pub stepOf : Part → (depth : ℕ) → (inner outer : Level) → Step
+-- by what the row is to the blocks, and a repeat's count
+unfoldable pub stepOf : Part → (turns depth : ℕ) → (inner outer : Level) → Step
 unfolding saturated enterOf splitOf ifEndOf repeatEndOf
-stepOf part.Assignment depth inner outer = step.Stay (counted inner 1)
-stepOf part.If depth inner outer = enterOf depth block.First
-stepOf part.Else depth inner outer = splitOf (inner .block) (inner .longest)
-stepOf part.EndIf depth inner outer = ifEndOf (inner .block) (inner .longest) outer
-stepOf (part.Repeat m) depth inner outer = enterOf depth (block.Turns m)
-stepOf part.EndRepeat depth inner outer = repeatEndOf (inner .block) (inner .longest) outer
-
--- the same of a row that may be refused
-abbrev pub stepOr : Option Part → (depth : ℕ) → (inner outer : Level) → Step
-stepOr none depth inner outer = step.BadRow
-stepOr (some p) depth inner outer = stepOf p depth inner outer
-
-abbrev pub breaksBlock : Step → Bool
-breaksBlock step.BadRow = false
-breaksBlock step.BadBlock = true
-breaksBlock (step.Stay l) = false
-breaksBlock (step.Enter l) = false
-breaksBlock (step.Leave l) = false
-
--- "At a row 5 comes before 6": what a row does to the blocks counts only once the row fits
-abbrev pub judgedBy : Bool → Step → Step
-judgedBy true s = s
-judgedBy false s = step.BadRow
-
-unfoldable pub rowStep : (variables constants : ℕ) → Row → (depth : ℕ) → (inner outer : Level) → Step
-unfolding rowFits partFor stepOf
-rowStep v k r depth inner outer = judgedBy (rowFits v k r) (stepOf (partFor (r .kind) (r .a)) depth inner outer)
+stepOf part.Assignment turns depth inner outer = step.Stay (counted inner 1)
+stepOf part.If turns depth inner outer = enterOf depth block.First
+stepOf part.Else turns depth inner outer = splitOf (inner .block) (inner .longest)
+stepOf part.EndIf turns depth inner outer = ifEndOf (inner .block) (inner .longest) outer
+stepOf part.Repeat turns depth inner outer = enterOf depth (block.Turns turns)
+stepOf part.EndRepeat turns depth inner outer = repeatEndOf (inner .block) (inner .longest) outer
 
 -- ---- all rows
 

@@ -2,18 +2,20 @@
 -- row by row, into a lent buffer.
 use Prim.Native.Nat.{ℕ, zero, suc, _+_, _*_, _-_, _≤_, _<_}
 use mathlib.Core.Path.{_≡_}
-use mathlib.Core.Bool.{Bool, true, false, cond, _||_}
+use mathlib.Core.Bool.{Bool, true, false}
 use mathlib.Core.List.{List, [], _∷_, _++_, map}
 use mathlib.Core.Option.{some}
 use lib.ListN.{length, getD}
 use lib.Seq.{sets}
-use lib.Dec.{eqb}
 use Rattle.sheet.specs.Reading.{rowAt}
 use Rattle.sheet.specs.Bounds.{limit}
 use Rattle.sheet.specs.Tree.{Tree, done, one, fork, again, rows, RowNumber, basic, ifLine, elseLine, endIf, repeat, endRepeat}
 use Rattle.sheet.specs.Rows.{Assignment, Test, _≔_, Source, fixed, SheetLine, Row, rowOfTest, sheetRowOf}
 use Rattle.sheet.specs.inner.RowLines.{lineOfRow}
+use Rattle.sheet.specs.inner.Kinds.{partOf}
 use Rattle.sheet.specs.declared.Shape.{Shape}
+use Rattle.sheet.specs.declared.kinds.Part.{Part}
+use Rattle.sheet.specs.declared.kinds.Part.the-variants as part
 use Rattle.sets.specs.Transfers.{Activity}
 use Rattle.sets.specs.Marks.{Marked}
 use Rattle.sets.specs.MarkBytes.{weight, bitOf}
@@ -69,6 +71,11 @@ pub record Small (variables : ℕ) (r : Row) : Type 0 where
 -- a row that says a line says nothing else: its unused words are 0
 pub record Says (r : Row) : Type 0 where
   pub back : sheetRowOf (lineOfRow r) ≡ r
+
+-- and what the line is to the blocks
+pub record SaysPart (r : Row) (p : Part) : Type 0 where
+  pub says : Says r
+  pub is : p ≡ partOf (lineOfRow r)
 
 abbrev pub sourceIn : Assignment → Source
 sourceIn (d ≔ source) = source
@@ -143,11 +150,12 @@ pub record Counted (most count : ℕ) (rowsFor : (variables : ℕ) → List Row)
 abbrev pub rowNumbered : (words : List ℕ) (first p : ℕ) → Row
 rowNumbered words first p = rowAt words (first + p * limit .rowWords)
 
--- what the reader has made sure of: the rows are few, each says a line, and a mark is there for each
+-- what the reader has made sure of: the rows are there, few, each says a line, and a mark is there for each
 pub record Readable (words : List ℕ) (shape : Shape) (marks : List ℕ) : Type 0 where
   pub few : shape .rows ≤ limit .rows
   pub marked : shape .rows ≤ length marks
   pub says : (p : ℕ) → p < shape .rows → Says (rowNumbered words (shape .«first_row») p)
+  pub there : shape .«first_row» + shape .rows * limit .rowWords ≤ length words
 
 -- the forward part's rows, for so many rows from row p on, and for all of them
 unfoldable pub forwardRows : (words : List ℕ) (first : ℕ) (marks : List ℕ) (p count : ℕ) → List Row
@@ -163,15 +171,25 @@ forwardAll words shape marks = forwardRows words (shape .«first_row») marks 0 
 abbrev pub ifEnd : (goes : List ℕ) (q : ℕ) → ℕ
 ifEnd goes q = getD goes (getD goes q 0) 0
 
--- The backward part walks over the rows from the last on. From a row of a kind it goes to the end of what comes next, which is
+-- The backward part walks over the rows from the last on. From a row it goes to the end of what comes next, which is
 -- the row before; but "end if" to the first branch, "if" to the second, "else" to what is before the block.
-unfoldable pub stepBack : (came goes : List ℕ) (q kind : ℕ) → ℕ
-stepBack came goes q kind = cond (eqb kind 7) (ifEnd goes q) (cond (eqb kind 8 || eqb kind 9) (getD came q 0) q)
+unfoldable pub stepBack : (came goes : List ℕ) (q : ℕ) → Part → ℕ
+stepBack came goes q part.Assignment = q
+stepBack came goes q part.If = ifEnd goes q
+stepBack came goes q part.Else = getD came q 0
+stepBack came goes q part.EndIf = getD came q 0
+stepBack came goes q part.Repeat = q
+stepBack came goes q part.EndRepeat = q
 
 -- the turns of an "end repeat"'s "repeat"
-unfoldable pub turnsBack : (words : List ℕ) (first : ℕ) (goes : List ℕ) (q kind : ℕ) → ℕ
+unfoldable pub turnsBack : (words : List ℕ) (first : ℕ) (goes : List ℕ) (q : ℕ) → Part → ℕ
 unfolding rowAt
-turnsBack words first goes q kind = cond (eqb kind 11) (rowNumbered words first (getD goes q 0) .a) 0
+turnsBack words first goes q part.Assignment = 0
+turnsBack words first goes q part.If = 0
+turnsBack words first goes q part.Else = 0
+turnsBack words first goes q part.EndIf = 0
+turnsBack words first goes q part.Repeat = 0
+turnsBack words first goes q part.EndRepeat = rowNumbered words first (getD goes q 0) .a
 
 -- what the writer is handed for the backward part
 pub record Handed : Type 0 where
@@ -202,11 +220,11 @@ module _ (given : Handed) where
   -- the backward part's rows: of row q, and of so many rows from the one before `end` on
   abbrev pub backwardAt : (q : ℕ) → List Row
   backwardAt q =
-      backwardOfLine (given .variables) (getD (given .marks) q 0) (turnsBack (given .words) (given .first) (given .goes) q (rowOfNumber q .kind))
-      (lineOfRow (rowOfNumber q))
+      let l = lineOfRow (rowOfNumber q) in
+      backwardOfLine (given .variables) (getD (given .marks) q 0) (turnsBack (given .words) (given .first) (given .goes) q (partOf l)) l
 
   abbrev pub wayBack : (q : ℕ) → ℕ
-  wayBack q = stepBack (given .came) (given .goes) q (rowOfNumber q .kind)
+  wayBack q = stepBack (given .came) (given .goes) q (partOf (lineOfRow (rowOfNumber q)))
 
   unfoldable pub backwardRows : (count end : ℕ) → List Row
   unfolding backwardOfLine turnsBack lineOfRow rowAt stepBack
@@ -223,7 +241,7 @@ module _ (given : Handed) where
 
   -- the walk stays on the rows for so many of them
   unfoldable pub Walks : (count end : ℕ) → Type 0
-  unfolding rowAt stepBack
+  unfolding rowAt lineOfRow stepBack
   Walks zero end = Unit
   Walks (suc n) end = Visited end × Walks n (wayBack (end - 1))
 

@@ -4,13 +4,16 @@ use mathlib.Core.Path.{_≡_}
 use mathlib.Core.Bool.{Bool, cond}
 use mathlib.Core.List.{List, [], _∷_}
 use lib.ListN.{length, getD}
-use lib.Dec.{eqb, ltb}
+use lib.Dec.{ltb}
 use Rattle.sheet.specs.Bounds.{greatestWord}
 use Rattle.sheet.specs.Tree.{basic, ifLine, elseLine, endIf, repeat, endRepeat}
 use Rattle.sheet.specs.Rows.{SheetLine}
 use Rattle.sheet.specs.inner.RowLines.{lineOfRow}
 use Rattle.sheet.specs.Reading.{rowAt}
+use Rattle.sheet.specs.inner.Kinds.{partOf}
 use Rattle.sheet.specs.declared.Shape.{Shape}
+use Rattle.sheet.specs.declared.kinds.Part.{Part}
+use Rattle.sheet.specs.declared.kinds.Part.the-variants as part
 use Rattle.table.specs.inner.MarkedRows.{savedBy, rowNumbered, ifEnd}
 use Rattle.table.specs.declared.needs.Stack.{Stack}
 use Rattle.table.specs.declared.needs.Stack.the-variants as stack
@@ -39,8 +42,13 @@ needOfLine stack mark (repeat m) next second beyond = suc m * next + beyond
 needOfLine stack mark endRepeat next second beyond = 0
 
 -- the last row of the block that row q opens: a "repeat"'s partner, the partner of an "if"'s "else"
-unfoldable pub blockEnd : (came goes : List ℕ) (q kind : ℕ) → ℕ
-blockEnd came goes q kind = cond (eqb kind 10) (getD came q 0) (ifEnd goes q)
+unfoldable pub blockEnd : (came goes : List ℕ) (q : ℕ) → Part → ℕ
+blockEnd came goes q part.Assignment = ifEnd goes q
+blockEnd came goes q part.If = ifEnd goes q
+blockEnd came goes q part.Else = ifEnd goes q
+blockEnd came goes q part.EndIf = ifEnd goes q
+blockEnd came goes q part.Repeat = getD came q 0
+blockEnd came goes q part.EndRepeat = ifEnd goes q
 
 -- what the rows after `row` need, of a list that has it for the rows after q, the next one first
 unfoldable pub afterRow : (q : ℕ) (later : List ℕ) (row : ℕ) → ℕ
@@ -60,7 +68,7 @@ module _ (stack : Stack) (words : List ℕ) (first : ℕ) (marks came goes : Lis
   unfolding needOfLine lineOfRow rowAt afterRow blockEnd
   needAt q later =
       capped (needOfLine stack (getD marks q 0) (lineOfRow (rowNumbered words first q)) (afterRow q later q) (afterRow q later (getD goes q 0))
-      (afterRow q later (blockEnd came goes q (rowNumbered words first q .kind))))
+      (afterRow q later (blockEnd came goes q (partOf (lineOfRow (rowNumbered words first q))))))
 
   -- each of so many rows from row q on, and 0 for what is after the last
   unfoldable pub needsFrom : (q count : ℕ) → List ℕ

@@ -3,7 +3,7 @@ use mathlib.Core.Path.{subst}
 use Rattle.number.specs.Residues.{residues}
 use Rattle.run.specs.inner.CallSteps.{JudgedAs}
 use Rattle.run.proofs.AdmittedLaws.{residues-admitted}
-use Rattle.run.proofs.SectionLaws.{sheet-room}
+use Rattle.run.proofs.SectionLaws.{sheet-room, room-indexed}
 use Rattle.run.proofs.CallsJudged.{refused-run, accepted-run}
 use borrow.Author.Needs.{needs}
 use Rattle.run.proofs.calls_audit.run_audit.Statement.{statement}
@@ -28,7 +28,8 @@ run-written-requires : tie.Need-run-written-requires
 run-written-requires c κs =
     let wrote = c .before .before .before .before .before .before in
     let planned = wrote .before .before .before .before .before .before in
-    sheet-room _ _ _ (subst (JudgedAs _ _ _ _ _) (planned .plan .given .1) (planned .before .before .judge .ensures))
+    let room = subst (JudgedAs _ _ _ _ _) (planned .plan .given .1) (planned .before .before .judge .ensures) in
+    (room-indexed _ room (wrote .write-planned .ensures), sheet-room _ _ _ room)
 
 returns : tie.Need-returns
 returns c =

@@ -2,7 +2,7 @@
 use mathlib.Core.Path.{sym}
 use lib.Seq.{length-take-le}
 use Rattle.number.specs.Residues.{residues}
-use Rattle.run.proofs.SectionLaws.{run-room, ready-to-run}
+use Rattle.run.proofs.SectionLaws.{run-room, part-indexed, ready-to-run}
 use native.Mathlib.Omega.{arith}
 use borrow.Author.Needs.{needs}
 use Rattle.run.proofs.calls_audit.run_written.Statement.{statement}
@@ -60,7 +60,7 @@ run-in-requires : tie.Need-run-in-requires
 run-in-requires c κs =
     let found = c .before .before .before .before .before .before .before .before in
     let start = found .before .before .before .before .before .before .before .before .before .before .before in
-    run-room _ _ residues (start .pre)
+    (part-indexed _ _ residues (start .pre .1) (start .pre .0), run-room _ _ residues (start .pre .1))
 
 same-length : tie.Need-same-length
 same-length c = search needs

@@ -2,7 +2,7 @@
 use mathlib.Core.Path.{subst}
 use Rattle.number.specs.Doubles.{doubles}
 use Rattle.run.specs.inner.CallSteps.{JudgedAs}
-use Rattle.run.proofs.SectionLaws.{sheet-room}
+use Rattle.run.proofs.SectionLaws.{sheet-room, room-indexed}
 use Rattle.run.proofs.CallsJudged.{said, refused-run, numbers-refuse, accepted-run}
 use borrow.Author.Needs.{needs}
 use Rattle.run.proofs.calls_double.run_double.Statement.{statement}
@@ -46,7 +46,8 @@ run-written-requires : tie.Need-run-written-requires
 run-written-requires c κs =
     let wrote = c .before .before .before .before .before .before in
     let planned = wrote .before .before .before .before .before .before .before .before .before in
-    sheet-room _ _ _ (subst (JudgedAs _ _ _ _ _) (planned .plan .given .1) (planned .before .before .judge .ensures))
+    let room = subst (JudgedAs _ _ _ _ _) (planned .plan .given .1) (planned .before .before .judge .ensures) in
+    (room-indexed _ room (wrote .write-planned .ensures), sheet-room _ _ _ room)
 
 returns-2 : tie.Need-returns-2
 returns-2 c =

@@ -3,7 +3,7 @@ use mathlib.Core.Path.{sym}
 use lib.Seq.{length-take-le}
 use lib.Ieee.{ofBits}
 use Rattle.number.specs.Doubles.{doubles}
-use Rattle.run.proofs.SectionLaws.{run-room, ready-to-run}
+use Rattle.run.proofs.SectionLaws.{run-room, part-indexed, ready-to-run}
 use native.Mathlib.Omega.{arith}
 use borrow.Author.Needs.{needs}
 use Rattle.run.proofs.calls_double.run_written.Statement.{statement}
@@ -62,7 +62,7 @@ unfolding ofBits
 run-in-requires c κs =
     let found = c .before .before .before .before .before .before .before .before in
     let start = found .before .before .before .before .before .before .before .before .before .before .before in
-    run-room _ _ doubles (start .pre)
+    (part-indexed _ _ doubles (start .pre .1) (start .pre .0), run-room _ _ doubles (start .pre .1))
 
 same-length : tie.Need-same-length
 same-length c = search needs

@@ -16,6 +16,9 @@ enum-told-2 c = search needs
 enum-told-3 : tie.Need-enum-told-3
 enum-told-3 c = search needs
 
+enum-told-4 : tie.Need-enum-told-4
+enum-told-4 c = search needs
+
 same-length : tie.Need-same-length
 same-length c = search needs
 
@@ -31,6 +34,10 @@ returns-3 : tie.Need-returns-3
 unfolding resultAt
 returns-3 c = rw (c .enum-told3 .given .1)
 
+returns-4 : tie.Need-returns-4
+unfolding resultAt
+returns-4 c = rw (c .enum-told4 .given .1)
+
 pub write-result-spec : {M : Type 1} → statement M
 write-result-spec =
     tie.close
@@ -39,7 +46,9 @@ write-result-spec =
     write-doubles-requires
     enum-told-2
     enum-told-3
+    enum-told-4
     same-length
     returns
     returns-2
-    returns-3)
+    returns-3
+    returns-4)

@@ -1,39 +1,43 @@
 -- `run::doubles::added` meets its contract.
-use mathlib.Core.Path.{ap, _∙_}
-use Rattle.number.specs.Doubles.{doubles}
-use Rattle.run.specs.Attempts.{fromOutcome}
+use mathlib.Core.Path.{ap}
+use lib.Ieee.{nan}
 use Rattle.run.specs.Actions.{evaluated}
-use Rattle.run.proofs.RowLaws.{combines}
+use Rattle.run.specs.Attempts.{fromOutcome}
+use Rattle.run.proofs.PlaceLaws.{look-there}
 use borrow.Author.Needs.{needs}
 use Rattle.run.proofs.doubles.added.Statement.{statement}
 use Rattle.run.proofs.doubles.added.Tie as tie
 
-operands-requires : tie.Need-operands-requires
-operands-requires c κs = search needs
+mul-sum : tie.Need-mul-sum
+mul-sum c = search needs
 
-enum-known-x : tie.Need-enum-known-x
-enum-known-x c = search needs
+shared-slice-read-sum : tie.Need-shared-slice-read-sum
+shared-slice-read-sum c = search needs
+
+mul-sum-2 : tie.Need-mul-sum-2
+mul-sum-2 c = search needs
+
+shared-slice-read-sum-2 : tie.Need-shared-slice-read-sum-2
+shared-slice-read-sum-2 c = search needs
 
 sum-requires : tie.Need-sum-requires
 sum-requires c κs = search needs
 
-read-of-requires : tie.Need-read-of-requires
-read-of-requires c κs = search needs
-
-enum-told : tie.Need-enum-told
-enum-told c = search needs
-
 returns : tie.Need-returns
 unfolding evaluated
 returns c constants =
-    c .read-of .ensures
-    ∙ ap fromOutcome (c .before .sum .ensures)
-    ∙ combines (rw (c .before .before .before .x .given .1) at (c .before .before .before .before .before .operands .ensures))
-    (λ x y. fromOutcome (doubles .sum x y))
-
-returns-2 : tie.Need-returns-2
-unfolding evaluated
-returns-2 c constants = combines (rw (c .enum-told .given .1) at (c .before .before .operands .ensures)) (λ x y. fromOutcome (doubles .sum x y))
+    let start = c .before .before .before .before in
+    let store = start .args .store .now in
+    rw (look-there store (start .args .a .0) nan (start .pre .0), look-there store (start .args .b .0) nan (start .pre .1))
+    (ap fromOutcome (c .sum .ensures))
 
 pub added-spec : {M : Type 1} → statement M
-added-spec = tie.close (tie.spec operands-requires enum-known-x sum-requires read-of-requires enum-told returns returns-2)
+added-spec =
+    tie.close
+    (tie.spec
+    mul-sum
+    shared-slice-read-sum
+    mul-sum-2
+    shared-slice-read-sum-2
+    sum-requires
+    returns)

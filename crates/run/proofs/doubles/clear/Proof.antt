@@ -1,11 +1,8 @@
 -- `run::doubles::clear` meets its contract.
+use Rattle.run.proofs.RowLaws.{clear-goes}
 use borrow.Author.Needs.{needs}
-use Rattle.run.proofs.RowLaws.{clear-goes, clear-nowhere}
 use Rattle.run.proofs.doubles.clear.Statement.{statement}
 use Rattle.run.proofs.doubles.clear.Tie as tie
-
-returns : tie.Need-returns
-returns c = clear-nowhere (c .if1 .taken)
 
 zero-requires : tie.Need-zero-requires
 zero-requires c κs = search needs
@@ -19,9 +16,15 @@ slice-write-store c = search needs
 same-length : tie.Need-same-length
 same-length c = search needs
 
-returns-2 : tie.Need-returns-2
-returns-2 c = clear-goes (c .zero .ensures) (search needs)
+returns : tie.Need-returns
+returns c = clear-goes (c .zero .ensures) (c .before .before .pre)
 
 pub clear-spec : {M : Type 1} → statement M
 clear-spec =
-    tie.close (tie.spec returns zero-requires mul-store slice-write-store same-length returns-2)
+    tie.close
+    (tie.spec
+    zero-requires
+    mul-store
+    slice-write-store
+    same-length
+    returns)

@@ -1,12 +1,9 @@
 -- `run::residues::clear` meets its contract.
 use mathlib.Core.Path.{refl}
+use Rattle.run.proofs.RowLaws.{clear-goes}
 use borrow.Author.Needs.{needs}
-use Rattle.run.proofs.RowLaws.{clear-goes, clear-nowhere}
 use Rattle.run.proofs.residues.clear.Statement.{statement}
 use Rattle.run.proofs.residues.clear.Tie as tie
-
-returns : tie.Need-returns
-returns c = clear-nowhere (c .if1 .taken)
 
 mul-store : tie.Need-mul-store
 mul-store c = search needs
@@ -17,8 +14,14 @@ slice-write-store c = search needs
 same-length : tie.Need-same-length
 same-length c = search needs
 
-returns-2 : tie.Need-returns-2
-returns-2 c = clear-goes refl (search needs)
+returns : tie.Need-returns
+returns c = clear-goes refl (search needs)
 
 pub clear-spec : {M : Type 1} → statement M
-clear-spec = tie.close (tie.spec returns mul-store slice-write-store same-length returns-2)
+clear-spec =
+    tie.close
+    (tie.spec
+    mul-store
+    slice-write-store
+    same-length
+    returns)

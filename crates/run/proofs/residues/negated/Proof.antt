@@ -1,8 +1,8 @@
--- `run::residues::negated` meets its contract: the opposite of what stands at the place, if it is there.
+-- `run::residues::negated` meets its contract.
 use mathlib.Core.Path.{ap}
 use Rattle.run.specs.Actions.{evaluated}
 use Rattle.run.specs.Attempts.{fromOutcome}
-use Rattle.run.proofs.PlaceLaws.{look-there, look-missing}
+use Rattle.run.proofs.PlaceLaws.{look-there}
 use borrow.Author.Needs.{needs}
 use Rattle.run.proofs.residues.negated.Statement.{statement}
 use Rattle.run.proofs.residues.negated.Tie as tie
@@ -19,16 +19,14 @@ negation-requires c κs = search needs
 returns : tie.Need-returns
 unfolding evaluated
 returns c constants =
-    let args = c .before .before .before .before .args in
-    rw (look-there (args .store .now) (args .a .0) 0 (c .before .before .if1 .taken)) (ap fromOutcome (c .negation .ensures))
-
-returns-2 : tie.Need-returns-2
-unfolding evaluated
-returns-2 c constants =
-    let args = c .before .before .args in
-    rw (look-missing (args .store .now) (args .a .0) (c .if1 .left))
+    let start = c .before .before .before in
+    rw (look-there (start .args .store .now) (start .args .a .0) 0 (start .pre)) (ap fromOutcome (c .negation .ensures))
 
 pub negated-spec : {M : Type 1} → statement M
 negated-spec =
     tie.close
-    (tie.spec mul-negation shared-slice-read-negation negation-requires returns returns-2)
+    (tie.spec
+    mul-negation
+    shared-slice-read-negation
+    negation-requires
+    returns)

@@ -1,14 +1,11 @@
 -- `run::residues::save` meets its contract.
+use Rattle.run.proofs.RowLaws.{save-goes, save-full}
 use borrow.Author.Needs.{needs}
-use Rattle.run.proofs.RowLaws.{save-goes, save-nowhere, save-full}
 use Rattle.run.proofs.residues.save.Statement.{statement}
 use Rattle.run.proofs.residues.save.Tie as tie
 
 returns : tie.Need-returns
-returns c = save-nowhere (c .if1 .taken)
-
-returns-2 : tie.Need-returns-2
-returns-2 c = save-full (c .before .if1 .left) (c .if2 .taken)
+returns c = save-full (c .before .pre) (c .if1 .taken)
 
 mul-values : tie.Need-mul-values
 mul-values c = search needs
@@ -28,19 +25,18 @@ add-t6 c = search needs
 same-length : tie.Need-same-length
 same-length c = search needs
 
-returns-3 : tie.Need-returns-3
-returns-3 c = save-goes _ (c .before .before .if1 .left) (c .before .if2 .left)
+returns-2 : tie.Need-returns-2
+returns-2 c = save-goes _ (c .before .before .pre) (c .before .if1 .left)
 
 pub save-spec : {M : Type 1} → statement M
 save-spec =
     tie.close
     (tie.spec
     returns
-    returns-2
     mul-values
     shared-slice-read-values
     mul-values-2
     slice-write-values
     add-t6
     same-length
-    returns-3)
+    returns-2)

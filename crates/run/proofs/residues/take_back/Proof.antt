@@ -1,22 +1,19 @@
--- `run::residues::take_back` meets its contract: the top is one below the height.
+-- `run::residues::take_back` meets its contract.
 use mathlib.Core.Path.{refl}
 use native.Mathlib.Omega.{arith}
+use Rattle.run.proofs.RowLaws.{take-back-goes, take-back-empty, take-back-above}
 use borrow.Author.Needs.{needs}
-use Rattle.run.proofs.RowLaws.{take-back-goes, take-back-nowhere, take-back-empty, take-back-above}
 use Rattle.run.proofs.residues.take_back.Statement.{statement}
 use Rattle.run.proofs.residues.take_back.Tie as tie
 
 returns : tie.Need-returns
-returns c = take-back-nowhere (c .if1 .taken)
-
-returns-2 : tie.Need-returns-2
-returns-2 c = take-back-empty (c .if2 .taken)
+returns c = take-back-empty (c .if1 .taken)
 
 sub-top : tie.Need-sub-top
 sub-top c = search needs
 
-returns-3 : tie.Need-returns-3
-returns-3 c = take-back-above (omega arith)
+returns-2 : tie.Need-returns-2
+returns-2 c = take-back-above (omega arith)
 
 mul-x : tie.Need-mul-x
 mul-x c = search needs
@@ -42,17 +39,16 @@ same-length c = search needs
 same-length-2 : tie.Need-same-length-2
 same-length-2 c = search needs
 
-returns-4 : tie.Need-returns-4
-returns-4 c = take-back-goes _ refl (omega arith) (omega arith) (omega arith)
+returns-3 : tie.Need-returns-3
+returns-3 c = take-back-goes _ refl (omega arith) (omega arith) (omega arith)
 
 pub take-back-spec : {M : Type 1} → statement M
 take-back-spec =
     tie.close
     (tie.spec
     returns
-    returns-2
     sub-top
-    returns-3
+    returns-2
     mul-x
     slice-read-x
     mul-store
@@ -61,4 +57,4 @@ take-back-spec =
     slice-write-values
     same-length
     same-length-2
-    returns-4)
+    returns-3)

@@ -11,8 +11,8 @@ returns c = search needs
 returns-2 : tie.Need-returns-2
 returns-2 c = search needs
 
-row-words-requires : tie.Need-row-words-requires
-row-words-requires c κs = search needs
+row-of-requires : tie.Need-row-of-requires
+row-of-requires c κs = search needs
 
 add-following : tie.Need-add-following
 add-following c = search needs
@@ -31,12 +31,12 @@ cast-b c = search needs
 
 returns-3 : tie.Need-returns-3
 returns-3 c =
-    meets-compare (c .before .before .before .before .before .row-words .ensures) (omega arith) (omega arith)
+    meets-compare (c .before .before .before .before .before .row-of .ensures) (omega arith) (omega arith)
     (c .before .before .before .before .following .ensures)
     (c .before .before .if3 .taken)
 
 returns-4 : tie.Need-returns-4
-returns-4 c = (meets-row (c .before .before .before .row-words .ensures) (omega arith) (omega arith) (c .before .before .following .ensures), c .if3 .left)
+returns-4 c = (meets-row (c .before .before .before .row-of .ensures) (omega arith) (omega arith) (c .before .before .following .ensures), c .if3 .left)
 
 pub block-at-spec : {M : Type 1} → statement M
 block-at-spec =
@@ -44,7 +44,7 @@ block-at-spec =
     (tie.spec
     returns
     returns-2
-    row-words-requires
+    row-of-requires
     add-following
     sub-following
     following-requires

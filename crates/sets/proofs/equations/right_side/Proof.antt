@@ -1,56 +1,108 @@
--- `sets::equations::right_side` meets its contract: each branch is one case of the row's line.
+-- `sets::equations::right_side` meets its contract: each branch is one case of what the row is to the blocks.
 use borrow.Author.Needs.{needs}
 use denote.Ref.{now}
+use mathlib.Core.Path.{_≡_, refl, sym, ap, _∙_}
+use mathlib.Core.Bool.{true, false}
 use mathlib.Core.List.{List}
+use Rattle.sheet.specs.inner.Kinds.{assigns, partFor}
 use Rattle.sets.specs.VariableSets.{VariableSet}
-use Rattle.sets.proofs.RightSides.{assigned, at-else, in-block}
+use Rattle.sets.specs.inner.RowEquations.{splits, joinsBy}
+use Rattle.sets.proofs.RightSides.{assigned, at-else, in-block, asks-else, asks-joined}
 use Rattle.sets.proofs.equations.right_side.Statement.{statement}
 use Rattle.sets.proofs.equations.right_side.Tie as tie
 
+abbrev start : tie.After-own-set → tie.Start
+start c = c .before .before .before .before .before
+
 abbrev sets : tie.After-own-set → List VariableSet
-sets c = now (c .before .before .args .sets)
+sets c = now (start c .args .sets)
+
+-- what the row is to the blocks, from the table of kinds
+part : (c : tie.After-own-set) → start c .args .seen .form .3 ≡ partFor (start c .args .seen .line .kind)
+part c = ap (λ form. form .3) (start c .pre .0 .formed)
 
 own-set-requires : tie.Need-own-set-requires
 own-set-requires c κs = search needs
+
+assigns-requires : tie.Need-assigns-requires
+assigns-requires c κs = search needs
 
 operation-of-requires : tie.Need-operation-of-requires
 operation-of-requires c κs = search needs
 
 transfer-requires : tie.Need-transfer-requires
-transfer-requires c κs = rw (c .operation-of .ensures) (c .before .before .before .before .pre .0 (c .before .if1 .taken))
+transfer-requires c κs =
+    let judged = c .before .before in
+    let own = judged .before in
+    let isAssigned = ap assigns (sym (part own)) ∙ sym (judged .assigns .ensures) ∙ c .before .if1 .taken in
+    (rw (c .operation-of .ensures .0) (start own .pre .0 .small isAssigned), c .operation-of .ensures .1)
 
 returns : tie.Need-returns
 returns c =
-    let assigns = c .before .before in
-    let own = assigns .before in
-    assigned _ _ (sets own) _ _ _ _ _ _ (own .own-set .ensures) (c .before .operation-of .ensures) (assigns .if1 .taken) (c .transfer .ensures)
+    let judged = c .before .before .before in
+    let own = judged .before in
+    assigned _ _ (sets own) _ _ _ _ (part own) _ _ _ (own .own-set .ensures) (c .before .operation-of .ensures .0)
+    (sym (judged .assigns .ensures) ∙ c .before .before .if1 .taken) (c .transfer .ensures)
+
+splits-requires : tie.Need-splits-requires
+splits-requires c κs = search needs
 
 own-set-requires-2 : tie.Need-own-set-requires-2
-own-set-requires-2 c κs = search needs
+own-set-requires-2 c κs =
+    let split = c .before in
+    let own = split .before .before .before in
+    let args = start own .args in
+    (start own .pre .1, start own .pre .3 (asks-else (args .which) (partFor (args .seen .line .kind)) (ap splits (sym (part own)) ∙ sym (split .splits .ensures) ∙ c .if2 .taken)))
 
 returns-2 : tie.Need-returns-2
-returns-2 c = at-else _ _ (sets (c .before .before .before)) _ _ _ _ (c .before .own-set2 .ensures) (c .if2 .taken)
+returns-2 c =
+    let split = c .before .before in
+    let own = split .before .before .before in
+    at-else _ _ (sets own) _ _ _ _ (part own) _ (c .own-set2 .ensures) (sym (split .splits .ensures) ∙ c .before .if2 .taken)
 
-joined-requires : tie.Need-joined-requires
-joined-requires c κs = search needs
+joins-requires : tie.Need-joins-requires
+joins-requires c κs = search needs
+
+own-set-requires-3 : tie.Need-own-set-requires-3
+own-set-requires-3 c κs =
+    let joins = c .before in
+    let own = joins .before .before .before .before .before in
+    let args = start own .args in
+    (start own .pre .1, start own .pre .3 (asks-joined (args .which) (partFor (args .seen .line .kind)) (ap (joinsBy (args .which)) (sym (part own)) ∙ sym (joins .joins .ensures) ∙ c .if3 .taken)))
 
 returns-3 : tie.Need-returns-3
 returns-3 c =
-    let other = c .before .before in
-    let block = other .before in
-    let own = block .before in
-    in-block _ _ (sets own) _ _ _ _ _ _ (own .own-set .ensures) (other .own-set2 .ensures) (block .if1 .left) (c .before .if2 .left)
-    (c .joined .ensures)
+    let joins = c .before .before in
+    let split = joins .before .before in
+    let judged = split .before .before in
+    let own = judged .before in
+    in-block _ _ (sets own) _ _ _ _ (part own) _ _ _ (own .own-set .ensures) (c .own-set3 .ensures)
+    (sym (judged .assigns .ensures) ∙ split .before .if1 .left) (sym (split .splits .ensures) ∙ joins .before .if2 .left)
+    (rw (sym (joins .joins .ensures) ∙ c .before .if3 .taken))
+
+returns-4 : tie.Need-returns-4
+returns-4 c =
+    let joins = c .before in
+    let split = joins .before .before in
+    let judged = split .before .before in
+    let own = judged .before in
+    in-block _ _ (sets own) _ _ _ _ (part own) _ _ _ (own .own-set .ensures) refl
+    (sym (judged .assigns .ensures) ∙ split .before .if1 .left) (sym (split .splits .ensures) ∙ joins .before .if2 .left)
+    (rw (sym (joins .joins .ensures) ∙ c .if3 .left))
 
 pub right-side-spec : {M : Type 1} → statement M
 right-side-spec =
     tie.close
     (tie.spec
     own-set-requires
+    assigns-requires
     operation-of-requires
     transfer-requires
     returns
+    splits-requires
     own-set-requires-2
     returns-2
-    joined-requires
-    returns-3)
+    joins-requires
+    own-set-requires-3
+    returns-3
+    returns-4)

@@ -1,19 +1,27 @@
--- `sets::marks::byte_at` meets its contract: each branch is one case of the row's line.
+-- `sets::marks::byte_at` meets its contract: each branch is one case of what the row is to the blocks.
 use borrow.Author.Needs.{needs}
-use native.Mathlib.Omega.{arith}
-use mathlib.Core.Path.{sym, _∙_}
+use borrow.Author.Tests.{not-true, not-false}
+use mathlib.Core.Path.{_≡_, sym, ap, subst, _∙_}
+use Rattle.sheet.specs.inner.Kinds.{assigns, partFor}
+use Rattle.sets.specs.inner.RowWords.{InMask}
 use Rattle.sets.proofs.MarkByteLaws.{no-byte, some-byte}
 use Rattle.sets.proofs.marks.byte_at.Statement.{statement}
 use Rattle.sets.proofs.marks.byte_at.Tie as tie
 
-abbrev start : tie.After-row-words → tie.Start
-start c = c .before .before .before .before .before
+abbrev start : tie.After-assigns → tie.Start
+start c = c .before .before .before .before .before .before .before
 
-row-words-requires : tie.Need-row-words-requires
-row-words-requires c κs = search needs
+-- what the row is to the blocks, from the table of kinds
+part : (c : tie.After-assigns) → start c .args .seen .form .3 ≡ partFor (start c .args .seen .line .kind)
+part c = ap (λ form. form .3) (start c .pre .0 .formed)
+
+assigns-requires : tie.Need-assigns-requires
+assigns-requires c κs = search needs
 
 returns : tie.Need-returns
-returns c = no-byte _ _ _ _ _ _ (start (c .before .before) .pre .says) (rw (sym (c .before .before .row-words .ensures)) (c .if1 .taken))
+returns c l e =
+    let judged = c .before in
+    no-byte _ _ _ _ _ _ (part judged) l e (sym (judged .assigns .ensures) ∙ not-true _ (c .if1 .taken))
 
 set-at-requires : tie.Need-set-at-requires
 set-at-requires c κs = search needs
@@ -32,27 +40,27 @@ operation-of-requires c κs = search needs
 
 row-byte-requires : tie.Need-row-byte-requires
 row-byte-requires c κs =
-    let assigns = c .before .before .before .before .before in
-    let read = assigns .before .before in
-    rw (c .operation-of .ensures, read .row-words .ensures)
-    (start read .pre .small (rw (sym (read .row-words .ensures)) (omega (arith, assigns .if1 .left))))
+    let assigned = c .before .before .before .before .before in
+    let judged = assigned .before in
+    let isAssigned = ap assigns (sym (part judged)) ∙ sym (judged .assigns .ensures) ∙ not-false _ (assigned .if1 .left) in
+    (subst InMask (sym (c .operation-of .ensures .0)) (start judged .pre .0 .small isAssigned), c .operation-of .ensures .1)
 
 returns-2 : tie.Need-returns-2
-returns-2 c =
+returns-2 c l e =
     let needed = c .before .before in
     let after = needed .before in
     let before = after .before .before in
-    let assigns = before .before in
-    let read = assigns .before .before in
-    some-byte _ _ _ _ _ _ _ _ _ _ _ (start read .pre .says) (rw (sym (read .row-words .ensures)) (assigns .if1 .left))
-    (c .before .operation-of .ensures ∙ read .row-words .ensures) (before .set-at .ensures) (after .set-at2 .ensures)
+    let assigned = before .before in
+    let judged = assigned .before in
+    some-byte _ _ _ _ _ _ (part judged) _ _ _ _ _ l e (sym (judged .assigns .ensures) ∙ not-false _ (assigned .if1 .left))
+    (c .before .operation-of .ensures .0) (before .set-at .ensures) (after .set-at2 .ensures)
     (needed .set-at3 .ensures) (c .row-byte .ensures)
 
 pub byte-at-spec : {M : Type 1} → statement M
 byte-at-spec =
     tie.close
     (tie.spec
-    row-words-requires
+    assigns-requires
     returns
     set-at-requires
     add-set-at

@@ -6,14 +6,8 @@ use Rattle.sets.proofs.RowWordLaws.{activity-said}
 use Rattle.sets.proofs.marks.row_byte.Statement.{statement}
 use Rattle.sets.proofs.marks.row_byte.Tie as tie
 
-reads-first-requires : tie.Need-reads-first-requires
-reads-first-requires c κs = search needs
-
 has-requires : tie.Need-has-requires
 has-requires c κs = search needs
-
-reads-second-requires : tie.Need-reads-second-requires
-reads-second-requires c κs = search needs
 
 has-requires-2 : tie.Need-has-requires-2
 has-requires-2 c κs = search needs
@@ -48,11 +42,12 @@ add-result-3 c = search needs
 returns : tie.Need-returns
 returns c b e =
     let marks = c .before .before .before .before in
-    let reads = marks .before .before in
+    let second = marks .before .before .before in
+    let first = second .before .before in
+    let start = first .before in
     let active = marks .before .active .ensures b e in
-    let args = reads .before .before .before .before .args in
-    let known = activityOf b (args .varied) (args .useful) in
-    let said = activity-said _ (args .varied) (args .useful) b e in
+    let known = activityOf b (start .args .varied) (start .args .useful) in
+    let said = activity-said _ (start .args .varied) (start .args .useful) b e in
     cc (
       c .before .before .before .weight-if .ensures .0,
       c .before .before .weight-if2 .ensures .0,
@@ -60,10 +55,10 @@ returns c b e =
       c .weight-if4 .ensures .0,
       said .variedA,
       said .variedB,
-      reads .before .before .before .reads-first .ensures,
-      reads .before .before .has .ensures,
-      reads .before .reads-second .ensures,
-      reads .has2 .ensures,
+      start .pre .1 .first,
+      first .has .ensures,
+      start .pre .1 .second,
+      second .has2 .ensures,
       active,
       marks .recorded .ensures known (sym active) b e,
     )
@@ -72,9 +67,7 @@ pub row-byte-spec : {M : Type 1} → statement M
 row-byte-spec =
     tie.close
     (tie.spec
-    reads-first-requires
     has-requires
-    reads-second-requires
     has-requires-2
     active-requires
     recorded-requires

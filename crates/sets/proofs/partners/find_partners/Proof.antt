@@ -2,8 +2,9 @@
 -- The measure is what is left of the rows.
 use Prim.Native.Nat.{_-_}
 use native.Mathlib.Omega.{arith}
+use borrow.Author.Needs.{needs}
 use Rattle.sets.specs.inner.RowEquations.{lineIn}
-use Rattle.sets.proofs.PartnerPass.{Finding, finding-starts, finding-on, found-all, kind-read}
+use Rattle.sets.proofs.PartnerPass.{Finding, finding-starts, finding-on, found-all, part-read}
 use Rattle.sets.proofs.partners.find_partners.Statement.{statement}
 use Rattle.sets.proofs.partners.find_partners.Tie as tie
 
@@ -17,29 +18,34 @@ abbrev μ-loop : tie.MeasureT-loop
 loop-holds : tie.Need-loop-holds Inv-loop μ-loop
 loop-holds c = finding-starts _ _ _ _
 
-row-words-requires : tie.Need-row-words-requires Inv-loop μ-loop
-row-words-requires c κs = tt
+look-requires : tie.Need-look-requires Inv-loop μ-loop
+look-requires c κs =
+    let start = c .before .before .before .before .before in
+    start .pre _ (c .loop-test .taken) .there
 
 partner-step-requires : tie.Need-partner-step-requires Inv-loop μ-loop
 partner-step-requires c κs =
-    let inside = c .before .before .before in
+    let inside = c .before .before .before .before in
     let start = inside .before .before .before .before .before in
     (start .pre _ (inside .loop-test .taken) .numbered, inside .before .loop .inv .small)
 
 add-number : tie.Need-add-number Inv-loop μ-loop
-add-number c = omega (arith, c .before .before .before .before .before .before .before .before .loop-test .taken)
+add-number c =
+    let inside = c .before .before .before .before .before .before .before .before .before in
+    let start = inside .before .before .before .before .before in
+    omega (arith, start .pre _ (inside .loop-test .taken) .numbered)
 
 loop-less : tie.Need-loop-less Inv-loop μ-loop
-loop-less c = omega (arith, c .before .before .before .before .before .before .before .before .loop-test .taken)
+loop-less c = omega (arith, c .before .before .before .before .before .before .before .before .before .loop-test .taken)
 
 loop-again : tie.Need-loop-again Inv-loop μ-loop
 loop-again c =
     let step = c .before .before .before .before in
-    let read = step .before .before .before in
+    let read = step .before .before .before .before in
     let inside = read .before in
     let start = inside .before .before .before .before .before in
     finding-on _ _ _ _ _ _ _ _ (inside .before .loop .inv) (inside .loop-test .taken) _
-    (kind-read _ _ _ _ (start .pre _ (inside .loop-test .taken)) (read .row-words .ensures)) _ _ _ (step .partner-step .ensures)
+    (part-read _ _ _ _ (start .pre _ (inside .loop-test .taken)) (read .look .ensures)) _ _ _ (step .partner-step .ensures)
     (step .partner-step .kept .1 .1 .1 .0) (step .partner-step .kept .1 .1 .1 .1 .0)
 
 same-length : tie.Need-same-length Inv-loop μ-loop
@@ -58,7 +64,7 @@ find-partners-spec =
     Inv-loop
     μ-loop
     loop-holds
-    row-words-requires
+    look-requires
     partner-step-requires
     add-number
     loop-less

@@ -1,22 +1,20 @@
--- `sets::partners::partner_step` meets its contract: each branch is one case of the row's line.
+-- `sets::partners::partner_step` meets its contract: each arm is one case of what the row is to the blocks.
+use Rattle.sets.specs.inner.PartnerPass.{foundBy}
 use borrow.Author.Needs.{needs}
-use Rattle.sets.proofs.PartnerSteps.{opened, passed-by, repeat-ended, split, if-ended}
 use Rattle.sets.proofs.partners.partner_step.Statement.{statement}
 use Rattle.sets.proofs.partners.partner_step.Tie as tie
+
+enum-told : tie.Need-enum-told
+enum-told c = search needs
+
+enum-told-2 : tie.Need-enum-told-2
+enum-told-2 c = search needs
 
 put-requires : tie.Need-put-requires
 put-requires c κs = search needs
 
-same-length : tie.Need-same-length
-same-length c = search needs
-
-returns : tie.Need-returns
-returns c =
-    let opens = c .before .before .before .before in
-    (opened _ _ _ _ _ _ (opens .if1 .taken) (c .before .before .put .ensures), opens .before .before .before .pre .0)
-
-returns-2 : tie.Need-returns-2
-returns-2 c = (passed-by _ _ _ _ _ (c .before .if1 .left) (c .if2 .taken), c .before .before .before .before .pre .1)
+enum-told-3 : tie.Need-enum-told-3
+enum-told-3 c = search needs
 
 partner-of-requires : tie.Need-partner-of-requires
 partner-of-requires c κs = search needs
@@ -27,6 +25,52 @@ put-requires-2 c κs = search needs
 put-requires-3 : tie.Need-put-requires-3
 put-requires-3 c κs = search needs
 
+put-requires-4 : tie.Need-put-requires-4
+put-requires-4 c κs = search needs
+
+enum-told-4 : tie.Need-enum-told-4
+enum-told-4 c = search needs
+
+partner-of-requires-2 : tie.Need-partner-of-requires-2
+partner-of-requires-2 c κs = search needs
+
+put-requires-5 : tie.Need-put-requires-5
+put-requires-5 c κs = search needs
+
+put-requires-6 : tie.Need-put-requires-6
+put-requires-6 c κs = search needs
+
+enum-told-5 : tie.Need-enum-told-5
+enum-told-5 c = search needs
+
+put-requires-7 : tie.Need-put-requires-7
+put-requires-7 c κs = search needs
+
+enum-told-6 : tie.Need-enum-told-6
+enum-told-6 c = search needs
+
+partner-of-requires-3 : tie.Need-partner-of-requires-3
+partner-of-requires-3 c κs = search needs
+
+put-requires-8 : tie.Need-put-requires-8
+put-requires-8 c κs = search needs
+
+put-requires-9 : tie.Need-put-requires-9
+put-requires-9 c κs = search needs
+
+returns : tie.Need-returns
+unfolding foundBy
+returns c = (rw (c .enum-told .given .1), c .before .before .before .before .pre .1)
+
+same-length : tie.Need-same-length
+same-length c = search needs
+
+returns-2 : tie.Need-returns-2
+unfolding foundBy
+returns-2 c =
+    let told = c .before .before .before .before in
+    (rw (told .enum-told2 .given .1, c .before .before .put .ensures), told .before .before .before .before .pre .0)
+
 same-length-2 : tie.Need-same-length-2
 same-length-2 c = search needs
 
@@ -34,20 +78,16 @@ same-length-3 : tie.Need-same-length-3
 same-length-3 c = search needs
 
 returns-3 : tie.Need-returns-3
+unfolding foundBy
 returns-3 c =
-    let came = c .before .before .before .before .before .before in
-    let ends = came .before .before in
-    let outer = ends .before .partner-of .ensures in
-    (repeat-ended _ _ _ _ _ _ (outer .0) _ _ (ends .if3 .taken) (came .put2 .ensures) (c .before .before .put3 .ensures), outer .1)
-
-put-requires-4 : tie.Need-put-requires-4
-put-requires-4 c κs = search needs
-
-put-requires-5 : tie.Need-put-requires-5
-put-requires-5 c κs = search needs
-
-put-requires-6 : tie.Need-put-requires-6
-put-requires-6 c κs = search needs
+    let split = c .before .before in
+    let goes = split .before .before .before .before in
+    let came = goes .before .before .before .before in
+    let outer = came .before .before in
+    let told = outer .before .before in (
+      rw (told .enum-told3 .given .1, split .put4 .ensures, goes .put3 .ensures, came .put2 .ensures, outer .partner-of .ensures .0),
+      told .before .before .before .before .pre .0,
+    )
 
 same-length-4 : tie.Need-same-length-4
 same-length-4 c = search needs
@@ -56,54 +96,75 @@ same-length-5 : tie.Need-same-length-5
 same-length-5 c = search needs
 
 returns-4 : tie.Need-returns-4
+unfolding foundBy
 returns-4 c =
-    let splits = c .before .before .before .before in
-    let goes = splits .before .before .before in
+    let goes = c .before .before in
     let came = goes .before .before .before .before in
-    let asked = came .before .before .before in (
-      split _ _ _ _ _ _ (asked .partner-of .ensures .0) _ _ _ (splits .if4 .taken) (came .put4 .ensures) (goes .put5 .ensures)
-          (c .before .before .put6 .ensures),
-      asked .before .before .before .before .before .before .pre .0,
+    let outer = came .before .before in
+    let told = outer .before .before in (
+      rw (told .enum-told4 .given .1, goes .put6 .ensures, came .put5 .ensures, outer .partner-of2 .ensures .0),
+      outer .partner-of2 .ensures .1,
     )
 
 same-length-6 : tie.Need-same-length-6
 same-length-6 c = search needs
 
+returns-5 : tie.Need-returns-5
+unfolding foundBy
+returns-5 c =
+    let told = c .before .before .before .before in
+    (rw (told .enum-told5 .given .1, c .before .before .put7 .ensures), told .before .before .before .before .pre .0)
+
 same-length-7 : tie.Need-same-length-7
 same-length-7 c = search needs
 
-returns-5 : tie.Need-returns-5
-returns-5 c =
-    let goes = c .before .before .before in
+same-length-8 : tie.Need-same-length-8
+same-length-8 c = search needs
+
+returns-6 : tie.Need-returns-6
+unfolding foundBy
+returns-6 c =
+    let goes = c .before .before in
     let came = goes .before .before .before .before in
-    let ends = came .before .before in
-    let asked = ends .before in
-    let outer = asked .partner-of .ensures in (
-      if-ended _ _ _ _ _ _ (outer .0) _ _ (asked .before .before .before .if1 .left) (asked .before .before .if2 .left) (ends .if3 .left)
-          (c .if4 .left) (came .put4 .ensures) (goes .put5 .ensures),
-      outer .1,
+    let outer = came .before .before in
+    let told = outer .before .before in (
+      rw (told .enum-told6 .given .1, goes .put9 .ensures, came .put8 .ensures, outer .partner-of3 .ensures .0),
+      outer .partner-of3 .ensures .1,
     )
 
 pub partner-step-spec : {M : Type 1} → statement M
 partner-step-spec =
     tie.close
     (tie.spec
+    enum-told
+    enum-told-2
     put-requires
-    same-length
-    returns
-    returns-2
+    enum-told-3
     partner-of-requires
     put-requires-2
     put-requires-3
+    put-requires-4
+    enum-told-4
+    partner-of-requires-2
+    put-requires-5
+    put-requires-6
+    enum-told-5
+    put-requires-7
+    enum-told-6
+    partner-of-requires-3
+    put-requires-8
+    put-requires-9
+    returns
+    same-length
+    returns-2
     same-length-2
     same-length-3
     returns-3
-    put-requires-4
-    put-requires-5
-    put-requires-6
     same-length-4
     same-length-5
     returns-4
     same-length-6
+    returns-5
     same-length-7
-    returns-5)
+    same-length-8
+    returns-6)

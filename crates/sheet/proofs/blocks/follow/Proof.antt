@@ -28,14 +28,14 @@ enum-told-4 c = search needs
 end-if-requires : tie.Need-end-if-requires
 end-if-requires c κs = search needs
 
-enum-known-part : tie.Need-enum-known-part
-enum-known-part c = search needs
+enum-told-5 : tie.Need-enum-told-5
+enum-told-5 c = search needs
 
 enter-requires-2 : tie.Need-enter-requires-2
 enter-requires-2 c κs = search needs
 
-enum-told-5 : tie.Need-enum-told-5
-enum-told-5 c = search needs
+enum-told-6 : tie.Need-enum-told-6
+enum-told-6 c = search needs
 
 end-repeat-requires : tie.Need-end-repeat-requires
 end-repeat-requires c κs = search needs
@@ -58,11 +58,11 @@ returns-4 c = rw (c .before .enum-told4 .given .1) (c .end-if .ensures)
 
 returns-5 : tie.Need-returns-5
 unfolding stepOf
-returns-5 c = rw (c .before .before .part .given .1) (c .enter2 .ensures)
+returns-5 c = rw (c .before .enum-told5 .given .1) (c .enter2 .ensures)
 
 returns-6 : tie.Need-returns-6
 unfolding stepOf
-returns-6 c = rw (c .before .enum-told5 .given .1) (c .end-repeat .ensures)
+returns-6 c = rw (c .before .enum-told6 .given .1) (c .end-repeat .ensures)
 
 pub follow-spec : {M : Type 1} → statement M
 follow-spec =
@@ -76,9 +76,9 @@ follow-spec =
     split-requires
     enum-told-4
     end-if-requires
-    enum-known-part
-    enter-requires-2
     enum-told-5
+    enter-requires-2
+    enum-told-6
     end-repeat-requires
     returns
     returns-2

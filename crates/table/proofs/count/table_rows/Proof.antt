@@ -7,6 +7,7 @@ use native.Mathlib.Omega.{arith}
 use Rattle.sheet.specs.declared.Shape.{Shape}
 use Rattle.table.specs.Sizes.{mostRowsEach}
 use Rattle.table.specs.inner.MarkedRows.{Says, countRows, countAll}
+use Rattle.table.proofs.LineRows.{says-part}
 use Rattle.table.proofs.RowCounts.{count-more, count-done}
 use Rattle.table.proofs.count.table_rows.Statement.{statement}
 use Rattle.table.proofs.count.table_rows.Tie as tie
@@ -34,36 +35,41 @@ loop-holds c =
       whole = λ v. ap (λ n. 1 + countRows v (x .words .now) (x .shape .«first_row») (x .marks .now) 0 n) (omega arith);
     }
 
-row-words-requires : tie.Need-row-words-requires Inv-loop μ-loop
-row-words-requires c κs = search needs
+row-of-requires : tie.Need-row-of-requires Inv-loop μ-loop
+row-of-requires c κs = omega (arith, start c .pre .there, c .loop-test .taken)
+
+form-of-requires : tie.Need-form-of-requires Inv-loop μ-loop
+form-of-requires c κs = search needs
 
 shared-slice-read-row-count : tie.Need-shared-slice-read-row-count Inv-loop μ-loop
 shared-slice-read-row-count c =
-    let turn = c .before .before in
+    let turn = c .before .before .before in
     omega (arith, start turn .pre .marked, turn .loop-test .taken)
 
 row-count-requires : tie.Need-row-count-requires Inv-loop μ-loop
 row-count-requires c κs =
-    let read = c .before in
+    let found = c .before in
+    let read = found .before in
     let turn = read .before in
-    subst Says (sym (read .row-words .ensures)) (start turn .pre .says _ (turn .loop-test .taken))
+    says-part _ _ (subst Says (sym (read .row-of .ensures)) (start turn .pre .says _ (turn .loop-test .taken)))
+    (ap (λ form. form .3) (found .form-of .ensures))
 
 add-sum : tie.Need-add-sum Inv-loop μ-loop
 add-sum c =
-    let turn = c .before .before .before in
+    let turn = c .before .before .before .before in
     omega (arith, turn .before .loop .inv, c .row-count .ensures .within, start turn .pre .few)
 
 add-p : tie.Need-add-p Inv-loop μ-loop
 add-p c =
-    let turn = c .before .before .before in
+    let turn = c .before .before .before .before in
     omega (arith, turn .loop-test .taken, start turn .pre .few)
 
 loop-less : tie.Need-loop-less Inv-loop μ-loop
-loop-less c = omega (arith, c .before .before .before .loop-test .taken)
+loop-less c = omega (arith, c .before .before .before .before .loop-test .taken)
 
 loop-again : tie.Need-loop-again Inv-loop μ-loop
 loop-again c =
-    let read = c .before .before in
+    let read = c .before .before .before in
     let turn = read .before in
     let below = turn .loop-test .taken in
     let counting = turn .before .loop .inv in
@@ -71,7 +77,7 @@ loop-again c =
     record {
       within = omega arith;
       few = omega (arith, counting .few, counted .within);
-      whole = λ v. count-more v _ _ _ _ _ _ (counting .whole v) below (read .row-words .ensures) (counted .is v);
+      whole = λ v. count-more v _ _ _ _ _ _ (counting .whole v) below (read .row-of .ensures) (counted .is v);
     }
 
 returns : tie.Need-returns Inv-loop μ-loop
@@ -84,7 +90,8 @@ table-rows-spec =
     Inv-loop
     μ-loop
     loop-holds
-    row-words-requires
+    row-of-requires
+    form-of-requires
     shared-slice-read-row-count
     row-count-requires
     add-sum

@@ -1,15 +1,17 @@
 -- `table::needs::needed` meets its contract. The invariant: from row `left` on `sums` holds each row's need.
 use Prim.Native.Nat.{ℕ, _+_, _-_, _≤_, _<_}
-use mathlib.Core.Path.{_≡_, refl, sym, subst}
+use mathlib.Core.Path.{_≡_, refl, sym, ap, subst}
 use mathlib.Core.List.{List}
 use borrow.Author.Needs.{needs}
 use native.Mathlib.Omega.{arith}
 use lib.ListN.{length, getD, length-set}
 use Rattle.sheet.specs.Bounds.{limit}
 use Rattle.sheet.specs.declared.Shape.{Shape}
-use Rattle.table.specs.inner.MarkedRows.{Says}
+use Rattle.table.specs.inner.MarkedRows.{Says, SaysPart}
 use Rattle.table.specs.inner.Needs.{HoldsFrom, needsFrom, needOver}
 use Rattle.table.specs.declared.needs.Stack.{Stack}
+use Rattle.sheet.specs.Answers.{rowSaid}
+use Rattle.table.proofs.LineRows.{says-part}
 use Rattle.table.proofs.NeedRows.{needs-held-none, needs-held-more, needs-held-all, need-fits}
 use Rattle.table.proofs.needs.needed.Statement.{statement}
 use Rattle.table.proofs.needs.needed.Tie as tie
@@ -49,6 +51,13 @@ row-there c =
       few = given .few;
     }
 
+-- the row's line, and what that is to the blocks
+said : (c : tie.After-form-of Inv-loop μ-loop) → SaysPart (rowSaid (c .before .row-of .result)) (c .form-of .result .3)
+said c =
+    let turn = c .before .before in
+    says-part _ _ (subst Says (sym (c .before .row-of .ensures)) (start turn .pre .says _ (row-there turn .below)))
+    (ap (λ form. form .3) (c .form-of .ensures))
+
 first-need : (c : tie.After-loop Inv-loop μ-loop) →
     let x = c .before .before .before .before .before .before .args in
     getD (c .before .loop .sums) 0 0 ≡ getD (needsFrom (x .stack) (x .words .now) (x .shape .«first_row») (x .marks .now) (x .came .now) (x .goes .now) 0 (x .shape .rows)) 0 0
@@ -69,8 +78,11 @@ loop-holds c =
 sub-q : tie.Need-sub-q Inv-loop μ-loop
 sub-q c = omega (arith, c .loop-test .taken)
 
-row-words-requires : tie.Need-row-words-requires Inv-loop μ-loop
-row-words-requires c κs = search needs
+row-of-requires : tie.Need-row-of-requires Inv-loop μ-loop
+row-of-requires c κs = omega (arith, row-there c .below, start c .pre .there, c .loop-test .taken)
+
+form-of-requires : tie.Need-form-of-requires Inv-loop μ-loop
+form-of-requires c κs = search needs
 
 partner-requires : tie.Need-partner-requires Inv-loop μ-loop
 partner-requires c κs = search needs
@@ -79,45 +91,45 @@ block-end-requires : tie.Need-block-end-requires Inv-loop μ-loop
 block-end-requires c κs = search needs
 
 slice-aggregate-after-row : tie.Need-slice-aggregate-after-row Inv-loop μ-loop
-slice-aggregate-after-row c = sym (c .before .before .before .before .before .loop .inv .places)
+slice-aggregate-after-row c = sym (c .before .before .before .before .before .before .loop .inv .places)
 
 after-row-requires : tie.Need-after-row-requires Inv-loop μ-loop
-after-row-requires c κs = row-there (c .before .before .before .before) .kept
+after-row-requires c κs = row-there (c .before .before .before .before .before) .kept
 
 slice-aggregate-after-row-2 : tie.Need-slice-aggregate-after-row-2 Inv-loop μ-loop
-slice-aggregate-after-row-2 c = sym (c .before .before .before .before .before .before .before .loop .inv .places)
+slice-aggregate-after-row-2 c = sym (c .before .before .before .before .before .before .before .before .loop .inv .places)
 
 after-row-requires-2 : tie.Need-after-row-requires-2 Inv-loop μ-loop
-after-row-requires-2 c κs = row-there (c .before .before .before .before .before .before) .kept
+after-row-requires-2 c κs = row-there (c .before .before .before .before .before .before .before) .kept
 
 slice-aggregate-after-row-3 : tie.Need-slice-aggregate-after-row-3 Inv-loop μ-loop
-slice-aggregate-after-row-3 c = sym (c .before .before .before .before .before .before .before .before .before .loop .inv .places)
+slice-aggregate-after-row-3 c = sym (c .before .before .before .before .before .before .before .before .before .before .loop .inv .places)
 
 after-row-requires-3 : tie.Need-after-row-requires-3 Inv-loop μ-loop
-after-row-requires-3 c κs = row-there (c .before .before .before .before .before .before .before .before) .kept
+after-row-requires-3 c κs = row-there (c .before .before .before .before .before .before .before .before .before) .kept
 
 shared-slice-read-of-row : tie.Need-shared-slice-read-of-row Inv-loop μ-loop
-shared-slice-read-of-row c = omega (arith, row-there (c .before .before .before .before .before .before .before .before .before .before))
+shared-slice-read-of-row c = omega (arith, row-there (c .before .before .before .before .before .before .before .before .before .before .before))
 
 of-row-requires : tie.Need-of-row-requires Inv-loop μ-loop
 of-row-requires c κs =
-    let read = c .before .before .before .before .before .before .before .before .before in
-    subst Says (sym (read .row-words .ensures)) (start (read .before) .pre .says _ (row-there (read .before) .below))
+    said (c .before .before .before .before .before .before .before .before .before)
 
 mul-sums : tie.Need-mul-sums Inv-loop μ-loop
-mul-sums c = omega (arith, row-there (c .before .before .before .before .before .before .before .before .before .before .before))
+mul-sums c = omega (arith, row-there (c .before .before .before .before .before .before .before .before .before .before .before .before))
 
 array-write-sums : tie.Need-array-write-sums Inv-loop μ-loop
-array-write-sums c = omega (arith, row-there (c .before .before .before .before .before .before .before .before .before .before .before))
+array-write-sums c = omega (arith, row-there (c .before .before .before .before .before .before .before .before .before .before .before .before))
 
 loop-less : tie.Need-loop-less Inv-loop μ-loop
-loop-less c = omega (arith, c .before .before .before .before .before .before .before .before .before .before .before .loop-test .taken)
+loop-less c = omega (arith, c .before .before .before .before .before .before .before .before .before .before .before .before .loop-test .taken)
 
 loop-again : tie.Need-loop-again Inv-loop μ-loop
 loop-again c =
     let looked = c .before .before .before .before .before .before in
     let found = looked .before .before in
-    let turn = found .before .before .before in
+    let row = found .before .before in
+    let turn = row .before .before in
     let kept = turn .before .loop .inv in
     let there = row-there turn in
     let x = start turn .args in
@@ -125,7 +137,7 @@ loop-again c =
       within = omega (arith, there);
       places = simp length-set (kept .places);
       held = needs-held-more (x .stack) (x .words .now) (x .shape .«first_row») (x .marks .now) (x .came .now) (x .goes .now) (turn .before .loop .left - 1) _ _ (omega (arith, there)) (kept .within) (omega (arith, there))
-          (kept .held) (found .before .before .row-words .ensures) (found .before .partner .ensures) (found .block-end .ensures) (c .of-row .ensures)
+          (kept .held) (row .before .row-of .ensures) (said row .is) (found .before .partner .ensures) (found .block-end .ensures) (c .of-row .ensures)
           (looked .after-row .ensures) (c .before .before .before .before .after-row2 .ensures) (c .before .before .after-row3 .ensures);
     }
 
@@ -149,7 +161,8 @@ needed-spec =
     μ-loop
     loop-holds
     sub-q
-    row-words-requires
+    row-of-requires
+    form-of-requires
     partner-requires
     block-end-requires
     slice-aggregate-after-row

@@ -1,33 +1,88 @@
--- `table::rows::forward_row` meets its contract, kind by kind.
-use borrow.Author.Needs.{needs}
+-- `table::rows::forward_row` meets its contract, by what the row is to the blocks.
+use mathlib.Core.Path.{refl}
 use Rattle.table.proofs.WritingLaws.{wrote-then, room-first, room-after}
-use Rattle.table.proofs.LineRows.{assignment-forward, else-forward, end-if-forward, plain-forward}
+use Rattle.table.proofs.LineRows.{forward-by}
+use borrow.Author.Needs.{needs}
 use Rattle.table.proofs.rows.forward_row.Statement.{statement}
 use Rattle.table.proofs.rows.forward_row.Tie as tie
 
--- where the function starts, from where its row is known to be a block's
-abbrev start : tie.Else1 → tie.Start
-start c = c .before .before .before
+enum-told : tie.Need-enum-told
+enum-told c = search needs
 
 bit-requires : tie.Need-bit-requires
 bit-requires c κs = search needs
 
 put-if-requires : tie.Need-put-if-requires
 put-if-requires c κs =
-    let chosen = c .before .before in
-    let begin = chosen .before .before .before in
-    let given = begin .pre in
-    let rows = assignment-forward (begin .args .mark) (given .1) (c .before .bit .ensures) (chosen .if1 .taken) in
-    room-first _ _ (rw rows at (given .0))
+    let told = c .before .before in
+    let start = told .before .before .before in
+    room-first _ _ (rw (forward-by (start .pre .1) (told .enum-told .given .1) (start .args .mark) (c .before .bit .ensures)) at (start .pre .0))
 
 put-requires : tie.Need-put-requires
 put-requires c κs =
     let saving = c .before .before .before in
-    let chosen = saving .before .before .before in
-    let begin = chosen .before .before .before in
-    let given = begin .pre in
-    let rows = assignment-forward (begin .args .mark) (given .1) (saving .before .before .bit .ensures) (chosen .if1 .taken) in
-    room-after _ (saving .put-if .ensures) (rw rows at (given .0))
+    let told = saving .before .before .before in
+    let start = told .before .before .before in
+    room-after _ (saving .put-if .ensures) (rw (forward-by (start .pre .1) (told .enum-told .given .1) (start .args .mark) (saving .before .before .bit .ensures)) at (start .pre .0))
+
+enum-told-2 : tie.Need-enum-told-2
+enum-told-2 c = search needs
+
+put-requires-2 : tie.Need-put-requires-2
+put-requires-2 c κs =
+    let told = c .before in
+    let start = told .before .before .before in
+    rw (forward-by (start .pre .1) (told .enum-told2 .given .1) (start .args .mark) refl) at (start .pre .0)
+
+enum-told-3 : tie.Need-enum-told-3
+enum-told-3 c = search needs
+
+put-requires-3 : tie.Need-put-requires-3
+put-requires-3 c κs =
+    let told = c .before in
+    let start = told .before .before .before in
+    room-first _ _ (rw (forward-by (start .pre .1) (told .enum-told3 .given .1) (start .args .mark) refl) at (start .pre .0))
+
+put-requires-4 : tie.Need-put-requires-4
+put-requires-4 c κs =
+    let turn = c .before .before .before in
+    let told = turn .before .before in
+    let start = told .before .before .before in
+    room-after _ (turn .put3 .ensures) (rw (forward-by (start .pre .1) (told .enum-told3 .given .1) (start .args .mark) refl) at (start .pre .0))
+
+enum-told-4 : tie.Need-enum-told-4
+enum-told-4 c = search needs
+
+put-requires-5 : tie.Need-put-requires-5
+put-requires-5 c κs =
+    let told = c .before in
+    let start = told .before .before .before in
+    room-first _ _ (rw (forward-by (start .pre .1) (told .enum-told4 .given .1) (start .args .mark) refl) at (start .pre .0))
+
+put-requires-6 : tie.Need-put-requires-6
+put-requires-6 c κs =
+    let turn = c .before .before .before in
+    let told = turn .before .before in
+    let start = told .before .before .before in
+    room-after _ (turn .put5 .ensures) (rw (forward-by (start .pre .1) (told .enum-told4 .given .1) (start .args .mark) refl) at (start .pre .0))
+
+enum-told-5 : tie.Need-enum-told-5
+enum-told-5 c = search needs
+
+put-requires-7 : tie.Need-put-requires-7
+put-requires-7 c κs =
+    let told = c .before in
+    let start = told .before .before .before in
+    rw (forward-by (start .pre .1) (told .enum-told5 .given .1) (start .args .mark) refl) at (start .pre .0)
+
+enum-told-6 : tie.Need-enum-told-6
+enum-told-6 c = search needs
+
+put-requires-8 : tie.Need-put-requires-8
+put-requires-8 c κs =
+    let told = c .before in
+    let start = told .before .before .before in
+    rw (forward-by (start .pre .1) (told .enum-told6 .given .1) (start .args .mark) refl) at (start .pre .0)
 
 same-length : tie.Need-same-length
 same-length c = search needs
@@ -36,54 +91,18 @@ returns : tie.Need-returns
 returns c =
     let done = c .before .before in
     let saving = done .before .before .before .before in
-    let chosen = saving .before .before .before in
-    let begin = chosen .before .before .before in
-    let rows = assignment-forward (begin .args .mark) (begin .pre .1) (saving .before .before .bit .ensures) (chosen .if1 .taken) in
-    rw rows (wrote-then (saving .put-if .ensures) (done .put .ensures))
-
-put-requires-2 : tie.Need-put-requires-2
-put-requires-2 c κs =
-    let else = c .before .if2 .taken in
-    let given = start (c .before .before .before) .pre in
-    let says = given .1 in
-    room-first _ _ (rw else-forward at (given .0))
-
-put-requires-3 : tie.Need-put-requires-3
-put-requires-3 c κs =
-    let turn = c .before .before .before in
-    let chosen = turn .before .before in
-    let else = chosen .if2 .taken in
-    let given = start (chosen .before .before) .pre in
-    let says = given .1 in
-    room-after _ (turn .put2 .ensures) (rw else-forward at (given .0))
+    let told = saving .before .before .before in
+    let start = told .before .before .before in
+    rw (forward-by (start .pre .1) (told .enum-told .given .1) (start .args .mark) (saving .before .before .bit .ensures)) (wrote-then (saving .put-if .ensures) (done .put .ensures))
 
 same-length-2 : tie.Need-same-length-2
 same-length-2 c = search needs
 
 returns-2 : tie.Need-returns-2
 returns-2 c =
-    let done = c .before .before in
-    let turn = done .before .before .before .before in
-    let chosen = turn .before .before in
-    let else = chosen .if2 .taken in
-    let says = start (chosen .before .before) .pre .1 in
-    rw else-forward (wrote-then (turn .put2 .ensures) (done .put3 .ensures))
-
-put-requires-4 : tie.Need-put-requires-4
-put-requires-4 c κs =
-    let end-if = c .before .if3 .taken in
-    let given = start (c .before .before .before .before .before) .pre in
-    let says = given .1 in
-    room-first _ _ (rw end-if-forward at (given .0))
-
-put-requires-5 : tie.Need-put-requires-5
-put-requires-5 c κs =
-    let turn = c .before .before .before in
-    let chosen = turn .before .before in
-    let end-if = chosen .if3 .taken in
-    let given = start (chosen .before .before .before .before) .pre in
-    let says = given .1 in
-    room-after _ (turn .put4 .ensures) (rw end-if-forward at (given .0))
+    let told = c .before .before .before .before in
+    let start = told .before .before .before in
+    rw (forward-by (start .pre .1) (told .enum-told2 .given .1) (start .args .mark) refl) (c .before .before .put2 .ensures)
 
 same-length-3 : tie.Need-same-length-3
 same-length-3 c = search needs
@@ -92,17 +111,9 @@ returns-3 : tie.Need-returns-3
 returns-3 c =
     let done = c .before .before in
     let turn = done .before .before .before .before in
-    let chosen = turn .before .before in
-    let end-if = chosen .if3 .taken in
-    let says = start (chosen .before .before .before .before) .pre .1 in
-    rw end-if-forward (wrote-then (turn .put4 .ensures) (done .put5 .ensures))
-
-put-requires-6 : tie.Need-put-requires-6
-put-requires-6 c κs =
-    let chosen = c .before in
-    let block = chosen .before .before .before .before in
-    let given = start block .pre in
-    rw (plain-forward _ (given .1) (block .if1 .left) (chosen .before .before .if2 .left) (chosen .if3 .left)) at (given .0)
+    let told = turn .before .before in
+    let start = told .before .before .before in
+    rw (forward-by (start .pre .1) (told .enum-told3 .given .1) (start .args .mark) refl) (wrote-then (turn .put3 .ensures) (done .put4 .ensures))
 
 same-length-4 : tie.Need-same-length-4
 same-length-4 c = search needs
@@ -110,27 +121,58 @@ same-length-4 c = search needs
 returns-4 : tie.Need-returns-4
 returns-4 c =
     let done = c .before .before in
-    let chosen = done .before .before in
-    let block = chosen .before .before .before .before in
-    rw (plain-forward _ (start block .pre .1) (block .if1 .left) (chosen .before .before .if2 .left) (chosen .if3 .left)) (done .put6 .ensures)
+    let turn = done .before .before .before .before in
+    let told = turn .before .before in
+    let start = told .before .before .before in
+    rw (forward-by (start .pre .1) (told .enum-told4 .given .1) (start .args .mark) refl) (wrote-then (turn .put5 .ensures) (done .put6 .ensures))
+
+same-length-5 : tie.Need-same-length-5
+same-length-5 c = search needs
+
+returns-5 : tie.Need-returns-5
+returns-5 c =
+    let told = c .before .before .before .before in
+    let start = told .before .before .before in
+    rw (forward-by (start .pre .1) (told .enum-told5 .given .1) (start .args .mark) refl) (c .before .before .put7 .ensures)
+
+same-length-6 : tie.Need-same-length-6
+same-length-6 c = search needs
+
+returns-6 : tie.Need-returns-6
+returns-6 c =
+    let told = c .before .before .before .before in
+    let start = told .before .before .before in
+    rw (forward-by (start .pre .1) (told .enum-told6 .given .1) (start .args .mark) refl) (c .before .before .put8 .ensures)
 
 pub forward-row-spec : {M : Type 1} → statement M
 forward-row-spec =
     tie.close
     (tie.spec
+    enum-told
     bit-requires
     put-if-requires
     put-requires
+    enum-told-2
+    put-requires-2
+    enum-told-3
+    put-requires-3
+    put-requires-4
+    enum-told-4
+    put-requires-5
+    put-requires-6
+    enum-told-5
+    put-requires-7
+    enum-told-6
+    put-requires-8
     same-length
     returns
-    put-requires-2
-    put-requires-3
     same-length-2
     returns-2
-    put-requires-4
-    put-requires-5
     same-length-3
     returns-3
-    put-requires-6
     same-length-4
-    returns-4)
+    returns-4
+    same-length-5
+    returns-5
+    same-length-6
+    returns-6)

@@ -1,11 +1,13 @@
 -- `table::sweep::backward_part` meets its contract. The invariant: the walk stays on the rows, and what is written and what the rest of the walk
 -- gives make up the whole.
 use Prim.Native.Nat.{_<_, _-_}
-use mathlib.Core.Path.{refl, sym, subst}
+use mathlib.Core.Path.{refl, sym, ap, subst}
 use borrow.Author.Needs.{needs}
 use native.Mathlib.Omega.{arith}
-use Rattle.table.specs.inner.MarkedRows.{Says, Small, Handed, handed, backwardAll, backwardRows, Visited, Walks}
+use Rattle.table.specs.inner.MarkedRows.{Says, SaysPart, Small, Handed, handed, backwardAll, backwardRows, Visited, Walks}
 use Rattle.table.proofs.WritingLaws.{Underway, underway-start, underway-room, underway-next, underway-end, underway-length, room-first}
+use Rattle.sheet.specs.Answers.{rowSaid}
+use Rattle.table.proofs.LineRows.{says-part}
 use Rattle.table.proofs.BackwardOver.{backward-next, backward-none, visit-now, walk-on}
 use Rattle.table.proofs.sweep.backward_part.Statement.{statement}
 use Rattle.table.proofs.sweep.backward_part.Tie as tie
@@ -27,6 +29,13 @@ handedTo c = let x = start c .args in handed (x .words .now) (x .shape) (x .mark
 visit : (c : tie.In-loop Inv-loop μ-loop) → Visited (handedTo c) (c .before .loop .end)
 visit c = visit-now (handedTo c) _ _ (c .loop-test .taken) (c .before .loop .inv .0)
 
+-- the row's line, and what that is to the blocks
+said : (c : tie.After-form-of Inv-loop μ-loop) → SaysPart (rowSaid (c .before .row-of .result)) (c .form-of .result .3)
+said c =
+    let turn = c .before .before in
+    let there : turn .before .loop .end - 1 < handedTo turn .rows = omega (arith, visit turn) in
+    says-part _ _ (subst Says (sym (c .before .row-of .ensures)) (start turn .pre .1 .0 .says _ there)) (ap (λ form. form .3) (c .form-of .ensures))
+
 cast-variables : tie.Need-cast-variables Inv-loop μ-loop
 cast-variables c = record { fits = omega (arith, c .before .before .before .before .before .before .pre .1 .1 .few) }
 
@@ -36,48 +45,51 @@ loop-holds c = (c .before .before .before .before .before .before .pre .1 .1 .wa
 sub-q : tie.Need-sub-q Inv-loop μ-loop
 sub-q c = omega (arith, visit c)
 
-row-words-requires : tie.Need-row-words-requires Inv-loop μ-loop
-row-words-requires c κs = search needs
+row-of-requires : tie.Need-row-of-requires Inv-loop μ-loop
+row-of-requires c κs = omega (arith, visit c, start c .pre .1 .0 .there)
+
+form-of-requires : tie.Need-form-of-requires Inv-loop μ-loop
+form-of-requires c κs = search needs
 
 turns-back-requires : tie.Need-turns-back-requires Inv-loop μ-loop
 turns-back-requires c κs = search needs
 
 shared-slice-read-backward-row : tie.Need-shared-slice-read-backward-row Inv-loop μ-loop
 shared-slice-read-backward-row c =
-    let turn = c .before .before .before .before in
+    let turn = c .before .before .before .before .before in
     omega (arith, visit turn, start turn .pre .1 .0 .marked)
 
 backward-row-requires : tie.Need-backward-row-requires Inv-loop μ-loop
 backward-row-requires c κs =
-    let read = c .before .before .before in
-    let turn = read .before in
-    let is = read .row-words .ensures in
+    let row = c .before .before .before in
+    let turn = row .before .before in
+    let is = row .before .row-of .ensures in
     let given = start turn .pre in
-    let left = backward-next (handedTo turn) _ _ (turn .loop-test .taken) is (c .before .before .turns-back .ensures) refl in
+    let left = backward-next (handedTo turn) _ _ (turn .loop-test .taken) is (said row .is) (c .before .before .turns-back .ensures) refl in
     let there : turn .before .loop .end - 1 < handedTo turn .rows = omega (arith, visit turn) in (
       room-first _ _ (rw left at (underway-room (turn .before .loop .inv .1) (given .0))),
-      subst (λ r. Says r × Small (handedTo turn .variables) r) (sym is) (given .1 .0 .says _ there, given .1 .1 .small _ there),
+      (said row, subst (Small (handedTo turn .variables)) (sym is) (given .1 .1 .small _ there)),
     )
 
 step-back-requires : tie.Need-step-back-requires Inv-loop μ-loop
 step-back-requires c κs = search needs
 
 sub-left : tie.Need-sub-left Inv-loop μ-loop
-sub-left c = omega (arith, c .before .before .before .before .before .before .before .before .loop-test .taken)
+sub-left c = omega (arith, c .before .before .before .before .before .before .before .before .before .loop-test .taken)
 
 loop-less : tie.Need-loop-less Inv-loop μ-loop
-loop-less c = omega (arith, c .before .before .before .before .before .before .before .before .loop-test .taken)
+loop-less c = omega (arith, c .before .before .before .before .before .before .before .before .before .loop-test .taken)
 
 loop-again : tie.Need-loop-again Inv-loop μ-loop
 loop-again c =
-    let read = c .before .before .before .before .before .before .before in
-    let turn = read .before in
+    let row = c .before .before .before .before .before .before .before in
+    let turn = row .before .before in
     let held = turn .before .loop .inv in
     let some = turn .loop-test .taken in
-    let is = read .row-words .ensures in
+    let is = row .before .row-of .ensures in
     let goes = c .step-back .ensures in
-    let left = backward-next (handedTo turn) _ _ some is (c .before .before .before .before .before .before .turns-back .ensures) goes in
-    (walk-on (handedTo turn) _ _ some is goes (held .0), underway-next _ (held .1) left (c .before .before .before .backward-row .ensures))
+    let left = backward-next (handedTo turn) _ _ some is (said row .is) (c .before .before .before .before .before .before .turns-back .ensures) goes in
+    (walk-on (handedTo turn) _ _ some is (said row .is) goes (held .0), underway-next _ (held .1) left (c .before .before .before .backward-row .ensures))
 
 same-length : tie.Need-same-length Inv-loop μ-loop
 same-length c = underway-length (c .before .loop .inv .1)
@@ -97,7 +109,8 @@ backward-part-spec =
     cast-variables
     loop-holds
     sub-q
-    row-words-requires
+    row-of-requires
+    form-of-requires
     turns-back-requires
     shared-slice-read-backward-row
     backward-row-requires

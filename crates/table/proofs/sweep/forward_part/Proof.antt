@@ -5,6 +5,7 @@ use borrow.Author.Needs.{needs}
 use native.Mathlib.Omega.{arith}
 use Rattle.table.specs.inner.MarkedRows.{Says, forwardRows, forwardAll}
 use Rattle.table.proofs.WritingLaws.{Underway, underway-start, underway-room, underway-next, underway-end, underway-length, room-first}
+use Rattle.table.proofs.LineRows.{says-part}
 use Rattle.table.proofs.ForwardOver.{forward-next, forward-none}
 use Rattle.table.proofs.sweep.forward_part.Statement.{statement}
 use Rattle.table.proofs.sweep.forward_part.Tie as tie
@@ -25,40 +26,46 @@ loop-holds c =
     let x = c .before .before .before .args in
     (omega arith, underway-start _ _ (ap (forwardRows (x .words .now) (x .shape .«first_row») (x .marks .now) 0) (omega arith)))
 
-row-words-requires : tie.Need-row-words-requires Inv-loop μ-loop
-row-words-requires c κs = search needs
+row-of-requires : tie.Need-row-of-requires Inv-loop μ-loop
+row-of-requires c κs = omega (arith, start c .pre .1 .there, c .loop-test .taken)
+
+form-of-requires : tie.Need-form-of-requires Inv-loop μ-loop
+form-of-requires c κs = search needs
 
 shared-slice-read-forward-row : tie.Need-shared-slice-read-forward-row Inv-loop μ-loop
 shared-slice-read-forward-row c =
-    let turn = c .before .before .before in
+    let turn = c .before .before .before .before in
     omega (arith, start turn .pre .1 .marked, turn .loop-test .taken)
 
 forward-row-requires : tie.Need-forward-row-requires Inv-loop μ-loop
 forward-row-requires c κs =
-    let read = c .before .before in
+    let found = c .before .before in
+    let read = found .before in
     let turn = read .before in
     let x = start turn .args in
     let given = start turn .pre in
     let below = turn .loop-test .taken in
-    let is = read .row-words .ensures in
-    let left = forward-next (x .words .now) (x .shape .«first_row») (x .marks .now) _ (x .shape .rows) below is in
-    (room-first _ _ (rw left at (underway-room (turn .before .loop .inv .1) (given .0))), subst Says (sym is) (given .1 .says _ below))
+    let is = read .row-of .ensures in
+    let left = forward-next (x .words .now) (x .shape .«first_row») (x .marks .now) _ (x .shape .rows) below is in (
+      room-first _ _ (rw left at (underway-room (turn .before .loop .inv .1) (given .0))),
+      says-part _ _ (subst Says (sym is) (given .1 .says _ below)) (ap (λ form. form .3) (found .form-of .ensures)),
+    )
 
 add-p : tie.Need-add-p Inv-loop μ-loop
 add-p c =
-    let turn = c .before .before .before .before .before .before in
+    let turn = c .before .before .before .before .before .before .before in
     omega (arith, turn .loop-test .taken, start turn .pre .1 .few)
 
 loop-less : tie.Need-loop-less Inv-loop μ-loop
-loop-less c = omega (arith, c .before .before .before .before .before .before .loop-test .taken)
+loop-less c = omega (arith, c .before .before .before .before .before .before .before .loop-test .taken)
 
 loop-again : tie.Need-loop-again Inv-loop μ-loop
 loop-again c =
-    let read = c .before .before .before .before .before in
+    let read = c .before .before .before .before .before .before in
     let turn = read .before in
     let x = start turn .args in
     let below = turn .loop-test .taken in
-    let left = forward-next (x .words .now) (x .shape .«first_row») (x .marks .now) _ (x .shape .rows) below (read .row-words .ensures) in
+    let left = forward-next (x .words .now) (x .shape .«first_row») (x .marks .now) _ (x .shape .rows) below (read .row-of .ensures) in
     (omega arith, underway-next _ (turn .before .loop .inv .1) left (c .before .before .forward-row .ensures))
 
 same-length : tie.Need-same-length Inv-loop μ-loop
@@ -77,7 +84,8 @@ forward-part-spec =
     Inv-loop
     μ-loop
     loop-holds
-    row-words-requires
+    row-of-requires
+    form-of-requires
     shared-slice-read-forward-row
     forward-row-requires
     add-p

@@ -1,45 +1,76 @@
--- `table::sweep::step_back` meets its contract, kind by kind.
-use borrow.Author.Needs.{needs}
-use borrow.Author.Tests.{eq-eqb, ne-eqb}
+-- `table::sweep::step_back` meets its contract, by what the row is to the blocks.
 use Rattle.table.specs.inner.MarkedRows.{stepBack}
+use borrow.Author.Needs.{needs}
 use Rattle.table.proofs.sweep.step_back.Statement.{statement}
 use Rattle.table.proofs.sweep.step_back.Tie as tie
+
+enum-told : tie.Need-enum-told
+enum-told c = search needs
+
+enum-told-2 : tie.Need-enum-told-2
+enum-told-2 c = search needs
 
 if-end-requires : tie.Need-if-end-requires
 if-end-requires c κs = search needs
 
-returns : tie.Need-returns
-unfolding stepBack
-returns c = simp (eq-eqb _ _ (c .before .if1 .taken)) (c .if-end .ensures)
+enum-told-3 : tie.Need-enum-told-3
+enum-told-3 c = search needs
 
 partner-requires : tie.Need-partner-requires
 partner-requires c κs = search needs
 
-returns-2 : tie.Need-returns-2
-unfolding stepBack
-returns-2 c = simp (ne-eqb _ _ (c .before .before .if1 .left), eq-eqb _ _ (c .before .if2 .taken)) (c .partner .ensures)
+enum-told-4 : tie.Need-enum-told-4
+enum-told-4 c = search needs
 
 partner-requires-2 : tie.Need-partner-requires-2
 partner-requires-2 c κs = search needs
 
+enum-told-5 : tie.Need-enum-told-5
+enum-told-5 c = search needs
+
+enum-told-6 : tie.Need-enum-told-6
+enum-told-6 c = search needs
+
+returns : tie.Need-returns
+unfolding stepBack
+returns c = rw (c .enum-told .given .1)
+
+returns-2 : tie.Need-returns-2
+unfolding stepBack
+returns-2 c = rw (c .before .enum-told2 .given .1) (c .if-end .ensures)
+
 returns-3 : tie.Need-returns-3
 unfolding stepBack
-returns-3 c =
-    let chosen = c .before in
-    simp (ne-eqb _ _ (chosen .before .before .if1 .left), ne-eqb _ _ (chosen .before .if2 .left), eq-eqb _ _ (chosen .if3 .taken)) (c .partner2 .ensures)
+returns-3 c = rw (c .before .enum-told3 .given .1) (c .partner .ensures)
 
 returns-4 : tie.Need-returns-4
 unfolding stepBack
-returns-4 c = simp (ne-eqb _ _ (c .before .before .if1 .left), ne-eqb _ _ (c .before .if2 .left), ne-eqb _ _ (c .if3 .left))
+returns-4 c = rw (c .before .enum-told4 .given .1) (c .partner2 .ensures)
+
+returns-5 : tie.Need-returns-5
+unfolding stepBack
+returns-5 c = rw (c .enum-told5 .given .1)
+
+returns-6 : tie.Need-returns-6
+unfolding stepBack
+returns-6 c = rw (c .enum-told6 .given .1)
 
 pub step-back-spec : {M : Type 1} → statement M
 step-back-spec =
     tie.close
     (tie.spec
+    enum-told
+    enum-told-2
     if-end-requires
-    returns
+    enum-told-3
     partner-requires
-    returns-2
+    enum-told-4
     partner-requires-2
+    enum-told-5
+    enum-told-6
+    returns
+    returns-2
     returns-3
-    returns-4)
+    returns-4
+    returns-5
+    returns-6)

@@ -1,10 +1,13 @@
 -- `table::sweep::turns_back` meets its contract.
-use borrow.Author.Needs.{needs}
-use borrow.Author.Tests.{eq-eqb, ne-eqb}
-use mathlib.Core.Path.{ap, _∙_}
+use mathlib.Core.Path.{sym, ap, _∙_}
 use Rattle.table.specs.inner.MarkedRows.{rowNumbered, turnsBack}
+use Rattle.table.proofs.PartsApart.{not-end-repeat}
+use borrow.Author.Needs.{needs}
 use Rattle.table.proofs.sweep.turns_back.Statement.{statement}
 use Rattle.table.proofs.sweep.turns_back.Tie as tie
+
+enum-told : tie.Need-enum-told
+enum-told c = search needs
 
 partner-requires : tie.Need-partner-requires
 partner-requires c κs = search needs
@@ -15,19 +18,14 @@ row-words-requires c κs = search needs
 returns : tie.Need-returns
 unfolding turnsBack
 returns c =
-    let x = c .before .before .before .before .before .args in
+    let told = c .before .before in
+    let x = told .before .before .before .before .args in
     let opened = ap (λ r. r .a) (c .row-words .ensures) ∙ ap (λ p. rowNumbered (x .words .now) (x .first) p .a) (c .before .partner .ensures) in
-    simp (eq-eqb _ _ (c .before .before .if1 .taken)) opened
+    rw (told .enum-told .given .1) opened
 
 returns-2 : tie.Need-returns-2
-unfolding turnsBack
-returns-2 c = simp (ne-eqb _ _ (c .if1 .left))
+returns-2 c = sym (not-end-repeat _ _ _ _ (c .before .before .before .args .part) (c .match .keys2))
 
 pub turns-back-spec : {M : Type 1} → statement M
 turns-back-spec =
-    tie.close
-    (tie.spec
-    partner-requires
-    row-words-requires
-    returns
-    returns-2)
+    tie.close (tie.spec enum-told partner-requires row-words-requires returns returns-2)

@@ -1,0 +1,131 @@
+-- How a walk over the rows in a set's direction finds the set at every point: row by row in turn, and back from the far end of a repeat to its near end
+-- while the set there grows.
+use Prim.Native.Nat.{ℕ, suc, _+_, _*_, _-_, _≤_, _<_}
+use mathlib.Core.Path.{_≡_}
+use mathlib.Core.Bool.{Bool, true, false, _||_}
+use mathlib.Core.List.{List}
+use lib.ListN.{getD, set, length as List·length}
+use Rattle.sheet.specs.Rows.{SheetLine, Row, sheetRowOf}
+use Rattle.sheet.specs.inner.Kinds.{partFor}
+use Rattle.sheet.specs.declared.kinds.Part.{Part}
+use Rattle.sheet.specs.declared.kinds.Part.the-variants as part
+use Rattle.sets.specs.declared.rows.Seen.{Seen}
+use Rattle.sets.specs.declared.Which.{Which}
+use Rattle.sets.specs.declared.Which.the-variants.{Varied, Useful, Required}
+use Rattle.sets.specs.VariableSets.{VariableSet, _∪_}
+use Rattle.sets.specs.Equations.{Equation, joins, pointOf, rightSide, setAt}
+use Rattle.sets.specs.inner.ProperEquations.{Proper}
+use Rattle.sets.specs.inner.RowWords.{maskBits}
+use Rattle.sets.specs.inner.RowEquations.{Given, rowIn, equationOf, equationIn, rowInTurn, ownPoint, settledPoint, splits, joinsBy}
+use Rattle.sets.specs.inner.RowEquations.{RowThere, Readable, AllReadable, Known, allEquations, seedIn}
+use Rattle.sheet.specs.Bounds.{limit}
+use Rattle.sheet.specs.Reading.{rowAt}
+
+-- the point where the i-th row in turn takes its own set
+unfoldable pub placeInTurn : Which → (rows turn : ℕ) → ℕ
+placeInTurn Varied n i = i
+placeInTurn Useful n i = n - i
+placeInTurn Required n i = i
+
+-- a repeat's far end: where sets are found from the first row on, and from the last to the first
+abbrev pub endsOn : Part → Bool
+endsOn part.Assignment = false
+endsOn part.If = false
+endsOn part.Else = false
+endsOn part.EndIf = false
+endsOn part.Repeat = false
+endsOn part.EndRepeat = true
+
+abbrev pub endsBack : Part → Bool
+endsBack part.Assignment = false
+endsBack part.If = false
+endsBack part.Else = false
+endsBack part.EndIf = false
+endsBack part.Repeat = true
+endsBack part.EndRepeat = false
+
+unfoldable pub endsRepeat : Which → Part → Bool
+endsRepeat Varied part = endsOn part
+endsRepeat Useful part = endsBack part
+endsRepeat Required part = endsOn part
+
+-- a row whose equation asks its partner's set
+abbrev pub asksPartner : Which → Part → Bool
+asksPartner which part = splits part || joinsBy which part
+
+-- what a row is to the blocks
+abbrev pub partIn : Given → ℕ → Part
+partIn given p = partFor (rowIn given p .kind)
+
+-- the i-th row in turn and its equation
+abbrev pub inTurn : Which → Given → (rows turn : ℕ) → Equation
+inTurn which given n i = equationIn which given (rowInTurn which n i)
+
+-- a right side that asks no set beyond the i-th row in turn
+abbrev pub Behind : Which → (rows turn : ℕ) → Equation → Type 0
+Behind which n i e = (at at′ : ℕ → VariableSet) → ((j : ℕ) → j ≤ i → at (placeInTurn which n j) ≡ at′ (placeInTurn which n j))
+    → rightSide e at ≡ rightSide e at′
+
+-- the row is a repeat's far end, and `others` has its near end
+pub record FarEnd (which : Which) (given : Given) (others : List ℕ) (near far : ℕ) : Type 0 where
+  pub ends : endsRepeat which (partIn given far) ≡ true
+  pub nearIs : getD others far 0 ≡ near
+  pub equation : equationIn which given near ≡ joins (ownPoint which near) (ownPoint which far) (settledPoint which near)
+
+-- the i-th equation in turn asks what lies behind, or is that of a repeat's near end
+pub data Asks (which : Which) (given : Given) (others : List ℕ) (n i : ℕ) : Type 0 where
+  behind : Behind which n i (inTurn which given n i) → Asks which given others n i
+  around : (c : ℕ) → i < c → c < n → FarEnd which given others (rowInTurn which n i) (rowInTurn which n c) → Asks which given others n i
+
+-- how a sheet's rows hang together
+pub record Wired (which : Which) (given : Given) (others : List ℕ) (n : ℕ) : Type 0 where
+  pub taken : (p : ℕ) → p < n → asksPartner which (partIn given p) ≡ true → getD (given .partners) p 0 < n
+  pub back : (i : ℕ) → i < n → endsRepeat which (partIn given (rowInTurn which n i)) ≡ true
+      → let near = getD others (rowInTurn which n i) 0 in
+      (near < n) × (rowInTurn which n near < i) × FarEnd which given others near (rowInTurn which n i)
+  pub asks : (i : ℕ) → i < n → Asks which given others n i
+
+-- an equation's right side is put into the set that it settles
+abbrev pub Stored : Equation → (before after : List VariableSet) → Type 0
+Stored e before after = after ≡ set before (pointOf e) (setAt before (pointOf e) ∪ rightSide e (setAt before))
+
+-- what a far end brings to its near end is there already
+abbrev pub Brought : Which → List VariableSet → (near far : ℕ) → Type 0
+Brought which sets near far =
+    let kept = setAt sets (settledPoint which near) in kept ∪ setAt sets (ownPoint which far) ≡ kept
+
+-- the row whose equation is due: this one, or a repeat's near end, if this is its far end and brings more
+pub data Due (which : Which) (part : Part) (others : List ℕ) (sets : List VariableSet) (row due : ℕ) : Type 0 where
+  onward : due ≡ row → (endsRepeat which part ≡ true → Brought which sets (getD others row 0) row) → Due which part others sets row due
+  backward : due ≡ getD others row 0 → endsRepeat which part ≡ true → (Brought which sets (getD others row 0) row → ⊥)
+      → Due which part others sets row due
+
+-- the same of the row's line
+abbrev pub StoredFor : Which → Row → (active : Bool) → (p partner : ℕ) → (before after : List VariableSet) → Type 0
+StoredFor which row active p c before after = (l : SheetLine) → sheetRowOf l ≡ row → Stored (equationOf which active l p c) before after
+
+-- what the code needs to store a row's equation into so many sets
+pub record Stepping (which : Which) (seen : Seen) (partners : List ℕ) (size : ℕ) : Type 0 where
+  pub known : Known seen
+  pub partnered : seen .row .0 < List·length partners
+  pub within : suc (seen .row .0) < size
+  pub taken : asksPartner which (partFor (seen .line .kind)) ≡ true → suc (getD partners (seen .row .0) 0) < size
+
+-- and to see which row's equation is due
+pub record Looking (which : Which) (words : List ℕ) (first : ℕ) (others : List ℕ) (size row : ℕ) : Type 0 where
+  pub readable : Readable words first row
+  pub othersThere : row < List·length others
+  pub within : suc row < size
+  pub back : endsRepeat which (partFor (rowAt words (first + row * limit .rowWords) .kind)) ≡ true
+      → let near = getD others row 0 in (suc near < size) × RowThere words first near
+
+-- what the code needs to settle the sets
+pub record Settles (which : Which) (given : Given) (others : List ℕ) (rows variables length : ℕ) : Type 0 where
+  pub readable : AllReadable (given .words) (given .first) rows
+  pub variablesSmall : variables ≤ maskBits
+  pub rolesThere : variables < List·length (given .words)
+  pub long : length ≡ suc rows
+  pub partnered : rows ≤ List·length (given .partners)
+  pub othersThere : rows ≤ List·length others
+  pub proper : Proper variables (suc rows) (allEquations which given rows (seedIn which (given .words) variables))
+  pub wired : Wired which given others rows

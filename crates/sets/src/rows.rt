@@ -1,0 +1,22 @@
+// A row as it is looked up once: its number, its words and what the table of kinds says of its kind.
+ghost use mathlib.Core.Path.{_≡_};
+ghost use Rattle.sets.specs.inner.RowEquations.{RowThere, Sees};
+use sheet::RowNumber;
+use sheet::RowWords;
+use sheet::kinds;
+use sheet::kinds::Form;
+
+pub struct Seen {
+    pub row: RowNumber,
+    pub line: RowWords,
+    pub form: Form,
+}
+
+pub fn look(words: &[u16], first: usize, row: RowNumber) -> Seen
+    requires { ⌜ RowThere (now words) first (row .0) ⌝ }
+    ensures { λ r. ⌜ (r .row .0 ≡ row .0) × Sees (now (words .entry)) first r ⌝ }
+{
+    let line = sheet::row_of(words, first, row);
+    let form = kinds::form_of(line.kind);
+    Seen { row, line, form }
+}

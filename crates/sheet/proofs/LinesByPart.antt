@@ -1,0 +1,22 @@
+-- What a row is to the blocks, by the table of kinds, is what its line is to them.
+use mathlib.Core.Path.{_≡_, refl, ap, _∙_, sym}
+use Rattle.sheet.specs.Tree.{basic, ifLine, elseLine, endIf, repeat, endRepeat}
+use Rattle.sheet.specs.Rows.{_≔_, copy, fixed, sum, difference, product, negation, less, SheetLine, Row, sheetRowOf}
+use Rattle.sheet.specs.inner.Kinds.{partOf, formFor, partFor}
+
+pub line-part : (l : SheetLine) → partFor (sheetRowOf l .kind) ≡ partOf l
+unfolding sheetRowOf formFor
+line-part (basic (d ≔ copy a)) = refl
+line-part (basic (d ≔ fixed c)) = refl
+line-part (basic (d ≔ sum a b)) = refl
+line-part (basic (d ≔ difference a b)) = refl
+line-part (basic (d ≔ product a b)) = refl
+line-part (basic (d ≔ negation a)) = refl
+line-part (ifLine (less a b)) = refl
+line-part elseLine = refl
+line-part endIf = refl
+line-part (repeat m) = refl
+line-part endRepeat = refl
+
+pub row-part : (l : SheetLine) (row : Row) → sheetRowOf l ≡ row → partOf l ≡ partFor (row .kind)
+row-part l row e = sym (line-part l) ∙ ap (λ r. partFor (r .kind)) e
