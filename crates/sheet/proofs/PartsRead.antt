@@ -7,7 +7,6 @@ use mathlib.Core.Option.{Option, none, some}
 use lib.ListN.{length, length-set, getD, getElem?, set}
 use lib.Seq.{getD-set-same, getD-set-other}
 use lib.Dec.{leb, ltb, eqb}
-use native.Mathlib.Numerals.{sub-one}
 use native.Mathlib.Omega.{arith}
 use native.Mathlib.Decide.{decLe}
 use borrow.Author.Tests.{le-leb, lt-leb, lt-ltb, le-ltb, ne-eqb}
@@ -16,7 +15,7 @@ use Rattle.sheet.specs.Refusals.{Answer, refused, given, badRow}
 use Rattle.sheet.specs.Tree.{basic, ifLine, elseLine, endIf, repeat, endRepeat}
 use Rattle.sheet.specs.Rows.{Slot, variable, constant, turns, unused, SheetLine, Row, fits, Kind, kinds, kindOf, wordsFit}
 use Rattle.sheet.specs.Reading.{lineBy, lineOf}
-use Rattle.sheet.specs.inner.Kinds.{slotOf, partOf, formOf, formBy, formFor, noForm, partFor}
+use Rattle.sheet.specs.inner.Kinds.{slotOf, partOf, formOf, formBy, formFor, noForm, allForms, partFor}
 use Rattle.sheet.specs.inner.Steps.{leastOf, beyondOf, ruleOf, noRule, ruleBy, RulesFor, inRange, fitsRule, fitsKind, rowFits, stepOf}
 use Rattle.sheet.specs.declared.kinds.Form.{Form}
 use Rattle.sheet.specs.declared.Rule.{Rule}
@@ -42,19 +41,17 @@ unfolding kindOf
 no-kind-above zero l = absurd (omega arith)
 no-kind-above (suc i) l = beyond-table kinds i (omega arith)
 
-pub no-form-below : (n : ℕ) → n < 1 → noForm ≡ formFor n
-unfolding formFor kindOf
-no-form-below zero l = refl
-no-form-below (suc i) l = absurd (omega arith)
-
 pub no-form-above : (n : ℕ) → length kinds < n → noForm ≡ formFor n
 unfolding formFor
 no-form-above n l = rw (no-kind-above n l)
 
-pub form-there : (n : ℕ) (other : Form) → 1 ≤ n → n ≤ length kinds → getD (map formOf kinds) (n - 1) other ≡ formFor n
+in-all-forms : (n : ℕ) (other : Form) → n ≤ length kinds → getD allForms n other ≡ formFor n
 unfolding formFor kindOf
-form-there zero other l m = absurd (omega arith)
-form-there (suc i) other l m = rw sub-one (in-table kinds i other (omega arith))
+in-all-forms zero other l = refl
+in-all-forms (suc i) other l = in-table kinds i other (omega arith)
+
+pub form-there : (forms : List Form) (n : ℕ) (other : Form) → forms ≡ allForms → n ≤ length kinds → getD forms n other ≡ formFor n
+form-there forms n other e l = rw e (in-all-forms n other l)
 
 record There (n : ℕ) : Type 0 where
   kind : Kind

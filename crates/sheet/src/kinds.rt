@@ -1,6 +1,7 @@
 // The kinds of a sheet's rows: each by its number, and one fixed table that says what a row of each kind is.
 ghost use mathlib.Core.Path.{_≡_};
-ghost use Rattle.sheet.specs.inner.Kinds.{formFor, namesVariable, assigns};
+ghost use Rattle.sheet.specs.inner.Kinds.{allForms, formFor, namesVariable, assigns};
+use super::wide;
 
 pub const COPY: u16 = 1;
 
@@ -51,54 +52,77 @@ pub struct Form(pub Slot, pub Slot, pub Slot, pub Part);
 // What a number that is no kind's is taken for: its words name nothing, and it opens and closes no block.
 const NO_FORM: Form = Form(Slot::Unused, Slot::Unused, Slot::Unused, Part::Assignment);
 
-// The one table of kinds, for every layer: which of a row's three words name a variable, what the others are, and what its rows are to the blocks.
+// One fixed table, for every layer: for each kind, in its own place, which of its three words name a variable, what the others are, and what its
+// rows are to the blocks.
+const FORMS: [Form; LAST + 1] = [
+    NO_FORM,
+    Form(
+        Slot::Variable,
+        Slot::Variable,
+        Slot::Unused,
+        Part::Assignment,
+    ),
+    Form(
+        Slot::Variable,
+        Slot::Constant,
+        Slot::Unused,
+        Part::Assignment,
+    ),
+    Form(
+        Slot::Variable,
+        Slot::Variable,
+        Slot::Variable,
+        Part::Assignment,
+    ),
+    Form(
+        Slot::Variable,
+        Slot::Variable,
+        Slot::Variable,
+        Part::Assignment,
+    ),
+    Form(
+        Slot::Variable,
+        Slot::Variable,
+        Slot::Variable,
+        Part::Assignment,
+    ),
+    Form(
+        Slot::Variable,
+        Slot::Variable,
+        Slot::Unused,
+        Part::Assignment,
+    ),
+    Form(Slot::Unused, Slot::Variable, Slot::Variable, Part::If),
+    Form(Slot::Unused, Slot::Unused, Slot::Unused, Part::Else),
+    Form(Slot::Unused, Slot::Unused, Slot::Unused, Part::EndIf),
+    Form(Slot::Unused, Slot::Turns, Slot::Unused, Part::Repeat),
+    Form(Slot::Unused, Slot::Unused, Slot::Unused, Part::EndRepeat),
+];
+
+// The table, to be taken once a pass: a constant array that a loop looks up is made anew at each turn.
+pub fn forms() -> [Form; LAST + 1]
+    ensures { λ r. ⌜ r ≡ allForms ⌝ }
+{
+    FORMS
+}
+
+// The look-up.
+pub fn form_in(forms: [Form; LAST + 1], kind: u16) -> Form
+    requires { ⌜ forms ≡ allForms ⌝ }
+    ensures { λ r. ⌜ r ≡ formFor kind ⌝ }
+{
+    let number = wide(kind);
+    if LAST < number {
+        return NO_FORM;
+    }
+    forms[number]
+}
+
+// The look-up of a single kind.
 pub fn form_of(kind: u16) -> Form
     ensures { λ r. ⌜ r ≡ formFor kind ⌝ }
 {
-    match kind {
-        COPY => Form(
-            Slot::Variable,
-            Slot::Variable,
-            Slot::Unused,
-            Part::Assignment,
-        ),
-        CONSTANT => Form(
-            Slot::Variable,
-            Slot::Constant,
-            Slot::Unused,
-            Part::Assignment,
-        ),
-        SUM => Form(
-            Slot::Variable,
-            Slot::Variable,
-            Slot::Variable,
-            Part::Assignment,
-        ),
-        DIFFERENCE => Form(
-            Slot::Variable,
-            Slot::Variable,
-            Slot::Variable,
-            Part::Assignment,
-        ),
-        PRODUCT => Form(
-            Slot::Variable,
-            Slot::Variable,
-            Slot::Variable,
-            Part::Assignment,
-        ),
-        NEGATION => Form(
-            Slot::Variable,
-            Slot::Variable,
-            Slot::Unused,
-            Part::Assignment,
-        ),
-        IF => Form(Slot::Unused, Slot::Variable, Slot::Variable, Part::If),
-        ELSE => Form(Slot::Unused, Slot::Unused, Slot::Unused, Part::Else),
-        END_IF => Form(Slot::Unused, Slot::Unused, Slot::Unused, Part::EndIf),
-        REPEAT => Form(Slot::Unused, Slot::Turns, Slot::Unused, Part::Repeat),
-        END_REPEAT => Form(Slot::Unused, Slot::Unused, Slot::Unused, Part::EndRepeat),
-        _ => NO_FORM,
-    }
+    form_in(forms(), kind)
 }
 
 pub fn names_variable(slot: Slot) -> bool

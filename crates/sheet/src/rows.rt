@@ -70,10 +70,11 @@ const NO_RULE: Rule = Rule {
 pub fn rules_of(variables: u16, constants: u16) -> [Rule; kinds::LAST + 1]
     ensures { λ r. ⌜ RulesFor variables constants r ⌝ }
 {
+    let forms = kinds::forms();
     let mut rules = [NO_RULE; kinds::LAST + 1];
     let mut kind: usize = 1;
     while kind <= kinds::LAST {
-        let form = kinds::form_of(kind as u16);
+        let form = kinds::form_in(forms, kind as u16);
         rules[kind] = rule_of(form, variables, constants);
         kind += 1;
     }

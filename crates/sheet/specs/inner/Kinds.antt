@@ -1,9 +1,10 @@
 -- 01's table of kinds as the code has it: what a kind's words are, and what its rows are to the blocks.
 use Prim.Native.Nat.{ℕ}
 use mathlib.Core.Bool.{Bool, true, false}
+use mathlib.Core.List.{List, _∷_, map}
 use mathlib.Core.Option.{Option, none, some}
 use Rattle.sheet.specs.Tree.{basic, ifLine, elseLine, endIf, repeat, endRepeat}
-use Rattle.sheet.specs.Rows.{SheetLine, Kind, kindOf}
+use Rattle.sheet.specs.Rows.{SheetLine, Kind, kinds, kindOf}
 use Rattle.sheet.specs.Rows as rows
 use Rattle.sheet.specs.declared.kinds.Slot.{Slot}
 use Rattle.sheet.specs.declared.kinds.Slot.the-variants as slot
@@ -56,6 +57,10 @@ formBy (some kind) = formOf kind
 unfoldable pub formFor : ℕ → Form
 unfolding kindOf
 formFor n = formBy (kindOf n)
+
+-- the code's table: what each number up to the last kind's stands for
+abbrev pub allForms : List Form
+allForms = noForm ∷ map formOf kinds
 
 -- what a row of a kind is to the blocks
 abbrev pub partFor : ℕ → Part

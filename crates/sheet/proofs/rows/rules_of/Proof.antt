@@ -11,19 +11,22 @@ use Rattle.sheet.proofs.rows.rules_of.Statement.{statement}
 use Rattle.sheet.proofs.rows.rules_of.Tie as tie
 
 abbrev Inv-loop : tie.InvT-loop
-Inv-loop variables constants rules₀ kind₀ rules kind = Made variables constants rules kind
+Inv-loop variables constants forms rules₀ kind₀ rules kind = Made variables constants rules kind
 
 abbrev μ-loop : tie.MeasureT-loop
-μ-loop variables constants rules₀ kind₀ rules kind = suc (length kinds) - kind
+μ-loop variables constants forms rules₀ kind₀ rules kind = suc (length kinds) - kind
+
+forms-requires : tie.Need-forms-requires Inv-loop μ-loop
+forms-requires c κs = search needs
 
 loop-holds : tie.Need-loop-holds Inv-loop μ-loop
 loop-holds c = made-starts _ _ _ refl refl
 
-cast-form-of : tie.Need-cast-form-of Inv-loop μ-loop
-cast-form-of c = search needs
+cast-form-in : tie.Need-cast-form-in Inv-loop μ-loop
+cast-form-in c = search needs
 
-form-of-requires : tie.Need-form-of-requires Inv-loop μ-loop
-form-of-requires c κs = search needs
+form-in-requires : tie.Need-form-in-requires Inv-loop μ-loop
+form-in-requires c κs = search needs
 
 rule-of-requires : tie.Need-rule-of-requires Inv-loop μ-loop
 rule-of-requires c κs = search needs
@@ -43,7 +46,7 @@ loop-less c = search needs
 loop-again : tie.Need-loop-again Inv-loop μ-loop
 loop-again c =
     let inside = c .before .before in
-    made-on (inside .before .loop .inv) _ (inside .loop-test .taken) (c .rule-of .ensures ∙ ap (ruleOf _ _) (c .before .form-of .ensures))
+    made-on (inside .before .loop .inv) _ (inside .loop-test .taken) (c .rule-of .ensures ∙ ap (ruleOf _ _) (c .before .form-in .ensures))
 
 returns : tie.Need-returns Inv-loop μ-loop
 returns c n l = c .before .loop .inv .upTo n (omega (arith, c .loop-test .left))
@@ -54,9 +57,10 @@ rules-of-spec =
     (tie.spec
     Inv-loop
     μ-loop
+    forms-requires
     loop-holds
-    cast-form-of
-    form-of-requires
+    cast-form-in
+    form-in-requires
     rule-of-requires
     mul-rules
     array-set-from-rules
