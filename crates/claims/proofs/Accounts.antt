@@ -7,10 +7,10 @@ use Rattle.sheet.specs.Tree.{RowNumber}
 use Rattle.sheet.specs.Rows.{Assignment}
 use Rattle.sets.specs.Transfers.{Activity}
 use Rattle.table.specs.TableRows.{Table}
-use Rattle.run.specs.Attempts.{Attempt, through, halted, _>>=_}
-use Rattle.run.specs.Actions.{Memory, Setting}
-use Rattle.run.specs.InTheLarge.{Stop, tableRun}
-use Rattle.run.specs.RowReads.{Entry, onThrough, tableLog}
+use Rattle.machine.specs.Attempts.{Attempt, through, halted, _>>=_}
+use Rattle.machine.specs.Actions.{Memory, Setting}
+use Rattle.machine.specs.InTheLarge.{Stop, tableRun}
+use Rattle.machine.specs.RowReads.{Entry, onThrough, tableLog}
 use Rattle.claims.specs.Execution.{Executed}
 use Rattle.claims.specs.IdealSweep.{derivedBy, swept}
 use Rattle.claims.specs.ReadLog.{derivedLog, sweptLog}

@@ -14,15 +14,15 @@ use Rattle.sheet.specs.Reading.{Sheet, variablesOf, read}
 use Rattle.sheet.proofs.NamesPresent.{names-present}
 use Rattle.sets.specs.Marks.{varied, useful, activityAt}
 use Rattle.sets.proofs.SetsLeast.{varied-least, useful-least}
-use Rattle.run.specs.Attempts.{through}
-use Rattle.run.specs.Actions.{Setting, counting}
+use Rattle.machine.specs.Attempts.{through}
+use Rattle.machine.specs.Actions.{Setting, counting}
 use Rattle.run.specs.Calls.{Lent, Ran, settingOf, independentAdjoints, lentAfter, run}
 use Rattle.claims.specs.ExactlyWhen.{Runnable}
 use Rattle.claims.specs.Execution.{Progress, beginning, execution}
 use Rattle.claims.specs.IdealSweep.{swept, firstAdjoints, Ideal, ideal}
 use Rattle.claims.specs.EquationTwo.{Instance, valueNo, EquationTwo}
 use Rattle.claims.specs.Demands.{AuditSolves}
-use Rattle.run.proofs.AttemptLaws.{same-through, went}
+use Rattle.machine.proofs.AttemptLaws.{same-through, went}
 use Rattle.claims.proofs.Runs.{runs}
 use Rattle.claims.proofs.RunsKeepSizes.{runs-keep}
 use Rattle.claims.proofs.StartExactlyWhen.{accepted-to-run}

@@ -13,13 +13,14 @@ use Rattle.sets.specs.Marks.{markBy, marked}
 use Rattle.table.specs.TableRows.{Table, ofTurningRound, turnRound, linesOf}
 use Rattle.table.specs.Adjoint.{Body, forwardPart, backwardPart, adjointTable, tableOf}
 use Rattle.table.specs.Sizes.{valuesNeeded, turnsNeeded}
-use Rattle.run.specs.Attempts.{Attempt, through, _>>=_}
-use Rattle.run.specs.Actions.{Memory, Setting}
-use Rattle.run.specs.Machine.{State, goesOn, gotStuck}
+use Rattle.machine.specs.Attempts.{Attempt, through, _>>=_}
+use Rattle.machine.specs.Actions.{Memory, Setting}
+use Rattle.machine.specs.Machine.{State, goesOn, gotStuck}
+use Rattle.machine.specs.InTheLarge.{tableRun}
+use Rattle.machine.specs.RowReads.{tableLog, onThrough}
+use Rattle.machine.proofs.LinesPassed.{past-tree}
+use Rattle.run.proofs.MachineFollows.{atRow, goes-through}
 use Rattle.run.specs.Calls.{settingOf, startOf, runOf}
-use Rattle.run.specs.InTheLarge.{tableRun}
-use Rattle.run.specs.RowReads.{tableLog, onThrough}
-use Rattle.run.proofs.MachineFollows.{atRow, past-tree, goes-through}
 use Rattle.claims.specs.Execution.{Progress, beginning, execution}
 use Rattle.claims.specs.IdealSweep.{ideal}
 use Rattle.claims.specs.SavedRows.{savedValues, recordedIn}

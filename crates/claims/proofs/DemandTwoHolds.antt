@@ -12,8 +12,8 @@ use Rattle.sets.proofs.SetsLeast.{varied-least, useful-least, required-least}
 use Rattle.table.specs.TableRows.{linesOf}
 use Rattle.table.specs.Adjoint.{tableOf}
 use Rattle.table.specs.declared.Answer.{Answer}
-use Rattle.run.specs.Actions.{Memory}
-use Rattle.run.specs.Machine.{Ending, stepsOf}
+use Rattle.machine.specs.Actions.{Memory}
+use Rattle.machine.specs.Machine.{Ending, stepsOf}
 use Rattle.run.specs.Calls.{Lent, Ran, startOf, runOf, independentAdjoints, resultOf, lentAfter, ranTo, run, ranOf}
 use Rattle.claims.specs.ExactlyWhen.{Runnable, endingOf}
 use Rattle.claims.specs.SavedRows.{every}

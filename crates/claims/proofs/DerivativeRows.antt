@@ -14,10 +14,10 @@ use Rattle.number.specs.Arithmetic.{Arithmetic, Outcome}
 use Rattle.sheet.specs.Rows.{_≔_, Source, copy, fixed, sum, difference, product, negation}
 use Rattle.sets.specs.VariableSets.{VariableSet, has}
 use Rattle.table.specs.TableRows.{Action, assign, save, takeBack, saveTurn, clear, turnRound, tableVariables}
-use Rattle.run.specs.Attempts.{through, halted, _>>=_, fromOutcome, look}
-use Rattle.run.specs.Actions.{Memory, Setting, evaluated, acted, stored, withStore}
-use Rattle.run.specs.RowReads.{originalAt, readsOf}
-use Rattle.run.proofs.AttemptLaws.{Ready, gives, stops, from-outcome-ready}
+use Rattle.machine.specs.Attempts.{through, halted, _>>=_, fromOutcome, look}
+use Rattle.machine.specs.Actions.{Memory, Setting, evaluated, acted, stored, withStore}
+use Rattle.machine.specs.RowReads.{originalAt, readsOf}
+use Rattle.machine.proofs.AttemptLaws.{Ready, gives, stops, from-outcome-ready}
 use Rattle.claims.proofs.Stores.{same-default, at-known, at-first-part, at-second-part, set-second-part}
 
 -- ---- rows that work on the adjoints

@@ -18,10 +18,10 @@ use Rattle.sets.specs.Transfers.{Activity, adjointUse}
 use Rattle.sets.proofs.VariableSetLaws.{single-has, union-left, union-right}
 use Rattle.table.specs.TableRows.{Table, TableRow, Action, assign, clear, adjointOf, t, u, Operation, Origin, ofRow, ofTurningRound}
 use Rattle.table.specs.Adjoint.{put, putIf, partsOf, derivativeRows}
-use Rattle.run.specs.Attempts.{Attempt, through, _>>=_}
-use Rattle.run.specs.Actions.{Memory, Setting, acted, withStore}
-use Rattle.run.specs.InTheLarge.{Stop, stoppingAt, tableRun}
-use Rattle.run.specs.RowReads.{Entry, isDerivative, readsOf, entryIf, notedBy, noted, tableLog}
+use Rattle.machine.specs.Attempts.{Attempt, through, _>>=_}
+use Rattle.machine.specs.Actions.{Memory, Setting, acted, withStore}
+use Rattle.machine.specs.InTheLarge.{Stop, stoppingAt, tableRun}
+use Rattle.machine.specs.RowReads.{Entry, isDerivative, readsOf, entryIf, notedBy, noted, tableLog}
 use Rattle.claims.specs.IdealSweep.{derivedBy}
 use Rattle.claims.specs.ReadLog.{derivedLog}
 use Rattle.claims.proofs.Accounts.{Account, account, Same, derived, inTurn, noting, stopping, nothing-more, noting-more, in-turn-same}

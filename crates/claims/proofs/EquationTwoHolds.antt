@@ -20,14 +20,14 @@ use Rattle.sets.specs.Transfers.{variedAfter, usefulBefore}
 use Rattle.sets.specs.Marks.{varied, useful, variedEquations, usefulEquations, activityAt}
 use Rattle.sets.proofs.VariableSetLaws.{places-has}
 use Rattle.sets.proofs.EquationsAlong.{forward-along, backward-along}
-use Rattle.run.specs.Attempts.{Attempt, through}
-use Rattle.run.specs.Actions.{counting, seeded}
+use Rattle.machine.specs.Attempts.{Attempt, through}
+use Rattle.machine.specs.Actions.{counting, seeded}
+use Rattle.machine.specs.InTheLarge.{Stop}
 use Rattle.run.specs.Calls.{settingOf}
-use Rattle.run.specs.InTheLarge.{Stop}
 use Rattle.claims.specs.Execution.{Progress, beginning, execution, executed}
 use Rattle.claims.specs.IdealSweep.{swept, firstAdjoints, Ideal, ideal}
 use Rattle.claims.specs.EquationTwo.{Instance, valueNo, Trace, EquationTwo}
-use Rattle.run.proofs.AttemptLaws.{same-through, went}
+use Rattle.machine.proofs.AttemptLaws.{same-through, went}
 use lib.Seq.{getD-drop}
 use Rattle.claims.proofs.Runs.{runs}
 use Rattle.claims.proofs.ResiduesGo.{execution-goes}

@@ -16,8 +16,8 @@ use Rattle.table.specs.TableRows.{tableWords}
 use Rattle.table.specs.Adjoint.{tableOf}
 use Rattle.table.specs.Calls.{Checked, noSizes, sizesIn, check, readFor, overwritten, tableIn, Written, write}
 use Rattle.table.proofs.TableLength.{table-length}
-use Rattle.run.specs.Actions.{Memory}
-use Rattle.run.specs.Machine.{Ending, finished, stoppedAt, gotStuck, outOfFuel}
+use Rattle.machine.specs.Actions.{Memory}
+use Rattle.machine.specs.Machine.{Ending, finished, stoppedAt, gotStuck, outOfFuel}
 use Rattle.run.specs.Calls.{Lent, Ran, resultOf, stuckNumber, lentAfter, ranTo, ranOn, run}
 use Rattle.claims.specs.ExactlyWhen.{ReadingRefuses, Read, WritingRefuses, Writable, Runnable, endingOf, StartRefused, RunRefuses, Stops, beforeStart, resultNotFinite, Finishes}
 use Rattle.claims.specs.CallsExactly.{Names, ReadExactly, CheckExactly, StartsWith, WriteExactly, LeftBehind, RunExactly}

@@ -10,12 +10,12 @@ use Rattle.number.specs.Arithmetic.{Arithmetic, Outcome}
 use Rattle.sheet.specs.Tree.{Tree, done, one, fork, again, rows}
 use Rattle.sheet.specs.Rows.{Assignment, _≔_, Source, copy, fixed, sum, difference, product, negation, Test, less}
 use Rattle.sheet.specs.Names.{SourcePresent, AssignmentPresent, TestPresent, Present}
-use Rattle.run.specs.Attempts.{Attempt, through, _>>=_, fromOutcome, look}
-use Rattle.run.specs.Actions.{evaluated, compared}
-use Rattle.run.specs.InTheLarge.{Stop}
+use Rattle.machine.specs.Attempts.{Attempt, through, _>>=_, fromOutcome, look}
+use Rattle.machine.specs.Actions.{evaluated, compared}
+use Rattle.machine.specs.InTheLarge.{Stop}
 use Rattle.claims.specs.Execution.{Progress, performed, turned, executed}
-use Rattle.run.proofs.AttemptLaws.{Ready, gives, ready-then, stops, from-outcome-ready}
-use Rattle.run.proofs.PlaceLaws.{place-there}
+use Rattle.machine.proofs.AttemptLaws.{Ready, gives, ready-then, stops, from-outcome-ready}
+use Rattle.machine.proofs.PlaceLaws.{place-there}
 use Rattle.claims.proofs.Runs.{runs}
 use Rattle.claims.proofs.RunsKeepSizes.{performed-keeps, runs-keep}
 use Rattle.claims.proofs.Originals.{replaced-alone}

@@ -12,10 +12,10 @@ use Rattle.sets.specs.Transfers.{Activity}
 use Rattle.table.specs.TableRows.{Table, Action, assign, save, saveTurn, TableTest, whether, ofRow, Operation, saving, itself, turning}
 use Rattle.table.specs.Adjoint.{Body, put, putIf, targetOf, forwardRow, forwardPart}
 use Rattle.table.specs.Sizes.{valuesNeeded, turnsNeeded}
-use Rattle.run.specs.Attempts.{Attempt, through, halted, stuck, _>>=_, present}
-use Rattle.run.specs.Actions.{Memory, Setting, acted, tested}
-use Rattle.run.specs.InTheLarge.{Stop, stoppingAt, tableRun}
-use Rattle.run.specs.RowReads.{Entry, isDerivative, notedBy, onThrough, tableLog}
+use Rattle.machine.specs.Attempts.{Attempt, through, halted, stuck, _>>=_, present}
+use Rattle.machine.specs.Actions.{Memory, Setting, acted, tested}
+use Rattle.machine.specs.InTheLarge.{Stop, stoppingAt, tableRun}
+use Rattle.machine.specs.RowReads.{Entry, isDerivative, notedBy, onThrough, tableLog}
 use Rattle.claims.specs.Execution.{Progress, executed}
 use Rattle.claims.specs.SavedRows.{savedValues}
 use Rattle.claims.proofs.Forward.{body, memoryWith, forward-executes}

@@ -11,11 +11,11 @@ use Rattle.number.specs.Arithmetic.{Arithmetic}
 use Rattle.sheet.specs.Tree.{basic, ifLine, elseLine, endIf, repeat, endRepeat}
 use Rattle.sheet.specs.Rows.{_≔_}
 use Rattle.table.specs.TableRows.{Action, assign, save, takeBack, saveTurn, clear, turnRound, whether, onTurn, turnWord, Origin, TableLine, Table, linesOf}
-use Rattle.run.specs.Attempts.{Attempt, through, halted, stuck, _>>=_, look, replaced, pushed}
-use Rattle.run.specs.Actions.{Memory, Setting, evaluated, restored, turnedRound, acted, compared, verdictOn, turnTaken, tested}
-use Rattle.run.specs.Machine.{itsElse, itsEnd, oneMore, seek, Repeat, State, Step, goesOn, ended, stops, sticks, jump, afterAction, branchTo, afterTest, afterTurn, stepAt, step, gotStuck, outOfFuel, runFor, ifItGoesOn, stateAfter, stepsOf}
-use Rattle.run.specs.Calls.{runOf}
+use Rattle.machine.specs.Attempts.{Attempt, through, halted, stuck, _>>=_, look, replaced, pushed}
+use Rattle.machine.specs.Actions.{Memory, Setting, evaluated, restored, turnedRound, acted, compared, verdictOn, turnTaken, tested}
+use Rattle.machine.specs.Machine.{itsElse, itsEnd, oneMore, seek, Repeat, State, Step, goesOn, ended, stops, sticks, jump, afterAction, branchTo, afterTest, afterTurn, stepAt, step, gotStuck, outOfFuel, runFor, ifItGoesOn, stateAfter, stepsOf}
 use Rattle.run.proofs.MachineFollows.{atRow, endingFrom, run-on, more-fuel-same, fuel-suffices}
+use Rattle.run.specs.Calls.{runOf}
 use Rattle.claims.proofs.MoreRoom.{withRooms, more-room-same}
 
 -- ---- what holds of whatever goes through

@@ -9,13 +9,13 @@ use Rattle.sheet.specs.Rows.{Assignment, _≔_}
 use Rattle.sheet.specs.Reading.{Sheet}
 use Rattle.sets.specs.Transfers.{Activity}
 use Rattle.table.specs.Adjoint.{derivativeRows}
-use Rattle.run.specs.Attempts.{Attempt, stuck}
-use Rattle.run.specs.Actions.{Setting}
+use Rattle.machine.specs.Attempts.{Attempt, stuck}
+use Rattle.machine.specs.Actions.{Setting}
+use Rattle.machine.specs.InTheLarge.{Stop, tableRun}
 use Rattle.run.specs.Calls.{settingOf}
-use Rattle.run.specs.InTheLarge.{Stop, tableRun}
 use Rattle.claims.specs.Execution.{Executed, execution}
 use Rattle.claims.specs.IdealSweep.{derivedBy, swept, Ideal, ideal}
-use Rattle.run.proofs.AttemptLaws.{bind-unless}
+use Rattle.machine.proofs.AttemptLaws.{bind-unless}
 use Rattle.claims.proofs.MoreRoom.{withRooms, more-room-same-in-the-large}
 
 module _ (A : Arithmetic) (setting : Setting A) (values turns : ℕ) (moreValues : setting .valueRoom ≤ values)

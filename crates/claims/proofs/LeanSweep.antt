@@ -15,8 +15,8 @@ use Rattle.sets.specs.Transfers.{variedAfter, usefulBefore, Activity}
 use Rattle.sets.specs.Marks.{activityAt}
 use Rattle.sets.proofs.VariableSetLaws.{union-left, union-right, ⊆-refl}
 use Rattle.sets.proofs.EquationsAlong.{ForwardAlong, BackwardAlong}
-use Rattle.run.specs.Attempts.{through}
-use Rattle.run.specs.Actions.{Setting}
+use Rattle.machine.specs.Attempts.{through}
+use Rattle.machine.specs.Actions.{Setting}
 use Rattle.claims.specs.Execution.{Executed, Progress, performed}
 use Rattle.claims.specs.IdealSweep.{swept}
 use Rattle.claims.specs.EquationTwo.{Trace}

@@ -8,12 +8,13 @@ use native.Mathlib.Omega.{arith}
 use Rattle.number.specs.Arithmetic.{Arithmetic}
 use Rattle.sheet.specs.Tree.{flat, rows}
 use Rattle.table.specs.TableRows.{TableLine, Table, linesOf}
-use Rattle.run.specs.Attempts.{through, halted, stuck}
-use Rattle.run.specs.Actions.{Memory, Setting}
-use Rattle.run.specs.Machine.{Repeat, Step, step, stepAt, stepsOf}
-use Rattle.run.specs.InTheLarge.{tableRun}
-use Rattle.run.specs.RowReads.{onNext, machineLog, tableLog}
-use Rattle.run.proofs.MachineFollows.{atRow, Result, LandsAt, past-tree, log-add, reaches}
+use Rattle.machine.specs.Attempts.{through, halted, stuck}
+use Rattle.machine.specs.Actions.{Memory, Setting}
+use Rattle.machine.specs.Machine.{Repeat, Step, step, stepAt, stepsOf}
+use Rattle.machine.specs.InTheLarge.{tableRun}
+use Rattle.machine.specs.RowReads.{onNext, machineLog, tableLog}
+use Rattle.machine.proofs.LinesPassed.{past-tree}
+use Rattle.run.proofs.MachineFollows.{atRow, Result, LandsAt, log-add, reaches}
 
 module _ (A : Arithmetic) (setting : Setting A) where
   module _ (lines : List TableLine) (p : ℕ) (behind : drop p lines ≡ []) (repeats : List Repeat) where

@@ -10,11 +10,11 @@ use Rattle.number.specs.Arithmetic.{Arithmetic}
 use Rattle.sheet.specs.Tree.{done, one, fork, again, basic, ifLine, elseLine, endIf, repeat, endRepeat}
 use Rattle.sheet.specs.Rows.{_≔_}
 use Rattle.table.specs.TableRows.{Action, assign, save, takeBack, saveTurn, clear, turnRound, turnWord, TableLine, Table}
-use Rattle.run.specs.Attempts.{Attempt, through, stuck, present, look, pushed}
-use Rattle.run.specs.Actions.{Memory, Setting, saved, turnedRound, acted, tested}
-use Rattle.run.specs.Machine.{State, Step, goesOn, ended, stops, sticks, afterAction, stepAt, step, ifItGoesOn, stateAfter}
-use Rattle.run.specs.InTheLarge.{Stop, stoppingAt, tableRun}
-use Rattle.run.proofs.AttemptLaws.{bind-unless}
+use Rattle.machine.specs.Attempts.{Attempt, through, stuck, present, look, pushed}
+use Rattle.machine.specs.Actions.{Memory, Setting, saved, turnedRound, acted, tested}
+use Rattle.machine.specs.Machine.{State, Step, goesOn, ended, stops, sticks, afterAction, stepAt, step, ifItGoesOn, stateAfter}
+use Rattle.machine.specs.InTheLarge.{Stop, stoppingAt, tableRun}
+use Rattle.machine.proofs.AttemptLaws.{bind-unless}
 
 -- ---- the same, unless the first is a thing that means stuck
 

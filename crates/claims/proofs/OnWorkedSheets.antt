@@ -11,10 +11,10 @@ use Rattle.sheet.specs.Tree.{done}
 use Rattle.sheet.specs.Reading.{Sheet, variablesOf, read}
 use Rattle.sets.specs.Marks.{marked, markBy, varied, useful, required, activityAt}
 use Rattle.table.specs.Sizes.{valuesNeeded, turnsNeeded}
-use Rattle.run.specs.Attempts.{Attempt, through, halted, stuck}
-use Rattle.run.specs.Actions.{counting, seeded}
+use Rattle.machine.specs.Attempts.{Attempt, through, halted, stuck}
+use Rattle.machine.specs.Actions.{counting, seeded}
+use Rattle.machine.specs.InTheLarge.{Stop}
 use Rattle.run.specs.Calls.{Lent, settingOf, readToRun, run}
-use Rattle.run.specs.InTheLarge.{Stop}
 use Rattle.claims.specs.ExactlyWhen.{Runnable}
 use Rattle.claims.specs.Execution.{Progress, execution}
 use Rattle.claims.specs.IdealSweep.{firstAdjoints}

@@ -17,9 +17,9 @@ use Rattle.sets.proofs.VariableSetLaws.{union-left, union-right}
 use Rattle.sets.proofs.EquationsAlong.{ForwardAlong}
 use Rattle.table.specs.TableRows.{Table, onTurn}
 use Rattle.table.specs.Adjoint.{backwardPart}
-use Rattle.run.specs.Actions.{Memory, Setting}
-use Rattle.run.specs.InTheLarge.{Stop, tableRun}
-use Rattle.run.specs.RowReads.{Entry, tableLog}
+use Rattle.machine.specs.Actions.{Memory, Setting}
+use Rattle.machine.specs.InTheLarge.{Stop, tableRun}
+use Rattle.machine.specs.RowReads.{Entry, tableLog}
 use Rattle.claims.specs.Execution.{Executed, Progress, onward, turned}
 use Rattle.claims.specs.IdealSweep.{swept}
 use Rattle.claims.specs.ReadLog.{sweptLog}

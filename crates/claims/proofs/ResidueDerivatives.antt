@@ -18,11 +18,11 @@ use Rattle.sheet.specs.Names.{SourcePresent}
 use Rattle.sets.specs.Transfers.{Activity}
 use Rattle.table.specs.TableRows.{t, u, Action, assign, clear, Operation, holding, clearing, scalingForA, addingToA, scalingForB, addingToB, Table}
 use Rattle.table.specs.Adjoint.{put, putIf, addInto, subtractFrom, scaled, partsOf, derivativeRows}
-use Rattle.run.specs.Attempts.{through, look, replaced}
-use Rattle.run.specs.Actions.{Memory, Setting, acted}
-use Rattle.run.specs.InTheLarge.{tableRun}
+use Rattle.machine.specs.Attempts.{through, look, replaced}
+use Rattle.machine.specs.Actions.{Memory, Setting, acted}
+use Rattle.machine.specs.InTheLarge.{tableRun}
 use Rattle.claims.specs.IdealSweep.{derivedBy}
-use Rattle.run.proofs.PlaceLaws.{place-there}
+use Rattle.machine.proofs.PlaceLaws.{place-there}
 use Rattle.claims.proofs.LeanGain.{variedGain, leanGain, cleared, Grown}
 use Rattle.claims.proofs.Stores.{at-first-part, at-second-part, set-second-part}
 

@@ -6,9 +6,9 @@ use lib.ListN.{length}
 use Rattle.number.specs.Residues.{residues}
 use Rattle.sheet.specs.Names.{Present}
 use Rattle.sheet.specs.Reading.{Sheet, variablesOf}
-use Rattle.run.specs.Attempts.{through}
+use Rattle.machine.specs.Attempts.{through}
 use Rattle.claims.specs.Execution.{Progress, beginning, execution}
-use Rattle.run.proofs.AttemptLaws.{Ready, gives, stops}
+use Rattle.machine.proofs.AttemptLaws.{Ready, gives, stops}
 use Rattle.claims.proofs.ExecutionReady.{executed-ready}
 
 pub execution-goes : (sheet : Sheet) (starts : List ℕ) → length starts ≡ variablesOf sheet

@@ -8,9 +8,9 @@ use native.Mathlib.Nat.{suc-add, zero-add}
 use native.Mathlib.Omega.{arith}
 use Rattle.number.specs.Arithmetic.{Arithmetic}
 use Rattle.sheet.specs.Rows.{isDependent}
-use Rattle.run.specs.Actions.{Setting, seeded, turnedRound}
+use Rattle.machine.specs.Actions.{Setting, seeded, turnedRound}
 use Rattle.claims.specs.IdealSweep.{firstAdjoints}
-use Rattle.run.proofs.RoleLaws.{counting-length}
+use Rattle.machine.proofs.RoleLaws.{counting-length}
 
 module _ (A : Arithmetic) where
   drop-zeros : (n m : ℕ) → drop n (replicate (n + m) (A .zero)) ≡ replicate m (A .zero)

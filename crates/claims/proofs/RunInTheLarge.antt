@@ -22,13 +22,13 @@ use Rattle.sets.proofs.SetsLeast.{required-least}
 use Rattle.table.specs.TableRows.{Table, turnRound, ofTurningRound}
 use Rattle.table.specs.Adjoint.{forwardPart, backwardPart, adjointTable}
 use Rattle.table.specs.Sizes.{valuesNeeded, turnsNeeded}
-use Rattle.run.specs.Attempts.{Attempt, through, halted, _>>=_}
-use Rattle.run.specs.Actions.{Memory, Setting, acted}
-use Rattle.run.specs.Calls.{settingOf, startOf, runOf}
-use Rattle.run.specs.InTheLarge.{Stop, tableRun}
-use Rattle.run.specs.RowReads.{tableLog, onThrough}
-use Rattle.run.proofs.AttemptLaws.{Ready, gives, stops}
+use Rattle.machine.specs.Attempts.{Attempt, through, halted, _>>=_}
+use Rattle.machine.specs.Actions.{Memory, Setting, acted}
+use Rattle.machine.specs.InTheLarge.{Stop, tableRun}
+use Rattle.machine.specs.RowReads.{tableLog, onThrough}
+use Rattle.machine.proofs.AttemptLaws.{Ready, gives, stops}
 use Rattle.run.proofs.MachineFollows.{EndsAs, run-follows}
+use Rattle.run.specs.Calls.{settingOf, startOf, runOf}
 use Rattle.claims.specs.Execution.{Progress, beginning, execution}
 use Rattle.claims.specs.IdealSweep.{swept, firstAdjoints, Ideal, ideal}
 use Rattle.claims.specs.ReadLog.{sweptLog}

@@ -9,11 +9,11 @@ use Rattle.number.specs.Arithmetic.{Arithmetic}
 use Rattle.sheet.specs.Tree.{Tree, done, one, fork, again, rows}
 use Rattle.sheet.specs.Rows.{Assignment, _≔_, Source, Test}
 use Rattle.table.specs.TableRows.{ofRow, itself}
-use Rattle.run.specs.Attempts.{through, present, replaced}
-use Rattle.run.specs.Actions.{evaluated, compared}
-use Rattle.run.specs.InTheLarge.{stoppingAt}
+use Rattle.machine.specs.Attempts.{through, present, replaced}
+use Rattle.machine.specs.Actions.{evaluated, compared}
+use Rattle.machine.specs.InTheLarge.{stoppingAt}
 use Rattle.claims.specs.Execution.{Progress, onward, performed, turned, executed}
-use Rattle.run.proofs.AttemptLaws.{came, is-present, same-through, was-replaced, went}
+use Rattle.machine.proofs.AttemptLaws.{came, is-present, same-through, was-replaced, went}
 
 module _ (A : Arithmetic) where
   module _ (constants : List ℕ) where

@@ -11,11 +11,11 @@ use Rattle.number.specs.Residues.{residues}
 use Rattle.sheet.specs.Tree.{RowNumber}
 use Rattle.sheet.specs.Refusals.{given, numberOf, placeOf, notFiniteResult}
 use Rattle.sheet.specs.Reading.{Sheet, variablesOf, read}
-use Rattle.run.specs.Attempts.{Attempt, through, halted, stuck}
-use Rattle.run.specs.Machine.{Ending, gotStuck}
-use Rattle.run.specs.Actions.{counting}
+use Rattle.machine.specs.Attempts.{Attempt, through, halted, stuck}
+use Rattle.machine.specs.Machine.{Ending, gotStuck}
+use Rattle.machine.specs.Actions.{counting}
+use Rattle.machine.specs.InTheLarge.{Stop}
 use Rattle.run.specs.Calls.{Lent, Ran, settingOf, independentAdjoints, resultOf, lentAfter, ranTo, run}
-use Rattle.run.specs.InTheLarge.{Stop}
 use Rattle.claims.specs.ExactlyWhen.{Runnable}
 use Rattle.claims.specs.IdealSweep.{Ideal, ideal}
 use Rattle.claims.specs.WholeRun.{runSaving, Room, Matches, SameOutcome, bothEnd, bothStop}

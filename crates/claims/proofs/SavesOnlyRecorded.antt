@@ -12,7 +12,7 @@ use Rattle.sets.specs.Transfers.{Activity}
 use Rattle.sets.specs.Marks.{Marked, varied, useful, required, numbered, markBy, marked}
 use Rattle.table.specs.TableRows.{Action, assign, save, takeBack, saveTurn, clear, turnRound, Operation, saving, itself, Origin, ofRow, TableLine, Table, linesOf}
 use Rattle.table.specs.Adjoint.{Body, put, putIf, targetOf, forwardRow, forwardPart, partsOf, derivativeRows, backwardOf, backwardPart, adjointTable, tableOf}
-use Rattle.run.proofs.MachineFollows.{past-line, past-tree}
+use Rattle.machine.proofs.LinesPassed.{past-line, past-tree}
 use Rattle.claims.specs.SavedRows.{recordedIn}
 use Rattle.claims.specs.Demands.{SavesRecorded}
 

@@ -13,7 +13,7 @@ use Rattle.sheet.proofs.Judgements.{Tells, leb-tells, eqb-tells, unmet, judged,
 use Rattle.sheet.proofs.Settled.{Settled}
 use Rattle.table.specs.Sizes.{rowsNeeded, valuesFor, turnsFor}
 use Rattle.table.specs.Calls.{tableRoom, readFor}
-use Rattle.run.specs.Machine.{Ending}
+use Rattle.machine.specs.Machine.{Ending}
 use Rattle.run.specs.Calls.{Lent, allAdmitted, readToRun, ranTo, ranOn, run}
 use Rattle.claims.specs.ExactlyWhen.{First, ReadingRefuses, Read, WritingRefuses, whileReading, tableTooSmall, Writable, StacksSuffice, LengthsRight, NotFinite, Runnable, endingOf, StartRefused, whileWriting, valueStackTooSmall, turnStackTooSmall, startsNotV, seedsNotV, resultNot2V, givenNotFinite}
 use Rattle.claims.proofs.FirstFailing.{eachJudged, all-pass, first-refused, all-or-first}

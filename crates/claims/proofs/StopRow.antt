@@ -8,9 +8,9 @@ use lib.ListN.{drop}
 use Rattle.number.specs.Arithmetic.{Arithmetic}
 use Rattle.sheet.specs.Tree.{basic, ifLine, elseLine, endIf, repeat, endRepeat, RowNumber}
 use Rattle.table.specs.TableRows.{TableRow, TableLine, Origin}
-use Rattle.run.specs.Attempts.{Attempt, through, halted, stuck}
-use Rattle.run.specs.Actions.{Memory, Setting, Verdict, acted, tested}
-use Rattle.run.specs.Machine.{Ending, finished, gotStuck, outOfFuel, State, Step, goesOn, ended, stops, sticks, Repeat, oneMore, itsElse, itsEnd, seek, jump, afterAction, branchTo, afterTest, afterTurn, stepAt, step, stateAfter, stoppedAt, runFor}
+use Rattle.machine.specs.Attempts.{Attempt, through, halted, stuck}
+use Rattle.machine.specs.Actions.{Memory, Setting, Verdict, acted, tested}
+use Rattle.machine.specs.Machine.{Ending, finished, gotStuck, outOfFuel, State, Step, goesOn, ended, stops, sticks, Repeat, oneMore, itsElse, itsEnd, seek, jump, afterAction, branchTo, afterTest, afterTurn, stepAt, step, stateAfter, stoppedAt, runFor}
 use Rattle.run.proofs.MachineFollows.{endingFrom, run-step}
 use Rattle.claims.specs.Demands.{StoppedThere}
 

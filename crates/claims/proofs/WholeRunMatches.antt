@@ -12,7 +12,7 @@ use Rattle.sheet.specs.Reading.{Sheet, variablesOf, read}
 use Rattle.sets.specs.Marks.{varied, useful, required, numbered, markBy, marked}
 use Rattle.table.specs.Adjoint.{Body, tableOf}
 use Rattle.table.specs.Sizes.{valuesNeeded, turnsNeeded}
-use Rattle.run.specs.Machine.{Ending}
+use Rattle.machine.specs.Machine.{Ending}
 use Rattle.run.specs.Calls.{settingOf, startOf, runOf}
 use Rattle.claims.specs.IdealSweep.{ideal}
 use Rattle.claims.specs.SavedRows.{alsoSaving, recordedIn}

@@ -16,7 +16,7 @@ use Rattle.sheet.specs.declared.Reading.the-variants.{Accepted}
 use Rattle.table.specs.TableRows.{tableWords}
 use Rattle.table.specs.Adjoint.{tableOf}
 use Rattle.table.specs.Calls.{Checked, noSizes, sizesOf, Written}
-use Rattle.run.specs.Actions.{Memory}
+use Rattle.machine.specs.Actions.{Memory}
 use Rattle.run.specs.Calls.{Lent, Ran, resultOf}
 use Rattle.claims.specs.ExactlyWhen.{ReadingRefuses, Read, WritingRefuses, Writable, RunRefuses, Stops, Finishes}
 

@@ -19,11 +19,11 @@ use Rattle.table.specs.Sizes.{valuesFor, turnsFor}
 use Rattle.table.specs.Calls.{checkedSaid, check, writtenOf, write}
 use Rattle.table.specs.declared.Checked as declared
 use Rattle.table.specs.declared.Answer.{Answer}
-use Rattle.run.specs.Attempts.{through, halted}
-use Rattle.run.specs.Actions.{Memory, Setting, acted}
-use Rattle.run.specs.Machine.{State, Step, goesOn, sticks, stateAfter, stepsOf, Ending, finished, stoppedAt}
+use Rattle.machine.specs.Attempts.{through, halted}
+use Rattle.machine.specs.Actions.{Memory, Setting, acted}
+use Rattle.machine.specs.Machine.{State, Step, goesOn, sticks, stateAfter, stepsOf, Ending, finished, stoppedAt}
+use Rattle.machine.specs.RowReads.{machineLog}
 use Rattle.run.specs.Calls.{Lent, Ran, settingOf, startOf, sheetRun, resultOf, run, ranOf}
-use Rattle.run.specs.RowReads.{machineLog}
 use Rattle.claims.specs.ExactlyWhen.{Writable, Runnable}
 use Rattle.claims.specs.CallsExactly.{CheckExactly, StartsWith, WriteExactly, RunExactly}
 use Rattle.claims.specs.Execution.{Progress, execution}

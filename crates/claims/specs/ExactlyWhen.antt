@@ -17,8 +17,8 @@ use Rattle.sheet.specs.Reading.{Sheet, variablesOf, rowAt, rowsAt}
 use Rattle.table.specs.TableRows.{Origin}
 use Rattle.table.specs.Sizes.{rowsNeeded, valuesFor, turnsFor}
 use Rattle.table.specs.Calls.{tableRoom}
-use Rattle.run.specs.Actions.{Memory}
-use Rattle.run.specs.Machine.{Ending, finished, stoppedAt}
+use Rattle.machine.specs.Actions.{Memory}
+use Rattle.machine.specs.Machine.{Ending, finished, stoppedAt}
 use Rattle.run.specs.Calls.{Lent, sheetRun}
 
 -- ---- where things stand

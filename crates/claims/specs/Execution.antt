@@ -7,9 +7,9 @@ use Rattle.sheet.specs.Tree.{Tree, done, one, fork, again, rows, RowNumber}
 use Rattle.sheet.specs.Rows.{Assignment, _≔_, Test}
 use Rattle.sheet.specs.Reading.{Sheet}
 use Rattle.table.specs.TableRows.{ofRow, itself}
-use Rattle.run.specs.Attempts.{Attempt, through, _>>=_, present, replaced}
-use Rattle.run.specs.Actions.{evaluated, compared}
-use Rattle.run.specs.InTheLarge.{Stop, stoppingAt}
+use Rattle.machine.specs.Attempts.{Attempt, through, _>>=_, present, replaced}
+use Rattle.machine.specs.Actions.{evaluated, compared}
+use Rattle.machine.specs.InTheLarge.{Stop, stoppingAt}
 
 module _ (A : Arithmetic) where
   -- one executed assignment, with the values just before it

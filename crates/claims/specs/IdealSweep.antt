@@ -10,9 +10,9 @@ use Rattle.sheet.specs.Reading.{Sheet}
 use Rattle.sets.specs.Transfers.{Activity}
 use Rattle.sets.specs.Marks.{varied, useful, activityAt}
 use Rattle.table.specs.Adjoint.{derivativeRows}
-use Rattle.run.specs.Attempts.{Attempt, through, _>>=_}
-use Rattle.run.specs.Actions.{Setting, counting, seeded}
-use Rattle.run.specs.InTheLarge.{Stop, tableRun}
+use Rattle.machine.specs.Attempts.{Attempt, through, _>>=_}
+use Rattle.machine.specs.Actions.{Setting, counting, seeded}
+use Rattle.machine.specs.InTheLarge.{Stop, tableRun}
 use Rattle.claims.specs.Execution.{Executed, Progress, execution}
 
 module _ (A : Arithmetic) where

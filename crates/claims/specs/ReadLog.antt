@@ -7,8 +7,8 @@ use Rattle.sheet.specs.Tree.{done, RowNumber}
 use Rattle.sheet.specs.Rows.{Assignment, _≔_}
 use Rattle.sets.specs.Transfers.{Activity}
 use Rattle.table.specs.Adjoint.{derivativeRows}
-use Rattle.run.specs.Actions.{Setting}
-use Rattle.run.specs.RowReads.{Entry, onThrough, tableLog}
+use Rattle.machine.specs.Actions.{Setting}
+use Rattle.machine.specs.RowReads.{Entry, onThrough, tableLog}
 use Rattle.claims.specs.Execution.{Executed}
 use Rattle.claims.specs.IdealSweep.{derivedBy}
 

@@ -10,11 +10,11 @@ use Rattle.sheet.specs.Reading.{Sheet, variablesOf}
 use Rattle.sets.specs.Marks.{marked}
 use Rattle.table.specs.Adjoint.{adjointTable}
 use Rattle.table.specs.Sizes.{valuesNeeded, turnsNeeded}
-use Rattle.run.specs.Attempts.{Attempt, through, halted, stuck}
-use Rattle.run.specs.Actions.{Memory}
-use Rattle.run.specs.Machine.{Ending, finished, stoppedAt}
+use Rattle.machine.specs.Attempts.{Attempt, through, halted, stuck}
+use Rattle.machine.specs.Actions.{Memory}
+use Rattle.machine.specs.Machine.{Ending, finished, stoppedAt}
+use Rattle.machine.specs.InTheLarge.{Stop}
 use Rattle.run.specs.Calls.{settingOf, startOf, runOf}
-use Rattle.run.specs.InTheLarge.{Stop}
 use Rattle.claims.specs.IdealSweep.{Ideal}
 use Rattle.claims.specs.SavedRows.{alsoSaving}
 

@@ -15,21 +15,21 @@ use Rattle.table.specs.TableRows.{linesOf, tableVariables}
 use Rattle.table.specs.Adjoint.{tableOf}
 use Rattle.table.specs.Calls.{overwritten}
 use Rattle.table.specs.declared.Answer.{Answer}
-use Rattle.run.specs.Attempts.{through, halted, stuck}
-use Rattle.run.specs.Actions.{Memory, Setting}
-use Rattle.run.specs.Machine.{Ending, finished}
-use Rattle.run.specs.Calls.{settingOf, startOf, runOf, sheetRun, resultOf, lentAfter, ranTo, lentOf, ranOf}
-use Rattle.run.specs.InTheLarge.{tableRun}
-use Rattle.run.specs.inner.Buffers.{Cells, cellsOf, Stack, Sound}
-use Rattle.run.specs.inner.RunsRows.{Handed, RunsRows}
-use Rattle.run.specs.inner.CallSteps.{ResultFits, answerAt, resultAt}
-use Rattle.run.specs.inner.CallAnswers.{Ready, RunRoom, StacksCleared, RanTo}
-use Rattle.run.specs.declared.Ran.{Ran}
-use Rattle.run.specs.declared.Ended.{Ended}
-use Rattle.run.specs.declared.Ended.the-variants as ended
+use Rattle.machine.specs.Attempts.{through, halted, stuck}
+use Rattle.machine.specs.Actions.{Memory, Setting}
+use Rattle.machine.specs.Machine.{Ending, finished}
+use Rattle.machine.specs.InTheLarge.{tableRun}
+use Rattle.machine.specs.inner.Buffers.{Cells, cellsOf, Stack, Sound}
+use Rattle.machine.specs.inner.RunsRows.{Handed, RunsRows}
+use Rattle.machine.specs.declared.Ran.{Ran}
+use Rattle.machine.specs.declared.Ended.{Ended}
+use Rattle.machine.specs.declared.Ended.the-variants as ended
 use Rattle.run.proofs.MachineFollows.{Result, EndsAs, run-follows}
 use Rattle.run.proofs.RunsCopy.{adjoint-copies}
 use Rattle.run.proofs.RunEnds.{EndsLike, ends-like}
+use Rattle.run.specs.Calls.{settingOf, startOf, runOf, sheetRun, resultOf, lentAfter, ranTo, lentOf, ranOf}
+use Rattle.run.specs.inner.CallSteps.{ResultFits, answerAt, resultAt}
+use Rattle.run.specs.inner.CallAnswers.{Ready, RunRoom, StacksCleared, RanTo}
 use Rattle.run.proofs.Fuel.{enoughSteps, accepted-fuel-same}
 use Rattle.run.proofs.OpenRepeats.{sheet-shallow}
 

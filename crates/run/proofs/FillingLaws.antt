@@ -13,9 +13,9 @@ use borrow.Rule.Slice.PartMut.{putMid, postOf}
 use Rattle.number.specs.Arithmetic.{Arithmetic}
 use Rattle.sheet.specs.Rows.{isIndependent}
 use Rattle.table.specs.Calls.{overwritten}
+use Rattle.machine.proofs.RoleLaws.{counting-length, counting-at}
 use Rattle.run.specs.Calls.{independentAdjoints, resultFrom}
 use Rattle.run.specs.inner.CallSteps.{ResultFits}
-use Rattle.run.proofs.RoleLaws.{counting-length, counting-at}
 
 module _ {X : Type 0} (front before : List X) where
   -- i places are laid

@@ -17,10 +17,10 @@ use Rattle.table.specs.TableRows.{Table, saveTurn, turnRound, onTurn, turning, 
 use Rattle.table.specs.Adjoint.{Body, put, forwardPart, backwardOf, backwardPart, adjointTable, tableOf}
 use Rattle.table.specs.Sizes.{mostForward, mostBackward}
 use Rattle.table.proofs.TableBounds.{EachRow, backward-row, forward-row, marked-run}
-use Rattle.run.specs.Actions.{Setting}
-use Rattle.run.specs.Machine.{stepsOf, runFor}
-use Rattle.run.specs.Calls.{startOf, runOf}
+use Rattle.machine.specs.Actions.{Setting}
+use Rattle.machine.specs.Machine.{stepsOf, runFor}
 use Rattle.run.proofs.MachineFollows.{more-fuel-same, fuel-suffices}
+use Rattle.run.specs.Calls.{startOf, runOf}
 
 -- ---- steps
 

@@ -1,28 +1,12 @@
--- Laws of the row machine's code, over the arithmetic.
-pub mod PlaceLaws
-pub mod StackLaws
-pub mod RowLaws
-pub mod RoleLaws
-pub mod RoundLaws
+-- Laws of the calls' code, over the arithmetic.
 pub mod FillingLaws
 pub mod AdmittedLaws
-pub mod RowsPinned
-pub mod AttemptLaws
-pub mod RunsCopy
-pub mod OpenedLaws
-pub mod LineLaws
-pub mod StraightLaws
-pub mod CrossLaws
-pub mod RunLaws
-pub mod RunEnds
-pub mod RunPinned
 -- the machine on a table
+pub mod RunsCopy
 pub mod MachineFollows
+pub mod RunEnds
 pub mod Fuel
-pub mod LinesStand
 pub mod OpenRepeats
-pub mod JumpsRight
-pub mod JumpPass
 pub mod TableHeld
 pub mod TableNames
 -- the calls

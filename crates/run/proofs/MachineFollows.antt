@@ -6,96 +6,21 @@ use mathlib.Core.Bool.{Bool, true, false, cond}
 use mathlib.Core.List.{List, [], _∷_, _++_, append-nil, append-assoc}
 use mathlib.Core.Option.{Option, none, some}
 use lib.ListN.{drop}
-use lib.Seq.{drop-drop}
 use native.Mathlib.Nat.{zero-add, suc-add, add-zero}
 use native.Mathlib.Omega.{arith}
 use Rattle.number.specs.Arithmetic.{Arithmetic}
-use Rattle.sheet.specs.Tree.{Tree, done, one, fork, again, Line, basic, ifLine, elseLine, endIf, endRepeat, flat, rows, RowNumber}
+use Rattle.sheet.specs.Tree.{done, one, fork, again, basic, ifLine, elseLine, endIf, endRepeat, flat, rows, RowNumber}
 use Rattle.table.specs.TableRows.{Origin, TableRow, TableTest, TableLine, Table, linesOf}
-use Rattle.run.specs.Attempts.{Attempt, through, halted, stuck, _>>=_, present}
-use Rattle.run.specs.Actions.{Memory, Setting, Verdict, acted, tested}
-use Rattle.run.specs.Machine.{Sought, itsElse, itsEnd, oneMore, seek, Repeat, State, Step, goesOn, ended, stops, sticks}
-use Rattle.run.specs.Machine.{jump, afterAction, branchTo, afterTest, stepAt, step, ifItGoesOn, stateAfter, stepsOf}
-use Rattle.run.specs.Machine.{Ending, finished, stoppedAt, gotStuck, outOfFuel, runFor}
+use Rattle.machine.specs.Attempts.{Attempt, through, halted, stuck, _>>=_, present}
+use Rattle.machine.specs.Actions.{Memory, Setting, Verdict, acted, tested}
+use Rattle.machine.specs.Machine.{oneMore, Repeat, State, Step, goesOn, ended, stops, sticks}
+use Rattle.machine.specs.Machine.{jump, afterAction, branchTo, afterTest, stepAt, step, ifItGoesOn, stateAfter, stepsOf}
+use Rattle.machine.specs.Machine.{Ending, finished, stoppedAt, gotStuck, outOfFuel, runFor}
+use Rattle.machine.specs.InTheLarge.{Stop, stoppingAt, tableRun}
+use Rattle.machine.specs.RowReads.{Entry, noted, notedAt, onNext, machineLog, onThrough, tableLog}
+use Rattle.machine.proofs.LinesPassed.{past-line, past-tree, seek-else, seek-end}
+use Rattle.machine.proofs.StepsInTurn.{steps-add}
 use Rattle.run.specs.Calls.{runOf}
-use Rattle.run.specs.InTheLarge.{Stop, stoppingAt, tableRun}
-use Rattle.run.specs.RowReads.{Entry, noted, notedAt, onNext, machineLog, onThrough, tableLog}
-
--- ---- passing over a tree's lines
-
--- what a search finds so many lines further on
-further : ℕ → Option ℕ → Option ℕ
-further n none = none
-further n (some m) = some (n + m)
-
-further-none : (o : Option ℕ) → further 0 o ≡ o
-unfolding further
-further-none none = refl
-further-none (some m) = rw zero-add
-
-further-row : (i : ℕ) (o : Option ℕ) → oneMore (further i o) ≡ further (1 + i) o
-unfolding further
-further-row i none = refl
-further-row i (some m) = ap {B = Option ℕ} some (omega arith)
-
-further-repeat : (i j : ℕ) (o : Option ℕ) → oneMore (further i (oneMore (further j o))) ≡ further (2 + (i + j)) o
-unfolding further
-further-repeat i j none = refl
-further-repeat i j (some m) = ap {B = Option ℕ} some (omega arith)
-
-further-fork : (i j k : ℕ) (o : Option ℕ) → oneMore (further i (oneMore (further j (oneMore (further k o))))) ≡ further (3 + (i + j + k)) o
-unfolding further
-further-fork i j k none = refl
-further-fork i j k (some m) = ap {B = Option ℕ} some (omega arith)
-
-module _ {B F : Type 0} where
-  pub past-flat : (t : Tree B F) (rest : List (Line B F)) (n : ℕ) → drop (rows t + n) (flat t rest) ≡ drop n rest
-  unfolding rows flat
-  past-flat done rest n = rw zero-add
-  past-flat (one b k) rest n =
-      let e : 1 + rows k + n ≡ suc (rows k + n) = omega arith in
-      rw e (past-flat k rest n)
-  past-flat (fork f a b k) rest n =
-      let e : 3 + (rows a + rows b + rows k) + n ≡ suc (rows a + suc (rows b + suc (rows k + n))) = omega arith in
-      rw e (past-flat a _ _ ∙ past-flat b _ _ ∙ past-flat k rest n)
-  past-flat (again m a k) rest n =
-      let e : 2 + (rows a + rows k) + n ≡ suc (rows a + suc (rows k + n)) = omega arith in
-      rw e (past-flat a _ _ ∙ past-flat k rest n)
-
-  -- where a line or a tree stands at row p, the rest stands behind it
-  pub past-line : (lines : List (Line B F)) (p : ℕ) (l : Line B F) (rest : List (Line B F)) → drop p lines ≡ l ∷ rest
-      → drop (suc p) lines ≡ rest
-  past-line lines p l rest e =
-      let h : suc p ≡ p + 1 = omega arith in
-      rw h (sym (drop-drop 1 p lines) ∙ ap (drop 1) e)
-
-  pub past-tree : (lines : List (Line B F)) (p : ℕ) (t : Tree B F) (rest : List (Line B F)) → drop p lines ≡ flat t rest
-      → drop (p + rows t) lines ≡ rest
-  past-tree lines p t rest e =
-      let h : rows t ≡ rows t + 0 = omega arith in
-      sym (drop-drop (rows t) p lines) ∙ ap (drop (rows t)) e ∙ ap (λ n. drop n (flat t rest)) h ∙ past-flat t rest 0
-
-  -- no line of another block stops a search: it passes over a tree, however deep it is
-  seek-flat : (sought : Sought) (n : ℕ) (t : Tree B F) (rest : List (Line B F)) → seek sought n (flat t rest) ≡ further (rows t) (seek sought n rest)
-  unfolding seek flat rows
-  seek-flat sought n done rest = sym (further-none (seek sought n rest))
-  seek-flat sought n (one b k) rest = ap oneMore (seek-flat sought n k rest) ∙ further-row (rows k) (seek sought n rest)
-  seek-flat sought n (fork f a b k) rest =
-      ap oneMore (seek-flat sought (suc n) a _
-      ∙ ap (λ o. further (rows a) (oneMore o)) (seek-flat sought (suc n) b _
-      ∙ ap (λ o. further (rows b) (oneMore o)) (seek-flat sought n k rest)))
-      ∙ further-fork (rows a) (rows b) (rows k) (seek sought n rest)
-  seek-flat sought n (again m a k) rest =
-      ap oneMore (seek-flat sought n a _ ∙ ap (λ o. further (rows a) (oneMore o)) (seek-flat sought n k rest))
-      ∙ further-repeat (rows a) (rows k) (seek sought n rest)
-
-  pub seek-else : (t : Tree B F) (rest : List (Line B F)) → seek itsElse 0 (flat t (elseLine ∷ rest)) ≡ some (rows t + 1)
-  unfolding seek further
-  seek-else t rest = seek-flat itsElse 0 t (elseLine ∷ rest)
-
-  pub seek-end : (t : Tree B F) (rest : List (Line B F)) → seek itsEnd 0 (flat t (endIf ∷ rest)) ≡ some (rows t + 1)
-  unfolding seek further
-  seek-end t rest = seek-flat itsEnd 0 t (endIf ∷ rest)
 
 -- ---- what so many steps come to
 
@@ -125,22 +50,6 @@ module _ (A : Arithmetic) where
     Follows t p repeats =
         (memory : Memory A)
         → Reaches (atRow p repeats memory) (stepsOf t) (p + rows t) repeats (tableRun A setting t memory) (tableLog A setting t memory)
-
-    pub steps-add : (n m : ℕ) (s : State A)
-        → stateAfter A (n + m) setting lines s ≡ ifItGoesOn A (stateAfter A n setting lines s) (λ next. stateAfter A m setting lines next)
-    unfolding stateAfter
-    steps-add zero m s = rw zero-add
-    steps-add (suc n) m s = rw suc-add (by-step (step A setting lines s) (λ next. steps-add n m next))
-      where
-        by-step : (x : Step A)
-            → ((next : State A)
-            → stateAfter A (n + m) setting lines next ≡ ifItGoesOn A (stateAfter A n setting lines next) (λ last. stateAfter A m setting lines last))
-            → ifItGoesOn A x (λ next. stateAfter A (n + m) setting lines next)
-            ≡ ifItGoesOn A (ifItGoesOn A x (λ next. stateAfter A n setting lines next)) (λ next. stateAfter A m setting lines next)
-        by-step (goesOn next) ih = ih next
-        by-step (ended memory) ih = refl
-        by-step (stops row origin why) ih = refl
-        by-step sticks ih = refl
 
     pub log-add : (n m : ℕ) (s : State A)
         → machineLog A (n + m) setting lines s
@@ -174,7 +83,7 @@ module _ (A : Arithmetic) where
         record {
           steps = first .steps + h .steps;
           few = omega (arith, first .few, h .few);
-          lands = rw (steps-add (first .steps) (h .steps) s, first .lands) (h .lands);
+          lands = rw (steps-add A setting lines (first .steps) (h .steps) s, first .lands) (h .lands);
           notes = rw (log-add (first .steps) (h .steps) s, first .lands, first .notes, h .notes);
         }
     then-reaches {s} {log} (halted why) next later first second =

@@ -16,14 +16,14 @@ use Rattle.sets.specs.Marks.{marked, markBy, varied, useful, required}
 use Rattle.table.specs.TableRows.{Table, TableLine, TableTest, Origin, linesOf}
 use Rattle.table.specs.Adjoint.{tableOf}
 use Rattle.table.proofs.TableBounds.{table-deep, marked-deep}
-use Rattle.run.specs.Attempts.{Attempt, through, halted, stuck}
-use Rattle.run.specs.Actions.{Memory, Setting, Verdict, acted, tested}
-use Rattle.run.specs.Machine.{itsElse, itsEnd, oneMore, seek, Repeat, State, Step, goesOn, ended, stops, sticks}
-use Rattle.run.specs.Machine.{jump, afterAction, branchTo, afterTest, afterTurn, stepAt, step, ifItGoesOn, stateAfter}
-use Rattle.run.specs.inner.Runnable.{Shallow}
+use Rattle.machine.specs.Attempts.{Attempt, through, halted, stuck}
+use Rattle.machine.specs.Actions.{Memory, Setting, Verdict, acted, tested}
+use Rattle.machine.specs.Machine.{itsElse, itsEnd, oneMore, seek, Repeat, State, Step, goesOn, ended, stops, sticks}
+use Rattle.machine.specs.Machine.{jump, afterAction, branchTo, afterTest, afterTurn, stepAt, step, ifItGoesOn, stateAfter}
+use Rattle.machine.specs.inner.Runnable.{Shallow}
+use Rattle.machine.proofs.LinesStand.{Branch, Stands, stands-at, FromEach, from-each-next, from-each-end}
+use Rattle.machine.proofs.LinesPassed.{past-line, past-tree, seek-else, seek-end}
 use Rattle.run.specs.Calls.{startOf}
-use Rattle.run.proofs.LinesStand.{Branch, Stands, stands-at, FromEach, from-each-next, from-each-end}
-use Rattle.run.proofs.MachineFollows.{past-line, past-tree, seek-else, seek-end}
 
 -- ---- how many repeats stand open before these lines: each is ended by one of them
 

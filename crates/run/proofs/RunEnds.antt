@@ -6,14 +6,14 @@ use mathlib.Core.List.{List}
 use native.Mathlib.Omega.{arith}
 use Rattle.number.specs.Arithmetic.{Arithmetic}
 use Rattle.table.specs.TableRows.{TableLine, Origin}
-use Rattle.run.specs.Actions.{Memory, Setting}
-use Rattle.run.specs.Machine.{State, Step, goesOn, step, Ending, finished, stoppedAt, gotStuck, outOfFuel, runFor}
-use Rattle.run.specs.inner.Buffers.{Cells, memoryOf}
-use Rattle.run.specs.inner.RowSteps.{buffersAt, stateAt, CopiesOn}
-use Rattle.run.specs.inner.RunsRows.{firstState, LeavesBy, Leaves}
-use Rattle.run.specs.declared.Ran.{Ran}
-use Rattle.run.specs.declared.Ended.{Ended}
-use Rattle.run.specs.declared.Ended.the-variants as ended-as
+use Rattle.machine.specs.Actions.{Memory, Setting}
+use Rattle.machine.specs.Machine.{State, Step, goesOn, step, Ending, finished, stoppedAt, gotStuck, outOfFuel, runFor}
+use Rattle.machine.specs.inner.Buffers.{Cells, memoryOf}
+use Rattle.machine.specs.inner.RowSteps.{buffersAt, stateAt, CopiesOn}
+use Rattle.machine.specs.inner.RunsRows.{firstState, LeavesBy, Leaves}
+use Rattle.machine.specs.declared.Ran.{Ran}
+use Rattle.machine.specs.declared.Ended.{Ended}
+use Rattle.machine.specs.declared.Ended.the-variants as ended-as
 use Rattle.run.proofs.MachineFollows.{endingFrom, run-step, run-on}
 
 module _ (A : Arithmetic) where

@@ -15,12 +15,12 @@ use Rattle.table.specs.TableRows.{Action, assign, save, takeBack, saveTurn, cle
 use Rattle.table.specs.TableRows.{Table, TableRow, saving, itself, ofTurningRound, turnWord}
 use Rattle.sets.specs.Marks.{Marked}
 use Rattle.table.specs.Adjoint.{Body, put, putIf, targetOf, forwardRow, forwardPart, backwardPart, adjointTable}
-use Rattle.run.specs.Attempts.{through, _>>=_, present, replaced, pushed, look}
-use Rattle.run.specs.Actions.{Memory, Setting, evaluated, stored, restored, acted, turnedRound, seeded}
-use Rattle.run.specs.Actions.{Verdict, verdictOn, turnTaken, tested, compared}
-use Rattle.run.specs.InTheLarge.{stoppingAt, tableRun}
-use Rattle.run.proofs.AttemptLaws.{went, same-through, is-present, was-replaced, came}
-use Rattle.run.proofs.RoleLaws.{counting-length}
+use Rattle.machine.specs.Attempts.{through, _>>=_, present, replaced, pushed, look}
+use Rattle.machine.specs.Actions.{Memory, Setting, evaluated, stored, restored, acted, turnedRound, seeded}
+use Rattle.machine.specs.Actions.{Verdict, verdictOn, turnTaken, tested, compared}
+use Rattle.machine.specs.InTheLarge.{stoppingAt, tableRun}
+use Rattle.machine.proofs.AttemptLaws.{went, same-through, is-present, was-replaced, came}
+use Rattle.machine.proofs.RoleLaws.{counting-length}
 
 module _ (A : Arithmetic) (setting : Setting A) (sections : setting .variables ≡ length (setting .roles)) where
   -- room for the originals and their adjoints

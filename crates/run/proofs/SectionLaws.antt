@@ -21,9 +21,9 @@ use Rattle.table.specs.Sizes.{tableRows}
 use Rattle.table.specs.Calls.{overwritten}
 use Rattle.table.specs.declared.Plan.{Plan}
 use Rattle.table.proofs.PlanLaws.{planned-few}
-use Rattle.run.specs.inner.Runnable.{Holds, Indexed}
+use Rattle.machine.specs.inner.Runnable.{Holds, Indexed}
+use Rattle.machine.specs.inner.JumpsFound.{JumpsOf}
 use Rattle.run.specs.declared.Rooms.{Rooms}
-use Rattle.run.specs.inner.JumpsFound.{JumpsOf}
 use Rattle.run.specs.inner.CallSteps.{HasRoom}
 use Rattle.run.specs.inner.CallAnswers.{Written, SheetRoom, Ready, RunRoom}
 use Rattle.run.proofs.TableHeld.{table-holds}

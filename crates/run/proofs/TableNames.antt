@@ -19,11 +19,11 @@ use Rattle.sets.specs.Transfers.{Activity}
 use Rattle.sets.specs.Marks.{Marked, MarkedTest, numbered, markBy, marked, varied, useful, required}
 use Rattle.table.specs.TableRows.{Table, TableLine, TableRow, Action, assign, save, takeBack, saveTurn, clear, turnRound, Operation, turning, tableVariables, rowOfAction, tableRowOf, linesOf}
 use Rattle.table.specs.Adjoint.{Body, put, putIf, forwardRow, forwardPart, partsOf, derivativeRows, backwardOf, backwardPart, adjointTable, tableOf}
-use Rattle.run.specs.inner.RowWords.{actionOf, ActionPresent, Named}
-use Rattle.run.specs.inner.Runnable.{Holds, Indexed}
-use Rattle.run.proofs.LineLaws.{action-said, straight-or-not}
-use Rattle.run.proofs.LinesStand.{FromEach, from-each-next, from-each-end}
-use Rattle.run.proofs.StraightLaws.{stands-there, words-there}
+use Rattle.machine.specs.inner.RowWords.{actionOf, ActionPresent, Named}
+use Rattle.machine.specs.inner.Runnable.{Holds, Indexed}
+use Rattle.machine.proofs.LineLaws.{action-said, straight-or-not}
+use Rattle.machine.proofs.LinesStand.{FromEach, from-each-next, from-each-end}
+use Rattle.machine.proofs.StraightLaws.{stands-there, words-there}
 
 module _ (v k : ℕ) where
   abbrev Known : Action → Type 0

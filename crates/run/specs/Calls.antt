@@ -13,8 +13,8 @@ use Rattle.table.specs.Adjoint.{tableOf}
 use Rattle.table.specs.Sizes.{valuesNeeded, turnsNeeded, valuesFor, turnsFor}
 use Rattle.table.specs.Calls.{readFor, overwritten}
 use Rattle.table.specs.declared.Answer as declared
-use Rattle.run.specs.Actions.{Memory, Setting, counting}
-use Rattle.run.specs.Machine.{State, Ending, finished, stoppedAt, gotStuck, outOfFuel, runFor, stepsOf}
+use Rattle.machine.specs.Actions.{Memory, Setting, counting}
+use Rattle.machine.specs.Machine.{State, Ending, finished, stoppedAt, gotStuck, outOfFuel, runFor, stepsOf}
 
 module _ (A : Arithmetic) where
   pub record Lent : Type 0 where

@@ -1,8 +1,3 @@
--- What must be believed of a run: the row machine (01, "The adjoint table"), and what a run answers and leaves in every lent buffer.
-pub mod Attempts
-pub mod Actions
-pub mod Machine
-pub mod InTheLarge
-pub mod RowReads
+-- What must be believed of a run: what it answers and leaves in every lent buffer.
 pub mod Calls
 pub mod inner

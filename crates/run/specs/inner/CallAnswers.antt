@@ -15,8 +15,8 @@ use Rattle.table.specs.Sizes.{tableRows, mostTableRows}
 use Rattle.table.specs.Calls.{overwritten}
 use Rattle.table.specs.declared.Answer.{Answer}
 use Rattle.table.specs.declared.Plan.{Plan}
+use Rattle.machine.specs.inner.Runnable.{Holds, Jumps}
 use Rattle.run.specs.Calls.{sheetRun, ranTo, lentOf, ranOf}
-use Rattle.run.specs.inner.Runnable.{Holds, Jumps}
 
 -- ---- a sheet whose table has been written
 

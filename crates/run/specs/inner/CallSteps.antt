@@ -15,12 +15,12 @@ use Rattle.table.specs.Calls.{tableRoom, readFor}
 use Rattle.table.specs.inner.Plans.{PlanMade}
 use Rattle.table.specs.declared.Answer as answered
 use Rattle.table.specs.declared.Plan.{Plan}
+use Rattle.machine.specs.declared.Ended.{Ended}
+use Rattle.machine.specs.declared.Ended.the-variants as ended
 use Rattle.run.specs.Calls.{resultFrom, stuckNumber}
 use Rattle.run.specs.declared.Rooms.{Rooms}
 use Rattle.run.specs.declared.Judged.{Judged}
 use Rattle.run.specs.declared.Judged.the-variants as judged
-use Rattle.run.specs.declared.Ended.{Ended}
-use Rattle.run.specs.declared.Ended.the-variants as ended
 use Rattle.run.specs.declared.Unfit.{Unfit}
 use Rattle.run.specs.declared.Unfit.the-variants as unfit
 use Rattle.run.specs.declared.Fit.{Fit}

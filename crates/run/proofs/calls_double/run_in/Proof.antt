@@ -1,7 +1,7 @@
 -- `run::calls_double::run_in` meets its contract.
 use mathlib.Core.Path.{_∙_}
 use Rattle.number.specs.Doubles.{doubles}
-use Rattle.run.proofs.RunLaws.{still-indexed}
+use Rattle.machine.proofs.RunLaws.{still-indexed}
 use Rattle.run.proofs.CallLaws.{result-fits, comes-to}
 use borrow.Author.Needs.{needs}
 use Rattle.run.proofs.calls_double.run_in.Statement.{statement}

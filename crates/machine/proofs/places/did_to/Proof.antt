@@ -1,0 +1,20 @@
+-- `machine::places::did_to` meets its contract.
+
+use borrow.Author.Needs.{needs}
+use Rattle.machine.proofs.places.did_to.Statement.{statement}
+use Rattle.machine.proofs.places.did_to.Tie as tie
+
+enum-told : tie.Need-enum-told
+enum-told c = search needs
+
+enum-told-2 : tie.Need-enum-told-2
+enum-told-2 c = search needs
+
+returns : tie.Need-returns
+returns c = rw (c .enum-told .given .1)
+
+returns-2 : tie.Need-returns-2
+returns-2 c = search needs
+
+pub did-to-spec : {M : Type 1} → statement M
+did-to-spec = tie.close (tie.spec enum-told enum-told-2 returns returns-2)

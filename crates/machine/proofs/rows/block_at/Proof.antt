@@ -1,0 +1,54 @@
+-- `machine::rows::block_at` meets its contract.
+use native.Mathlib.Omega.{arith}
+use borrow.Author.Needs.{needs}
+use Rattle.machine.proofs.CrossLaws.{meets-row, meets-compare}
+use Rattle.machine.proofs.rows.block_at.Statement.{statement}
+use Rattle.machine.proofs.rows.block_at.Tie as tie
+
+returns : tie.Need-returns
+returns c = search needs
+
+returns-2 : tie.Need-returns-2
+returns-2 c = search needs
+
+row-of-requires : tie.Need-row-of-requires
+row-of-requires c κs = search needs
+
+add-following : tie.Need-add-following
+add-following c = search needs
+
+sub-following : tie.Need-sub-following
+sub-following c = search needs
+
+following-requires : tie.Need-following-requires
+following-requires c κs = search needs
+
+cast-a : tie.Need-cast-a
+cast-a c = search needs
+
+cast-b : tie.Need-cast-b
+cast-b c = search needs
+
+returns-3 : tie.Need-returns-3
+returns-3 c =
+    meets-compare (c .before .before .before .before .before .row-of .ensures) (omega arith) (omega arith)
+    (c .before .before .before .before .following .ensures)
+    (c .before .before .if3 .taken)
+
+returns-4 : tie.Need-returns-4
+returns-4 c = (meets-row (c .before .before .before .row-of .ensures) (omega arith) (omega arith) (c .before .before .following .ensures), c .if3 .left)
+
+pub block-at-spec : {M : Type 1} → statement M
+block-at-spec =
+    tie.close
+    (tie.spec
+    returns
+    returns-2
+    row-of-requires
+    add-following
+    sub-following
+    following-requires
+    cast-a
+    cast-b
+    returns-3
+    returns-4)

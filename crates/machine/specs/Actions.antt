@@ -1,0 +1,145 @@
+-- The written meaning of each single row of a table, over any arithmetic.
+use Prim.Native.Nat.{ℕ, _*_}
+use mathlib.Core.Bool.{Bool, cond}
+use mathlib.Core.List.{List, [], _∷_, _++_}
+use mathlib.Core.Option.{Option, none, some}
+use lib.ListN.{take, drop, getD, getElem?}
+use lib.Dec.{eqb}
+use Rattle.number.specs.Arithmetic.{Arithmetic}
+use Rattle.number.specs.Constants.{signed}
+use Rattle.sheet.specs.Rows.{_≔_, Source, copy, fixed, sum, difference, product, negation, Test, less, isDependent}
+use Rattle.table.specs.TableRows.{Action, assign, save, takeBack, saveTurn, clear, turnRound, TableTest, whether, onTurn, turnWord}
+use Rattle.machine.specs.Attempts.{Attempt, through, stuck, _>>=_, fromOutcome, look, replaced, pushed}
+
+module _ (A : Arithmetic) where
+  -- what a run works on: the 2V + 2 variables, both stacks, top first, and the values that row 17 copies out
+  pub record Memory : Type 0 where
+    pub store : List (A .Carrier)
+    pub values : List (A .Carrier)
+    pub turns : List ℕ
+    pub copied : List (A .Carrier)
+
+  -- what stays as it is during a run
+  pub record Setting : Type 0 where
+    pub variables : ℕ
+    pub roles : List ℕ
+    pub constants : List ℕ
+    pub seeds : List (A .Carrier)
+    pub valueRoom : ℕ
+    pub turnRoom : ℕ
+
+  abbrev pub Try : Type 0 → Type 0
+  Try X = Attempt (A .Why) X
+
+  -- the right side of an assignment
+  unfoldable pub evaluated : (constants : List ℕ) → Source → List (A .Carrier) → Try (A .Carrier)
+  unfolding signed
+  evaluated constants (copy a) store = look store a
+  evaluated constants (fixed c) store = do
+    word ← look constants c
+    through (A .constant (signed word))
+  evaluated constants (sum a b) store = do
+    x ← look store a
+    y ← look store b
+    fromOutcome (A .sum x y)
+  evaluated constants (difference a b) store = do
+    x ← look store a
+    y ← look store b
+    fromOutcome (A .difference x y)
+  evaluated constants (product a b) store = do
+    x ← look store a
+    y ← look store b
+    fromOutcome (A .product x y)
+  evaluated constants (negation a) store = do
+    x ← look store a
+    fromOutcome (A .negation x)
+
+  abbrev pub withStore : Memory → List (A .Carrier) → Memory
+  withStore memory store = record { store = store; values = memory .values; turns = memory .turns; copied = memory .copied }
+
+  abbrev pub stored : Memory → ℕ → A .Carrier → Try Memory
+  stored memory d x = do
+    store ← replaced (memory .store) d x
+    through (withStore memory store)
+
+  abbrev pub saved : ℕ → Memory → A .Carrier → Try Memory
+  saved room memory x = do
+    values ← pushed room x (memory .values)
+    through (record { store = memory .store; values = values; turns = memory .turns; copied = memory .copied })
+
+  abbrev pub turnSaved : ℕ → Memory → ℕ → Try Memory
+  turnSaved room memory turn = do
+    turns ← pushed room turn (memory .turns)
+    through (record { store = memory .store; values = memory .values; turns = turns; copied = memory .copied })
+
+  -- a take from an empty stack is stuck
+  abbrev pub restored : Memory → ℕ → List (A .Carrier) → Try Memory
+  restored memory d [] = stuck
+  restored memory d (x ∷ values) = stored (record { store = memory .store; values = values; turns = memory .turns; copied = memory .copied }) d x
+
+  -- the numbers where the role counts, zeros elsewhere
+  unfoldable pub counting : (counts : ℕ → Bool) → (roles : List ℕ) → (numbers : List (A .Carrier)) → List (A .Carrier)
+  counting counts [] numbers = []
+  counting counts (role ∷ roles) numbers = cond (counts role) (getD numbers 0 (A .zero)) (A .zero) ∷ counting counts roles (drop 1 numbers)
+
+  -- "sets every adjoint to 0 and then each dependent's adjoint to its seed"
+  abbrev pub seeded : (roles : List ℕ) → (seeds : List (A .Carrier)) → List (A .Carrier)
+  seeded roles seeds = counting isDependent roles seeds
+
+  -- "It copies out the V original values, sets every adjoint to 0 and then each dependent's adjoint to its seed."
+  unfoldable pub turnedRound : Setting → Memory → Memory
+  unfolding counting
+  turnedRound setting memory =
+      let originals = take (setting .variables) (memory .store) in
+      record {
+        store = originals ++ seeded (setting .roles) (setting .seeds) ++ drop (2 * setting .variables) (memory .store);
+        values = memory .values;
+        turns = memory .turns;
+        copied = originals;
+      }
+
+  unfoldable pub acted : Setting → Action → Memory → Try Memory
+  unfolding evaluated turnedRound
+  acted setting (assign (d ≔ source)) memory = do
+    x ← evaluated (setting .constants) source (memory .store)
+    stored memory d x
+  acted setting (save d) memory = do
+    x ← look (memory .store) d
+    saved (setting .valueRoom) memory x
+  acted setting (takeBack d) memory = restored memory d (memory .values)
+  acted setting (saveTurn first) memory = turnSaved (setting .turnRoom) memory (turnWord first)
+  acted setting (clear d) memory = stored memory d (A .zero)
+  acted setting turnRound memory = through (turnedRound setting memory)
+
+  -- "if value a < value b, strictly"; none where a variable is unknown
+  abbrev pub lessOf : Option (A .Carrier) → Option (A .Carrier) → Option Bool
+  lessOf none y = none
+  lessOf (some x) none = none
+  lessOf (some x) (some y) = some (A .less x y)
+
+  unfoldable pub compared : Test → List (A .Carrier) → Option Bool
+  compared (less a b) store = lessOf (getElem? store a) (getElem? store b)
+
+  -- a test: whether the first branch is taken, and what is left. It does no arithmetic, so nothing can stop it.
+  pub record Verdict : Type 0 where
+    pub first : Bool
+    pub memory : Memory
+
+  abbrev pub verdictOn : Memory → Option Bool → Option Verdict
+  verdictOn memory none = none
+  verdictOn memory (some first) = some (record { first = first; memory = memory })
+
+  -- "1 takes the first branch"; a take from an empty stack gives nothing
+  abbrev pub turnTaken : Memory → List ℕ → Option Verdict
+  turnTaken memory [] = none
+  turnTaken memory (turn ∷ turns) =
+      some
+      (record {
+        first = eqb turn 1;
+        memory = record { store = memory .store; values = memory .values; turns = turns; copied = memory .copied };
+      })
+
+  unfoldable pub tested : TableTest → Memory → Option Verdict
+  unfolding compared
+  tested (whether f) memory = verdictOn memory (compared f (memory .store))
+  tested onTurn memory = turnTaken memory (memory .turns)

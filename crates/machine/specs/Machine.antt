@@ -1,0 +1,139 @@
+-- The row machine: one step a row, and a run as the steps in turn. 01: "each single row's step is shown to give the state of that row's written
+-- meaning, and a run is those steps in turn".
+use Prim.Native.Nat.{ℕ, zero, suc, _+_, _*_, max}
+use mathlib.Core.Bool.{Bool, true, false}
+use mathlib.Core.List.{List, [], _∷_}
+use mathlib.Core.Option.{Option, none, some}
+use lib.ListN.{drop}
+use Rattle.number.specs.Arithmetic.{Arithmetic}
+use Rattle.sheet.specs.Tree.{Tree, done, one, fork, again, Line, basic, ifLine, elseLine, endIf, repeat, endRepeat, RowNumber}
+use Rattle.table.specs.TableRows.{TableLine, Origin}
+use Rattle.machine.specs.Attempts.{through, halted, stuck}
+use Rattle.machine.specs.Actions.{Memory, Setting, Try, Verdict, acted, tested}
+
+-- ---- from an "if" past its "else", and from an "else" past its "end if"
+
+pub data Sought : Type 0 where
+  itsElse : Sought
+  itsEnd : Sought
+
+abbrev pub oneMore : Option ℕ → Option ℕ
+oneMore none = none
+oneMore (some n) = some (suc n)
+
+-- how many of these lines lie up to and with the one sought, inside so many further "if" blocks
+module _ {B F : Type 0} where
+  unfoldable pub seek : Sought → ℕ → List (Line B F) → Option ℕ
+  seek sought n [] = none
+  seek sought n (basic b ∷ lines) = oneMore (seek sought n lines)
+  seek sought n (repeat m ∷ lines) = oneMore (seek sought n lines)
+  seek sought n (endRepeat ∷ lines) = oneMore (seek sought n lines)
+  seek sought n (ifLine f ∷ lines) = oneMore (seek sought (suc n) lines)
+  seek sought (suc n) (elseLine ∷ lines) = oneMore (seek sought (suc n) lines)
+  seek itsElse zero (elseLine ∷ lines) = some 1
+  seek itsEnd zero (elseLine ∷ lines) = none
+  seek sought (suc n) (endIf ∷ lines) = oneMore (seek sought n lines)
+  seek itsElse zero (endIf ∷ lines) = none
+  seek itsEnd zero (endIf ∷ lines) = some 1
+
+-- a repeat under way: its row, and the turns still to come after this one
+pub record Repeat : Type 0 where
+  pub start : ℕ
+  pub left : ℕ
+
+module _ (A : Arithmetic) where
+  pub record State : Type 0 where
+    pub at : ℕ
+    pub repeats : List Repeat
+    pub memory : Memory A
+
+  -- what one step comes to. A stop names its table row, from 0, and its origin.
+  pub data Step : Type 0 where
+    goesOn : State → Step
+    ended : Memory A → Step
+    stops : RowNumber → Origin → A .Why → Step
+    sticks : Step
+
+  -- to row `at`, all else as it is
+  abbrev pub goTo : ℕ → List Repeat → Memory A → Step
+  goTo at repeats memory = goesOn (record { at = at; repeats = repeats; memory = memory })
+
+  abbrev pub jump : State → Memory A → Option ℕ → Step
+  jump state memory none = sticks
+  jump state memory (some n) = goTo (state .at + n) (state .repeats) memory
+
+  abbrev pub afterAction : State → Origin → Try A (Memory A) → Step
+  afterAction state origin (through memory) = goTo (suc (state .at)) (state .repeats) memory
+  afterAction state origin (halted why) = stops (record { index = state .at }) origin why
+  afterAction state origin stuck = sticks
+
+  -- the branch that a test picks; the rest are the lines after the test
+  abbrev pub branchTo : State → List TableLine → Bool → Memory A → Step
+  branchTo state rest true memory = goTo (suc (state .at)) (state .repeats) memory
+  branchTo state rest false memory = jump state memory (oneMore (seek itsElse 0 rest))
+
+  abbrev pub afterTest : State → List TableLine → Option (Verdict A) → Step
+  afterTest state rest none = sticks
+  afterTest state rest (some verdict) = branchTo state rest (verdict .first) (verdict .memory)
+
+  abbrev pub afterTurn : State → List Repeat → Step
+  afterTurn state [] = sticks
+  afterTurn state (r ∷ outer) = turn (r .left)
+    where
+      turn : ℕ → Step
+      turn zero = goTo (suc (state .at)) outer (state .memory)
+      turn (suc n) = goTo (suc (r .start)) (record { start = r .start; left = n } ∷ outer) (state .memory)
+
+  -- the lines from this row on
+  unfoldable pub stepAt : Setting A → State → List TableLine → Step
+  unfolding acted tested seek
+  stepAt setting state [] = ended (state .memory)
+  stepAt setting state (basic row ∷ rest) = afterAction state (row .origin) (acted A setting (row .action) (state .memory))
+  stepAt setting state (ifLine test ∷ rest) = afterTest state rest (tested A test (state .memory))
+  stepAt setting state (elseLine ∷ rest) = jump state (state .memory) (oneMore (seek itsEnd 0 rest))
+  stepAt setting state (endIf ∷ rest) = goTo (suc (state .at)) (state .repeats) (state .memory)
+  stepAt setting state (repeat m ∷ rest) = goTo (suc (state .at)) (record { start = state .at; left = m } ∷ state .repeats) (state .memory)
+  stepAt setting state (endRepeat ∷ rest) = afterTurn state (state .repeats)
+
+  unfoldable pub step : Setting A → List TableLine → State → Step
+  unfolding stepAt
+  step setting lines state = stepAt setting state (drop (state .at) lines)
+
+  -- ---- the steps in turn
+
+  pub data Ending : Type 0 where
+    finished : Memory A → Ending
+    -- "the first result that isn't finite ends the run"
+    stoppedAt : RowNumber → Origin → A .Why → Ending
+    gotStuck : Ending
+    outOfFuel : Ending
+
+  unfoldable pub runFor : (fuel : ℕ) → Setting A → List TableLine → State → Ending
+  unfolding step
+  runFor zero setting lines state = outOfFuel
+  runFor (suc n) setting lines state =
+      elim (step setting lines state) [
+        | goesOn next ↦ runFor n setting lines next
+        | ended memory ↦ finished memory
+        | stops row origin why ↦ stoppedAt row origin why
+        | sticks ↦ gotStuck
+      ]
+
+  abbrev pub ifItGoesOn : Step → (State → Step) → Step
+  ifItGoesOn (goesOn state) next = next state
+  ifItGoesOn (ended memory) next = ended memory
+  ifItGoesOn (stops row origin why) next = stops row origin why
+  ifItGoesOn sticks next = sticks
+
+  -- what n steps in turn come to, as long as they go on
+  unfoldable pub stateAfter : (n : ℕ) → Setting A → List TableLine → State → Step
+  unfolding step
+  stateAfter zero setting lines state = goesOn state
+  stateAfter (suc n) setting lines state = ifItGoesOn (step setting lines state) (λ next. stateAfter n setting lines next)
+
+-- how many steps a tree takes at most: the fuel that suffices is one more, for the step that ends the run
+unfoldable pub stepsOf : {B F : Type 0} → Tree B F → ℕ
+stepsOf done = 0
+stepsOf (one b k) = 1 + stepsOf k
+stepsOf (fork f a b k) = 2 + max (stepsOf a) (stepsOf b) + stepsOf k
+stepsOf (again m a k) = 1 + suc m * (stepsOf a + 1) + stepsOf k

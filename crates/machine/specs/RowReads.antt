@@ -1,0 +1,114 @@
+-- What derivative rows read: each one that is executed, with the original values that it reads, in the order of execution; of the machine's
+-- steps and of a table in the large.
+use Prim.Native.Nat.{ℕ, zero, suc}
+use mathlib.Core.Bool.{Bool, true, false, cond}
+use mathlib.Core.List.{List, [], _∷_, _++_}
+use lib.ListN.{getD, drop}
+use lib.Dec.{ltb}
+use Rattle.number.specs.Arithmetic.{Arithmetic}
+use Rattle.sheet.specs.Tree.{done, one, fork, again, basic, ifLine, elseLine, endIf, repeat, endRepeat}
+use Rattle.sheet.specs.Rows.{_≔_, Source, copy, fixed, sum, difference, product, negation}
+use Rattle.table.specs.TableRows.{Table, TableRow, TableLine, Action, assign, save, takeBack, saveTurn, clear, turnRound, Operation, saving, itself, turning, takingBack, holding, clearing, scalingForA, addingToA, scalingForB, addingToB, Origin, ofRow, ofTurningRound}
+use Rattle.machine.specs.Attempts.{Attempt, through, halted, stuck, present}
+use Rattle.machine.specs.Actions.{Memory, Setting, acted, tested}
+use Rattle.machine.specs.Machine.{State, Step, goesOn, ended, stops, sticks, step}
+use Rattle.machine.specs.InTheLarge.{Stop, stoppingAt, tableRun}
+
+-- the rows of a derivative rule, as against saving, taking back and the sheet's own rows
+abbrev pub isDerivative : Operation → Bool
+isDerivative saving = false
+isDerivative itself = false
+isDerivative turning = false
+isDerivative takingBack = false
+isDerivative holding = true
+isDerivative clearing = true
+isDerivative scalingForA = true
+isDerivative addingToA = true
+isDerivative scalingForB = true
+isDerivative addingToB = true
+
+module _ (A : Arithmetic) where
+  pub record Entry : Type 0 where
+    pub origin : Origin
+    pub reads : List (A .Carrier)
+
+  -- ---- what one row reads of the originals, the variables below V
+
+  abbrev pub originalAt : (variables : ℕ) → ℕ → List (A .Carrier) → List (A .Carrier)
+  originalAt v i store = cond (ltb i v) (getD store i (A .zero) ∷ []) []
+
+  unfoldable pub originalsRead : (variables : ℕ) → Source → List (A .Carrier) → List (A .Carrier)
+  originalsRead v (copy a) store = originalAt v a store
+  originalsRead v (fixed c) store = []
+  originalsRead v (sum a b) store = originalAt v a store ++ originalAt v b store
+  originalsRead v (difference a b) store = originalAt v a store ++ originalAt v b store
+  originalsRead v (product a b) store = originalAt v a store ++ originalAt v b store
+  originalsRead v (negation a) store = originalAt v a store
+
+  unfoldable pub readsOf : (variables : ℕ) → Action → List (A .Carrier) → List (A .Carrier)
+  unfolding originalsRead
+  readsOf v (assign (d ≔ source)) store = originalsRead v source store
+  readsOf v (save d) store = []
+  readsOf v (takeBack d) store = []
+  readsOf v (saveTurn first) store = []
+  readsOf v (clear d) store = []
+  readsOf v turnRound store = []
+
+  abbrev pub entryIf : Bool → Entry → List Entry
+  entryIf true entry = entry ∷ []
+  entryIf false entry = []
+
+  abbrev pub notedBy : (variables : ℕ) → Origin → Action → Memory A → List Entry
+  notedBy v (ofRow row operation) action memory =
+      entryIf (isDerivative operation) (record { origin = ofRow row operation; reads = readsOf v action (memory .store) })
+  notedBy v ofTurningRound action memory = []
+
+  abbrev pub noted : (variables : ℕ) → TableRow → Memory A → List Entry
+  noted v row memory = notedBy v (row .origin) (row .action) memory
+
+  -- ---- of the machine's steps
+
+  abbrev pub notedAt : (variables : ℕ) → List TableLine → Memory A → List Entry
+  notedAt v [] memory = []
+  notedAt v (basic row ∷ rest) memory = noted v row memory
+  notedAt v (ifLine f ∷ rest) memory = []
+  notedAt v (elseLine ∷ rest) memory = []
+  notedAt v (endIf ∷ rest) memory = []
+  notedAt v (repeat m ∷ rest) memory = []
+  notedAt v (endRepeat ∷ rest) memory = []
+
+  abbrev pub onNext : Step A → (State A → List Entry) → List Entry
+  onNext (goesOn next) log = log next
+  onNext (ended memory) log = []
+  onNext (stops row origin why) log = []
+  onNext sticks log = []
+
+  unfoldable pub machineLog : (steps : ℕ) → Setting A → List TableLine → State A → List Entry
+  unfolding readsOf step
+  machineLog zero setting lines state = []
+  machineLog (suc n) setting lines state =
+      notedAt (setting .variables) (drop (state .at) lines) (state .memory)
+      ++ onNext (step A setting lines state) (λ next. machineLog n setting lines next)
+
+  -- ---- of a table in the large
+
+  abbrev pub onThrough : {W X : Type 0} → Attempt W X → (X → List Entry) → List Entry
+  onThrough (through x) log = log x
+  onThrough (halted why) log = []
+  onThrough stuck log = []
+
+  unfoldable pub tableLog : Setting A → Table → Memory A → List Entry
+  unfolding readsOf acted tested tableRun
+  tableLog setting done memory = []
+  tableLog setting (one row k) memory =
+      noted (setting .variables) row memory
+      ++ onThrough (stoppingAt A (row .origin) (acted A setting (row .action) memory)) (λ next. tableLog setting k next)
+  tableLog setting (fork f a b k) memory =
+      onThrough {W = Stop A} (present (tested A f memory))
+      (λ verdict.
+      cond (verdict .first) (tableLog setting a (verdict .memory)) (tableLog setting b (verdict .memory))
+      ++ onThrough (cond (verdict .first) (tableRun A setting a (verdict .memory)) (tableRun A setting b (verdict .memory)))
+      (λ next. tableLog setting k next))
+  tableLog setting (again zero a k) memory = tableLog setting a memory ++ onThrough (tableRun A setting a memory) (λ next. tableLog setting k next)
+  tableLog setting (again (suc m) a k) memory =
+      tableLog setting a memory ++ onThrough (tableRun A setting a memory) (λ next. tableLog setting (again m a k) next)

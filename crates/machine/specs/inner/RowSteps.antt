@@ -1,0 +1,350 @@
+-- One row of the code, held against one step of the row machine: what each row's answer says, and what every buffer then stands for.
+use Prim.Native.Nat.{ℕ, zero, suc, pred, _+_, _*_, _≤_, _<_}
+use mathlib.Core.Path.{_≡_}
+use mathlib.Core.List.{List, [], _∷_}
+use mathlib.Core.Option.{none, some}
+use mathlib.Core.Logic.{_⊎_, _≢_}
+use lib.ListN.{length, getD, drop}
+use Rattle.number.specs.Arithmetic.{Arithmetic}
+use Rattle.sheet.specs.Bounds.{limit}
+use Rattle.sheet.specs.Tree.{basic}
+use Rattle.sheet.specs.Rows.{Row}
+use Rattle.sheet.specs.Answers.{rowSaid}
+use Rattle.sheet.specs.Reading.{rowAt}
+use Rattle.table.specs.TableRows.{TableLine, TableRow, Origin, Action, tableRowOf}
+use Rattle.machine.specs.Attempts.{Attempt, through, halted, stuck}
+use Rattle.machine.specs.Actions.{Setting, Try}
+use Rattle.machine.specs.Machine.{Repeat, State, Step, goesOn, ended, stops, sticks, stepAt, step}
+use Rattle.machine.specs.inner.Buffers.{Buffers, Cells, cellsOf, memoryOf, Sound, Does, RoundSizes}
+use Rattle.machine.specs.inner.RowWords.{actionOf}
+use Rattle.machine.specs.inner.Runnable.{Holds, Jumps, Suits}
+use Rattle.machine.specs.declared.Met.{Met}
+use Rattle.machine.specs.declared.Met.the-variants as met-as
+use Rattle.machine.specs.declared.Place.{Place}
+use Rattle.machine.specs.declared.Went.{Went}
+use Rattle.machine.specs.declared.Went.the-variants as went-as
+use Rattle.machine.specs.declared.Did.{Did}
+use Rattle.machine.specs.declared.Did.the-variants as did-as
+use Rattle.machine.specs.declared.Moved.{Moved}
+use Rattle.machine.specs.declared.Moved.the-variants as moved-as
+use Rattle.machine.specs.declared.Branch.{Branch}
+use Rattle.machine.specs.declared.Branch.the-variants as branch-as
+use Rattle.machine.specs.declared.Branched.{Branched}
+use Rattle.machine.specs.declared.Branched.the-variants as branched-as
+use Rattle.machine.specs.declared.Acted.{Acted}
+use Rattle.machine.specs.declared.Acted.the-variants as acted
+use Rattle.machine.specs.declared.Crossed.{Crossed}
+use Rattle.machine.specs.declared.Crossed.the-variants as crossed
+use Rattle.machine.specs.declared.Ended.{Ended}
+use Rattle.machine.specs.declared.Ended.the-variants as ended-as
+use Rattle.machine.specs.declared.Ran.{Ran}
+
+-- the open repeats, nearest first: where the body of each starts, and the turns of it still to come
+unfoldable pub Nested : (depth : ℕ) → (bodies toCome : List ℕ) → List Repeat → Type 0
+Nested zero bodies toCome [] = Unit {0}
+Nested zero bodies toCome (r ∷ outer) = ⊥
+Nested (suc n) bodies toCome [] = ⊥
+Nested (suc n) bodies toCome (r ∷ outer) =
+    (getD bodies n 0 ≡ suc (r .start)) × (getD toCome n 0 ≡ r .left) × Nested n bodies toCome outer
+
+-- in arrays with room for as many as a sheet may nest
+pub record Opened (depth : ℕ) (bodies toCome : List ℕ) (repeats : List Repeat) : Type 0 where
+  pub roomOfBodies : limit .depth ≤ length bodies
+  pub roomOfTurns : limit .depth ≤ length toCome
+  pub nested : Nested depth bodies toCome repeats
+
+-- ---- what the answers of the code stand for
+
+-- the same place with other heights of the two stacks
+abbrev pub raised : Place → (height turnHeight : ℕ) → Place
+raised place height turnHeight =
+    record { at = place .at; depth = place .depth; values = height; turns = turnHeight; left = place .left }
+
+-- the same place at another row, or with another number of open repeats
+abbrev pub moved : Place → (at : ℕ) → Place
+moved place at = record { at = at; depth = place .depth; values = place .values; turns = place .turns; left = place .left }
+
+abbrev pub within : Place → (depth : ℕ) → Place
+within place depth = record { at = place .at; depth = depth; values = place .values; turns = place .turns; left = place .left }
+
+abbrev pub firstPlace : (steps : ℕ) → Place
+firstPlace steps = record { at = 0; depth = 0; values = 0; turns = 0; left = steps }
+
+abbrev pub leftAt : Place → Ended → Ran
+leftAt place how = record { place = place; ended = how }
+
+-- the place at the row after, with one step fewer left
+abbrev pub following : Place → (at left : ℕ) → Place
+following place at left = record { at = at; depth = place .depth; values = place .values; turns = place .turns; left = left }
+
+-- the row before a place, with one step more left
+abbrev pub preceding : Place → (at : ℕ) → Place
+preceding next at = record { at = at; depth = next .depth; values = next .values; turns = next .turns; left = suc (next .left) }
+
+abbrev pub wentTo : Went → Place → Acted
+wentTo went-as.On place = acted.On place
+wentTo went-as.Stuck place = acted.Stuck
+
+abbrev pub didTo : Did → Place → Acted
+didTo did-as.On place = acted.On place
+didTo did-as.Stopped place = acted.Stopped
+
+abbrev pub valuesTo : Moved → Place → Acted
+valuesTo (moved-as.To height) place = acted.On (raised place height (place .turns))
+valuesTo moved-as.Stuck place = acted.Stuck
+
+abbrev pub turnsTo : Moved → Place → Acted
+turnsTo (moved-as.To height) place = acted.On (raised place (place .values) height)
+turnsTo moved-as.Stuck place = acted.Stuck
+
+-- the answer to an attempt that leads to a place
+abbrev pub actedBy : {Why : Type 0} → Attempt Why (Unit {0}) → Place → Acted
+actedBy (through u) place = acted.On place
+actedBy (halted why) place = acted.Stopped
+actedBy stuck place = acted.Stuck
+
+-- how many steps are left where the row goes on, whatever it does
+abbrev pub ActedLeft : (left : ℕ) → Acted → Type 0
+ActedLeft left (acted.On next) = suc (next .left) ≡ left
+ActedLeft left acted.Block = Unit {0}
+ActedLeft left acted.Stopped = Unit {0}
+ActedLeft left acted.Stuck = Unit {0}
+ActedLeft left acted.Spent = Unit {0}
+
+abbrev pub CrossedLeft : (left : ℕ) → Crossed → Type 0
+CrossedLeft left (crossed.On next) = suc (next .left) ≡ left
+CrossedLeft left (crossed.Out how) = Unit {0}
+
+-- the answer where the machine is stuck
+abbrev pub stuckThere : Crossed
+stuckThere = crossed.Out ended-as.Stuck
+
+-- no straight row stands at this place
+abbrev pub NoneStraight : (at : ℕ) → List TableLine → Type 0
+NoneStraight at lines = (row : TableRow) (rest : List TableLine) → drop at lines ≡ basic row ∷ rest → ⊥
+
+-- ---- what is read at a place of a table
+
+-- the place of the row after it, for which a step is left
+pub record Follows (place next : Place) : Type 0 where
+  pub left : ℕ
+  pub is : next ≡ following place (place .at + 1) left
+  pub spends : place .left ≡ suc left
+
+pub record MeetsRow (table : List ℕ) (rows : ℕ) (place : Place) (row : Row) (next : Place) : Type 0 where
+  pub follows : Follows place next
+  pub within : place .at < rows
+  pub said : row ≡ rowAt table (1 + place .at * limit .rowWords)
+
+pub record MeetsCompare (table : List ℕ) (rows : ℕ) (place : Place) (a b : ℕ) (next : Place) : Type 0 where
+  pub row : Row
+  pub meets : MeetsRow table rows place row next
+  pub kind : row .kind ≡ 7
+  pub first : row .a ≡ a
+  pub second : row .b ≡ b
+
+abbrev pub Meets : (table : List ℕ) → (rows : ℕ) → Place → Met → Type 0
+Meets table rows place (met-as.Out ended-as.Finished) = (0 < place .left) × (rows ≤ place .at)
+Meets table rows place (met-as.Out (ended-as.Stopped row)) = ⊥
+Meets table rows place (met-as.Out ended-as.Stuck) = ⊥
+Meets table rows place (met-as.Out ended-as.Unfinished) = place .left ≡ 0
+Meets table rows place (met-as.Compare a b next) = MeetsCompare table rows place (a .0) (b .0) next
+Meets table rows place (met-as.Other row next) = MeetsRow table rows place (rowSaid row) next × (row .kind ≢ 7)
+
+-- ---- rows of blocks, in either arithmetic
+
+-- from an "if" or an "else" to where the list of jumps says
+pub record JumpsTo (beyond : List ℕ) (at : ℕ) (next : Place) (answer : Crossed) : Type 0 where
+  pub there : at < length beyond → answer ≡ crossed.On (moved next (getD beyond at 0))
+  pub left : CrossedLeft (suc (next .left)) answer
+
+-- the branch that a comparison picks
+abbrev pub BranchesTo : (beyond : List ℕ) → (at : ℕ) → (next : Place) → Branch → Crossed → Type 0
+BranchesTo beyond at next branch-as.First answer = answer ≡ crossed.On next
+BranchesTo beyond at next branch-as.Second answer = JumpsTo beyond at next answer
+BranchesTo beyond at next branch-as.Stuck answer = answer ≡ stuckThere
+
+-- the branch that a turn taken back picks
+abbrev pub TurnsTo : (beyond : List ℕ) → (at : ℕ) → (next : Place) → Branched → Crossed → Type 0
+TurnsTo beyond at next (branched-as.First height) answer = answer ≡ crossed.On (raised next (next .values) height)
+TurnsTo beyond at next (branched-as.Second height) answer = JumpsTo beyond at (raised next (next .values) height) answer
+TurnsTo beyond at next branched-as.Stuck answer = answer ≡ stuckThere
+
+-- one repeat more, of which `count` turns are to run; its body starts at the next row
+pub record Opens (count : ℕ) (next : Place) (bodies toCome bodiesAfter toComeAfter : List ℕ) (answer : Crossed) : Type 0 where
+  pub left : CrossedLeft (suc (next .left)) answer
+  pub full : limit .depth ≤ next .depth → (answer ≡ stuckThere) × (bodiesAfter ≡ bodies) × (toComeAfter ≡ toCome)
+  pub room : next .depth < limit .depth → (m : ℕ) → count ≡ suc m → answer ≡ crossed.On (within next (suc (next .depth)))
+  pub opened : next .depth < limit .depth → (m start : ℕ) (repeats : List Repeat) → count ≡ suc m → next .at ≡ suc start
+      → Opened (next .depth) bodies toCome repeats
+      → Opened (suc (next .depth)) bodiesAfter toComeAfter (record { start = start; left = m } ∷ repeats)
+
+-- the end of a turn: out of the repeat, or back to its body
+pub record Closes (next : Place) (bodies toCome bodiesAfter toComeAfter : List ℕ) (answer : Crossed) : Type 0 where
+  pub left : CrossedLeft (suc (next .left)) answer
+  pub none : Opened (next .depth) bodies toCome [] → (answer ≡ stuckThere) × Opened (next .depth) bodiesAfter toComeAfter []
+  pub out : next .depth ≤ limit .depth → (r : Repeat) (outer : List Repeat)
+      → Opened (next .depth) bodies toCome (r ∷ outer)
+      → r .left ≡ 0
+      → (answer ≡ crossed.On (within next (pred (next .depth)))) × Opened (pred (next .depth)) bodiesAfter toComeAfter outer
+  pub back : next .depth ≤ limit .depth → (r : Repeat) (n : ℕ) (outer : List Repeat)
+      → Opened (next .depth) bodies toCome (r ∷ outer)
+      → r .left ≡ suc n
+      → (answer ≡ crossed.On (moved next (suc (r .start))))
+      × Opened (next .depth) bodiesAfter toComeAfter (record { start = r .start; left = n } ∷ outer)
+
+module _ (A : Arithmetic) where
+  -- Until row 17 the copies' buffer stands for nothing, so what has been copied is said apart.
+  abbrev pub buffersAt : Place → Cells A → (held : List (A .Carrier)) → Buffers A
+  buffersAt place cells held =
+      record {
+        store = cells .store;
+        values = cells .values;
+        height = place .values;
+        turns = cells .turns;
+        turnHeight = place .turns;
+        copied = held;
+      }
+
+  abbrev pub stateAt : Place → List Repeat → Cells A → (held : List (A .Carrier)) → State A
+  stateAt place repeats cells held = record { at = place .at; repeats = repeats; memory = memoryOf A (buffersAt place cells held) }
+
+  -- a row copies nothing out, or all that its buffer then holds
+  abbrev pub CopiesOn : (former : List (A .Carrier)) → (before : Cells A) → (held : List (A .Carrier)) → (after : Cells A) → Type 0
+  CopiesOn former before held after = ((held ≡ former) × (after .copied ≡ before .copied)) ⊎ (held ≡ after .copied)
+
+  -- ---- one row
+
+  -- A straight row's action: what it came to, and the buffers after it. `next` is the place of the row after it.
+  pub record Acts (setting : Setting A) (action : Action) (next : Place) (before after : Cells A) (former : List (A .Carrier)) (answer : Acted) : Type 0 where
+    pub went : Try A (Unit {0})
+    pub height : ℕ
+    pub turnHeight : ℕ
+    pub held : List (A .Carrier)
+    pub answers : answer ≡ actedBy went (raised next height turnHeight)
+    pub does : Does A setting action (buffersAt next before former) (buffersAt (raised next height turnHeight) after held) went
+    pub copies : CopiesOn former before held after
+
+  -- the row's words say which action it is, or none
+  pub record ActsBy (row : Row) (roles constants : List ℕ) (seeds : List (A .Carrier)) (next : Place) (before after : Cells A) (answer : Acted)
+      : Type 0 where
+    pub left : ActedLeft (suc (next .left)) answer
+    pub acts : (setting : Setting A) (action : Action) (former : List (A .Carrier))
+        → actionOf row ≡ some action
+        → Suits A roles constants seeds setting
+        → RoundSizes A roles seeds (before .store) (before .copied)
+        → Sound A setting (buffersAt next before former)
+        → Acts setting action next before after former answer
+    pub other : actionOf row ≡ none → (answer ≡ acted.Block) × (after ≡ before)
+
+  -- a row that does not go through leaves all as it stood
+  abbrev pub Stays : Place → (before after : Cells A) → (former held : List (A .Carrier)) → Type 0
+  Stays place before after former held = buffersAt place after held ≡ buffersAt place before former
+
+  -- a stop at this row
+  pub record StopsAt (at : ℕ) (found : Step A) : Type 0 where
+    pub origin : Origin
+    pub why : A .Why
+    pub is : found ≡ stops (record { index = at }) origin why
+
+  -- the machine is stuck, or opens one repeat more than there is room for
+  abbrev pub Blocked : Step A → Type 0
+  Blocked (goesOn state) = limit .depth < length (state .repeats)
+  Blocked (ended memory) = ⊥
+  Blocked (stops row origin why) = ⊥
+  Blocked sticks = Unit {0}
+
+  -- the step goes on to a place, with one step fewer left
+  pub record GoesTo (setting : Setting A) (place next : Place) (repeats : List Repeat) (after : Cells A) (held : List (A .Carrier)) (found : Step A)
+      : Type 0 where
+    pub is : found ≡ goesOn (stateAt next repeats after held)
+    pub fewer : place .left ≡ suc (next .left)
+    pub sound : Sound A setting (buffersAt next after held)
+
+  -- What an answer says of the machine's step. A row that is none of the straight ones is left alone.
+  abbrev pub ActedSays : Setting A → List TableLine → Place → List Repeat → (before after : Cells A) → (former held : List (A .Carrier))
+      → Step A → Acted → Type 0
+  ActedSays setting lines place repeats before after former held found (acted.On next) =
+      (next .depth ≡ place .depth) × GoesTo setting place next repeats after held found
+  ActedSays setting lines place repeats before after former held found acted.Block =
+      NoneStraight (place .at) lines × (after ≡ before) × (held ≡ former)
+  ActedSays setting lines place repeats before after former held found acted.Stopped =
+      (0 < place .left) × StopsAt (place .at) found × Stays place before after former held
+  ActedSays setting lines place repeats before after former held found acted.Stuck =
+      (0 < place .left) × Blocked found × Stays place before after former held
+  ActedSays setting lines place repeats before after former held found acted.Spent = (place .left ≡ 0) × Stays place before after former held
+
+  pub record StepsStraight (setting : Setting A) (lines : List TableLine) (place : Place) (repeats : List Repeat) (before after : Cells A)
+      (former : List (A .Carrier)) (answer : Acted) : Type 0 where
+    pub held : List (A .Carrier)
+    pub says : ActedSays setting lines place repeats before after former held (step A setting lines (stateAt place repeats before former)) answer
+    pub copies : CopiesOn former before held after
+
+  -- a straight row at a place, under whatever setting and lines the table stands for
+  pub record StraightRow (table : List ℕ) (rows : ℕ) (roles constants : List ℕ) (seeds : List (A .Carrier)) (place : Place)
+      (before after : Cells A) (answer : Acted) : Type 0 where
+    pub left : ActedLeft (place .left) answer
+    pub steps : (setting : Setting A) (lines : List TableLine) (repeats : List Repeat) (former : List (A .Carrier))
+        → Holds table lines
+        → length lines ≡ rows
+        → Suits A roles constants seeds setting
+        → RoundSizes A roles seeds (before .store) (before .copied)
+        → Sound A setting (buffersAt place before former)
+        → StepsStraight setting lines place repeats before after former answer
+
+  -- a row of a block goes on with the repeats that are then open
+  pub record CrossesTo (setting : Setting A) (place next : Place) (bodies toCome : List ℕ) (after : Cells A) (held : List (A .Carrier)) (found : Step A)
+      : Type 0 where
+    pub repeats : List Repeat
+    pub opened : Opened (next .depth) bodies toCome repeats
+    pub goes : GoesTo setting place next repeats after held found
+
+  -- where the run is left the same repeats are open
+  pub record Rests (place : Place) (repeats : List Repeat) (bodies toCome : List ℕ) (before after : Cells A) (held : List (A .Carrier)) : Type 0 where
+    pub opened : Opened (place .depth) bodies toCome repeats
+    pub stays : Stays place before after held held
+
+  abbrev pub CrossedSays : Setting A → Place → List Repeat → (bodies toCome : List ℕ) → (before after : Cells A) → (held : List (A .Carrier))
+      → Step A → Crossed → Type 0
+  CrossedSays setting place repeats bodies toCome before after held found (crossed.On next) =
+      CrossesTo setting place next bodies toCome after held found
+  CrossedSays setting place repeats bodies toCome before after held found (crossed.Out ended-as.Finished) =
+      (0 < place .left) × (found ≡ ended (memoryOf A (buffersAt place after held))) × Rests place repeats bodies toCome before after held
+  CrossedSays setting place repeats bodies toCome before after held found (crossed.Out (ended-as.Stopped row)) = ⊥
+  CrossedSays setting place repeats bodies toCome before after held found (crossed.Out ended-as.Stuck) =
+      (0 < place .left) × Blocked found × Rests place repeats bodies toCome before after held
+  CrossedSays setting place repeats bodies toCome before after held found (crossed.Out ended-as.Unfinished) =
+      (place .left ≡ 0) × Rests place repeats bodies toCome before after held
+
+  -- The rows of blocks change the turn stack and the open repeats alone.
+  pub record BlockRow (table : List ℕ) (rows : ℕ) (beyond : List ℕ) (place : Place) (store : List (A .Carrier))
+      (turns bodies toCome turnsAfter bodiesAfter toComeAfter : List ℕ) (answer : Crossed) : Type 0 where
+    pub left : CrossedLeft (place .left) answer
+    pub steps : (setting : Setting A) (lines : List TableLine) (repeats : List Repeat) (values copied held : List (A .Carrier))
+        → Holds table lines
+        → length lines ≡ rows
+        → Jumps lines beyond
+        → NoneStraight (place .at) lines
+        → Opened (place .depth) bodies toCome repeats
+        → place .depth ≤ limit .depth
+        → Sound A setting (buffersAt place (cellsOf A store values turns copied) held)
+        → CrossedSays setting place repeats bodiesAfter toComeAfter (cellsOf A store values turns copied) (cellsOf A store values turnsAfter copied) held
+        (step A setting lines (stateAt place repeats (cellsOf A store values turns copied) held)) answer
+
+  -- the same of the line that a row's words say, but for the comparison; `next` is the place of the row after it
+  pub record CrossesBy (row : Row) (beyond : List ℕ) (at : ℕ) (next : Place) (turns bodies toCome turnsAfter bodiesAfter toComeAfter : List ℕ)
+      (answer : Crossed) : Type 0 where
+    pub left : CrossedLeft (suc (next .left)) answer
+    pub crosses : (setting : Setting A) (lines rest : List TableLine) (line : TableLine) (repeats : List Repeat) (store values copied held : List (A .Carrier))
+        → tableRowOf line ≡ row
+        → row .kind ≢ 7
+        → next .at ≡ suc at
+        → drop at lines ≡ line ∷ rest
+        → Jumps lines beyond
+        → NoneStraight at lines
+        → Opened (next .depth) bodies toCome repeats
+        → next .depth ≤ limit .depth
+        → Sound A setting (buffersAt next (cellsOf A store values turns copied) held)
+        → CrossedSays setting (preceding next at) repeats bodiesAfter toComeAfter (cellsOf A store values turns copied)
+        (cellsOf A store values turnsAfter copied) held
+        (stepAt A setting (stateAt (preceding next at) repeats (cellsOf A store values turns copied) held) (line ∷ rest)) answer

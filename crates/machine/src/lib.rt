@@ -1,0 +1,102 @@
+// The row machine's code, in both arithmetics: each single row, held against its written meaning (specs/Actions.antt), and a run of a table's
+// rows, held against the machine's steps (specs/Machine.antt).
+// No row's contract asks that a place be there: where it isn't, the answer is Stuck.
+mod blocks;
+pub mod doubles;
+pub mod jumps;
+mod places;
+pub mod residues;
+mod rows;
+mod turns;
+
+use sheet::RowNumber;
+use sheet::RowWords;
+use sheet::Variable;
+
+// Both operands of a comparison, where the variables have them.
+enum ResiduePair {
+    Are(u32, u32),
+    Missing,
+}
+
+enum DoublePair {
+    Are(f64, f64),
+    Missing,
+}
+
+// What a row comes to that no arithmetic can stop.
+enum Went {
+    On,
+    Stuck,
+}
+
+// What an assignment in doubles comes to.
+enum Did {
+    On,
+    Stopped,
+}
+
+// What a row comes to that moves a stack: its new height.
+enum Moved {
+    To(usize),
+    Stuck,
+}
+
+// The branch that a test picks.
+enum Branch {
+    First,
+    Second,
+    Stuck,
+}
+
+// The branch that a turn taken back picks, with the turn stack's new height.
+enum Branched {
+    First(usize),
+    Second(usize),
+    Stuck,
+}
+
+// Where a run is: its row, how many repeats are open, the heights of both stacks, and how many steps are left.
+pub struct Place {
+    pub at: usize,
+    pub depth: usize,
+    pub values: usize,
+    pub turns: usize,
+    pub left: usize,
+}
+
+// What the outer loop meets at a place: the run's end, a comparison, or another row, each row with the place after it.
+enum Met {
+    Out(Ended),
+    Compare(Variable, Variable, Place),
+    Other(RowWords, Place),
+}
+
+// What a straight row comes to: the place after it. `Block` is the answer where no straight row stands, `Spent` where no step is left for it.
+enum Acted {
+    On(Place),
+    Block,
+    Stopped,
+    Stuck,
+    Spent,
+}
+
+// What a row of a block comes to: the place after it, or the end of the run.
+enum Crossed {
+    On(Place),
+    Out(Ended),
+}
+
+// Why a run is left: at its end, at a row whose result isn't finite, where the machine is stuck, or because the steps have run out.
+pub enum Ended {
+    Finished,
+    Stopped(RowNumber),
+    Stuck,
+    Unfinished,
+}
+
+// Where a run is left, and why.
+pub struct Ran {
+    pub place: Place,
+    pub ended: Ended,
+}

@@ -1,0 +1,113 @@
+// Places, which no other module builds, and the place that a straight row leads to, from what its code answered.
+ghost use mathlib.Core.Path.{_≡_};
+ghost use Rattle.machine.specs.inner.RowSteps.{wentTo, didTo, valuesTo, turnsTo, firstPlace, leftAt, following, moved, within, raised};
+use super::Acted;
+use super::Did;
+use super::Ended;
+use super::Moved;
+use super::Place;
+use super::Ran;
+use super::Went;
+
+pub fn went_to(went: Went, next: Place) -> Acted
+    ensures { λ r. ⌜ r ≡ wentTo went next ⌝ }
+{
+    match went {
+        Went::On => Acted::On(next),
+        Went::Stuck => Acted::Stuck,
+    }
+}
+
+pub fn did_to(did: Did, next: Place) -> Acted
+    ensures { λ r. ⌜ r ≡ didTo did next ⌝ }
+{
+    match did {
+        Did::On => Acted::On(next),
+        Did::Stopped => Acted::Stopped,
+    }
+}
+
+// A row that moved the value stack.
+pub fn values_to(moved: Moved, next: Place) -> Acted
+    ensures { λ r. ⌜ r ≡ valuesTo moved next ⌝ }
+{
+    match moved {
+        Moved::To(height) => Acted::On(raised(next, height, next.turns)),
+        Moved::Stuck => Acted::Stuck,
+    }
+}
+
+// A row that moved the turn stack.
+pub fn turns_to(moved: Moved, next: Place) -> Acted
+    ensures { λ r. ⌜ r ≡ turnsTo moved next ⌝ }
+{
+    match moved {
+        Moved::To(height) => Acted::On(raised(next, next.values, height)),
+        Moved::Stuck => Acted::Stuck,
+    }
+}
+
+// The place where a run starts, with empty stacks.
+pub fn first_place(steps: usize) -> Place
+    ensures { λ r. ⌜ r ≡ firstPlace steps ⌝ }
+{
+    Place {
+        at: 0,
+        depth: 0,
+        values: 0,
+        turns: 0,
+        left: steps,
+    }
+}
+
+// The end of a run at a place.
+pub fn left_at(place: Place, ended: Ended) -> Ran
+    ensures { λ r. ⌜ r ≡ leftAt place ended ⌝ }
+{
+    Ran { place, ended }
+}
+
+pub fn following(place: Place, at: usize, left: usize) -> Place
+    ensures { λ r. ⌜ r ≡ following place at left ⌝ }
+{
+    Place {
+        at,
+        depth: place.depth,
+        values: place.values,
+        turns: place.turns,
+        left,
+    }
+}
+
+// The same place at another row.
+pub fn moved(place: Place, at: usize) -> Place
+    ensures { λ r. ⌜ r ≡ moved place at ⌝ }
+{
+    following(place, at, place.left)
+}
+
+// The same place with another number of open repeats.
+pub fn within(place: Place, depth: usize) -> Place
+    ensures { λ r. ⌜ r ≡ within place depth ⌝ }
+{
+    Place {
+        at: place.at,
+        depth,
+        values: place.values,
+        turns: place.turns,
+        left: place.left,
+    }
+}
+
+// The same place with other heights of the two stacks.
+pub fn raised(place: Place, values: usize, turns: usize) -> Place
+    ensures { λ r. ⌜ r ≡ raised place values turns ⌝ }
+{
+    Place {
+        at: place.at,
+        depth: place.depth,
+        values,
+        turns,
+        left: place.left,
+    }
+}

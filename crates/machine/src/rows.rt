@@ -1,0 +1,54 @@
+// What the row at a place of a table says, which no arithmetic has a part in.
+ghost use mathlib.Core.Path.{_≡_};
+ghost use Prim.Native.Nat.{suc, _+_, _*_, _≤_};
+ghost use lib.ListN.{length};
+ghost use Rattle.sheet.specs.Bounds.{limit};
+ghost use Rattle.sheet.specs.Reading.{rowAt};
+ghost use Rattle.sheet.specs.Answers.{rowSaid};
+ghost use Rattle.machine.specs.inner.Runnable.{placeOfRow};
+ghost use Rattle.machine.specs.inner.RowSteps.{Meets};
+use super::Ended;
+use super::Met;
+use super::Place;
+use super::places::following;
+use sheet::ROW_WORDS;
+use sheet::RowNumber;
+use sheet::RowWords;
+use sheet::Variable;
+use sheet::kinds;
+
+// The words of one of a table's rows.
+pub fn row_of(table: &[u16], row: RowNumber) -> RowWords
+    requires { ⌜ placeOfRow (suc (row .0)) ≤ length (now table) ⌝ }
+    ensures { λ r. ⌜ rowSaid r ≡ rowAt (now (table .entry)) (1 + row .0 * limit .rowWords) ⌝ }
+{
+    let first = 1 + row.0 * ROW_WORDS;
+    let kind = table[first];
+    let d = table[first + 1];
+    let a = table[first + 2];
+    let b = table[first + 3];
+    RowWords { kind, d, a, b }
+}
+
+// The row of a block at a place, or the end.
+pub fn block_at(table: &[u16], rows: usize, place: Place) -> Met
+    requires { ⌜ placeOfRow rows ≤ length (now table) ⌝ }
+    ensures { λ r. ⌜ Meets (now (table .entry)) rows place r ⌝ }
+{
+    let at = place.at;
+    let left = place.left;
+    if left == 0 {
+        return Met::Out(Ended::Unfinished);
+    }
+    if rows <= at {
+        return Met::Out(Ended::Finished);
+    }
+    let row = row_of(table, RowNumber(at));
+    let next = following(place, at + 1, left - 1);
+    if row.kind == kinds::IF {
+        let a = row.a as usize;
+        let b = row.b as usize;
+        return Met::Compare(Variable(a), Variable(b), next);
+    }
+    Met::Other(row, next)
+}
