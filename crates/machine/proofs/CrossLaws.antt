@@ -72,10 +72,10 @@ module _ (beyond : List ℕ) (at : ℕ) (next : Place) where
 
 -- ---- what the code reads at a place
 
-module _ {table : List ℕ} {rows : ℕ} {place next : Place} {row : Row} {left : ℕ} (said : row ≡ rowAt table (1 + place .at * limit .rowWords))
-    (within : place .at < rows)
+module _ {table : List ℕ} {rows : ℕ} {place next : Place} {row : Row} {left : ℕ} (said : row ≡ rowAt table (1 + place .at .0 * limit .rowWords))
+    (within : place .at .0 < rows)
     (spends : place .left ≡ suc left)
-    (follows : next ≡ following place (place .at + 1) left) where
+    (follows : next ≡ following place (place .at .0 + 1) left) where
   pub meets-row : MeetsRow table rows place row next
   meets-row = record { follows = record { left = left; is = follows; spends = spends }; within = within; said = said }
 
@@ -125,7 +125,7 @@ module _ {A : Arithmetic} where
         → Opened (to .depth) bodies toCome open-then
         → Sound A setting (buffersAt A to after held)
         → stepAt A setting (stateAt A (preceding next at) repeats before held) (line ∷ rest)
-        ≡ goTo A (to .at) open-then (memoryOf A (buffersAt A to after held))
+        ≡ goTo A (to .at .0) open-then (memoryOf A (buffersAt A to after held))
         → Crosses at next setting line rest repeats before after held bodies toCome answer
     goes-to to open-then is left opened sound found =
         subst (λ (r : Crossed). Crosses at next setting line rest repeats before after held bodies toCome r) (sym is)
@@ -165,7 +165,7 @@ module _ {A : Arithmetic} where
   module _ {beyond : List ℕ} {at : ℕ} {next : Place} {setting : Setting A} {lines rest : List TableLine} {repeats : List Repeat}
       {before after : Cells A} {held : List (A .Carrier)} {bodies toCome : List ℕ} {answer : Crossed}
       (test : TableTest) (height : ℕ)
-      (follows : next .at ≡ suc at)
+      (follows : next .at .0 ≡ suc at)
       (here : drop at lines ≡ ifLine test ∷ rest)
       (jumps : Jumps lines beyond)
       (opened : Opened (next .depth) bodies toCome repeats) where
@@ -209,7 +209,7 @@ module _ {A : Arithmetic} where
         → CrossedLeft (suc (next .left)) answer
         → ((setting : Setting A) (lines rest : List TableLine) (repeats : List Repeat) (store values copied held : List (A .Carrier))
         → tableRowOf line ≡ row
-        → next .at ≡ suc at
+        → next .at .0 ≡ suc at
         → drop at lines ≡ line ∷ rest
         → Jumps lines beyond
         → Opened (next .depth) bodies toCome repeats
@@ -263,7 +263,7 @@ module _ {A : Arithmetic} where
       where
         by-room : {setting : Setting A} {rest : List TableLine} {repeats : List Repeat} {cells : Cells A} {held : List (A .Carrier)}
             → row .a ≡ suc (pred (row .a))
-            → next .at ≡ suc at
+            → next .at .0 ≡ suc at
             → Opened (next .depth) bodies toCome repeats
             → Sound A setting (buffersAt A next cells held)
             → Dec (next .depth < limit .depth)
@@ -290,7 +290,7 @@ module _ {A : Arithmetic} where
         by-left : {setting : Setting A} {rest : List TableLine} {cells : Cells A} {held : List (A .Carrier)}
             (r : Repeat) (outer : List Repeat) (left : ℕ)
             → r .left ≡ left
-            → next .at ≡ suc at
+            → next .at .0 ≡ suc at
             → Opened (next .depth) bodies toCome (r ∷ outer)
             → next .depth ≤ limit .depth
             → Sound A setting (buffersAt A next cells held)
@@ -306,7 +306,7 @@ module _ {A : Arithmetic} where
             (turn-back (stateAt A (preceding next at) (r ∷ outer) cells held) r n outer left)
 
         by-repeats : {setting : Setting A} {rest : List TableLine} {cells : Cells A} {held : List (A .Carrier)} (repeats : List Repeat)
-            → next .at ≡ suc at
+            → next .at .0 ≡ suc at
             → Opened (next .depth) bodies toCome repeats
             → next .depth ≤ limit .depth
             → Sound A setting (buffersAt A next cells held)
@@ -357,12 +357,12 @@ module _ {A : Arithmetic} where
   found-there : (place : Place) {left : ℕ} (lines : List TableLine) {rest : List TableLine} {line : TableLine} (setting : Setting A)
       (repeats : List Repeat) (before after : Cells A) (held : List (A .Carrier)) (bodies toCome : List ℕ) (answer : Crossed)
       → place .left ≡ suc left
-      → drop (place .at) lines ≡ line ∷ rest
-      → Crosses (place .at) (following place (place .at + 1) left) setting line rest repeats before after held bodies toCome answer
+      → drop (place .at .0) lines ≡ line ∷ rest
+      → Crosses (place .at .0) (following place (place .at .0 + 1) left) setting line rest repeats before after held bodies toCome answer
       → CrossedSays A setting place repeats bodies toCome before after held (step A setting lines (stateAt A place repeats before held)) answer
   unfolding step
   found-there place {left} lines {rest} {line} setting repeats before after held bodies toCome answer spends here crosses =
-      let same-place : preceding (following place (place .at + 1) left) (place .at) ≡ place = rw (sym spends) in
+      let same-place : preceding (following place (place .at .0 + 1) left) (place .at .0) ≡ place = rw (sym spends) in
       rw here
       (subst
       (λ (p : Place). CrossedSays A setting p repeats bodies toCome before after held (stepAt A setting (stateAt A p repeats before held) (line ∷ rest)) answer)
@@ -381,7 +381,7 @@ module _ {A : Arithmetic} where
             record {
               left = tt;
               steps = λ setting lines repeats values copied held holds count jumps none-straight opened shallow sound.
-                  let none-there : drop (place .at) lines ≡ [] = drop-of-length-le lines {i = place .at} (rw count over) in
+                  let none-there : drop (place .at .0) lines ≡ [] = drop-of-length-le lines {i = place .at .0} (rw count over) in
                   (some-left, rw none-there, record { opened = opened; stays = refl });
             }
         by-end (ended-as.Stopped row) never = absurd never
@@ -395,7 +395,7 @@ module _ {A : Arithmetic} where
 
     pub block-crosses : {row : RowWords} {next : Place} {turnsAfter bodiesAfter toComeAfter : List ℕ} {answer : Crossed} → Meets table rows place met
         → met ≡ met-as.Other row next
-        → CrossesBy A (rowSaid row) beyond (place .at) next turns bodies toCome turnsAfter bodiesAfter toComeAfter answer
+        → CrossesBy A (rowSaid row) beyond (place .at .0) next turns bodies toCome turnsAfter bodiesAfter toComeAfter answer
         → BlockRow A table rows beyond place store turns bodies toCome turnsAfter bodiesAfter toComeAfter answer
     block-crosses {row} {next} {turnsAfter} {bodiesAfter} {toComeAfter} {answer} meets is crosses =
         let (there, not-if) = rw is at meets in
@@ -405,12 +405,12 @@ module _ {A : Arithmetic} where
         record {
           left = rw spends (done .left);
           steps = λ setting lines repeats values copied held holds count jumps none-straight opened shallow sound.
-              let line = stands-there lines (place .at) (rw count (there .within)) in
-              let words = words-there table lines (line .rest) (line .line) (place .at) (rowSaid row) holds (there .said) (line .is) in
+              let line = stands-there lines (place .at .0) (rw count (there .within)) in
+              let words = words-there table lines (line .rest) (line .line) (place .at .0) (rowSaid row) holds (there .said) (line .is) in
               found-there place lines setting repeats (cellsOf A store values turns copied) (cellsOf A store values turnsAfter copied) held
               bodiesAfter toComeAfter answer spends (line .is)
               (record {
-                says = done .crosses setting lines (line .rest) (line .line) repeats store values copied held words not-if (add-one (place .at))
+                says = done .crosses setting lines (line .rest) (line .line) repeats store values copied held words not-if (add-one (place .at .0))
                     (line .is) jumps none-straight opened shallow sound;
               });
         }
@@ -418,7 +418,7 @@ module _ {A : Arithmetic} where
     pub block-compares : {a b : Variable} {next : Place} {picked : Branch} {answer : Crossed} → Meets table rows place met
         → met ≡ met-as.Compare a b next
         → Compares A (a .0) (b .0) store picked
-        → BranchesTo beyond (place .at) next picked answer
+        → BranchesTo beyond (place .at .0) next picked answer
         → BlockRow A table rows beyond place store turns bodies toCome turns bodies toCome answer
     unfolding blockOf
     block-compares {a} {b} {next} {picked} {answer} meets is compares to =
@@ -427,13 +427,13 @@ module _ {A : Arithmetic} where
         let left = there .meets .follows .left in
         let spends = there .meets .follows .spends in
         let goes = rw (there .meets .follows .is) at to in
-        let follow = following place (place .at + 1) left in
-        let picks = branch-picks beyond (place .at) follow picked answer goes in
+        let follow = following place (place .at .0 + 1) left in
+        let picks = branch-picks beyond (place .at .0) follow picked answer goes in
         record {
-          left = rw spends (picks-left beyond (place .at) follow (place .turns) (branchOf picked) answer picks);
+          left = rw spends (picks-left beyond (place .at .0) follow (place .turns) (branchOf picked) answer picks);
           steps = λ setting lines repeats values copied held holds count jumps none-straight opened shallow sound.
-              let line = stands-there lines (place .at) (rw count (there .meets .within)) in
-              let words = words-there table lines (line .rest) (line .line) (place .at) row holds (there .meets .said) (line .is) in
+              let line = stands-there lines (place .at .0) (rw count (there .meets .within)) in
+              let words = words-there table lines (line .rest) (line .line) (place .at .0) row holds (there .meets .said) (line .is) in
               let is-if : blockOf row ≡ some (ifLine (whether (less (a .0) (b .0)))) = rw (there .kind, there .first, there .second) in
               let told : some (ifLine (whether (less (a .0) (b .0)))) ≡ some (line .line) =
               sym is-if
@@ -444,6 +444,6 @@ module _ {A : Arithmetic} where
               let here = line .is ∙ ap (λ (l : TableLine). l ∷ line .rest) (sym same) in
               let cells = cellsOf A store values turns copied in
               found-there place lines setting repeats cells cells held bodies toCome answer spends here
-              (test-crosses (whether (less (a .0) (b .0))) (place .turns) (add-one (place .at)) here jumps opened (branchOf picked)
+              (test-crosses (whether (less (a .0) (b .0))) (place .turns) (add-one (place .at .0)) here jumps opened (branchOf picked)
               (compares .tests setting values (place .values) turns (place .turns) held sound) picks);
         }

@@ -73,7 +73,7 @@ module _ (count : ℕ) (next : Place) (bodies toCome : List ℕ) where
       }
 
   pub opens-on : next .depth < limit .depth
-      → Opens count next bodies toCome (set bodies (next .depth) (next .at)) (set toCome (next .depth) (count - 1))
+      → Opens count next bodies toCome (set bodies (next .depth) (next .at .0)) (set toCome (next .depth) (count - 1))
       (crossed.On (within next (next .depth + 1)))
   opens-on room =
       record {
@@ -85,7 +85,7 @@ module _ (count : ℕ) (next : Place) (bodies toCome : List ℕ) where
             let roomOfBodies = now .roomOfBodies in
             let roomOfTurns = now .roomOfTurns in
             record {
-              roomOfBodies = rw (length-set bodies (next .depth) (next .at)) roomOfBodies;
+              roomOfBodies = rw (length-set bodies (next .depth) (next .at .0)) roomOfBodies;
               roomOfTurns = rw (length-set toCome (next .depth) (count - 1)) roomOfTurns;
               nested = rw (at, turns) (nested-more (next .depth) bodies toCome start m repeats (omega arith) (omega arith) (now .nested));
             };

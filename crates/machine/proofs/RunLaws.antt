@@ -204,7 +204,7 @@ module _ {A : Arithmetic} (task : Task A) where
         (opened : Opened (place .depth) bodiesAfter toComeAfter (now .repeats))
         (copies : CopiesOn A (now .held) cells held after) where
       abbrev state-of : Buffers A → State A
-      state-of b = record { at = place .at; repeats = now .repeats; memory = memoryOf A b }
+      state-of b = record { at = place .at .0; repeats = now .repeats; memory = memoryOf A b }
 
       abbrev running-stays : Running first setting lines start place after bodiesAfter toComeAfter
       running-stays =
@@ -227,7 +227,7 @@ module _ {A : Arithmetic} (task : Task A) where
           → Leaves A setting lines start (task .steps) first after bodiesAfter toComeAfter (leftAt place how)
       leaves-by how why = record { stands = running-stays; why = why }
 
-      running-stops : (row : RowNumber) → row .0 ≡ place .at → 0 < place .left → StopsAt A (place .at) (step A setting lines state)
+      running-stops : (row : RowNumber) → row .0 ≡ place .at .0 → 0 < place .left → StopsAt A (place .at .0) (step A setting lines state)
           → Leaves A setting lines start (task .steps) first after bodiesAfter toComeAfter (leftAt place (ended-as.Stopped row))
       running-stops row at some-left stop =
           leaves-by (ended-as.Stopped row)
@@ -353,7 +353,7 @@ module _ {A : Arithmetic} (task : Task A) where
         }
 
     module _ {first : Cells A} (run : Invariant first began cellsThen bodies toCome) where
-      pub straight-stops : {ran : Ran} {row : RowNumber} → answer ≡ acted.Stopped → row .0 ≡ place .at → ran ≡ leftAt place (ended-as.Stopped row)
+      pub straight-stops : {ran : Ran} {row : RowNumber} → answer ≡ acted.Stopped → row .0 ≡ place .at .0 → ran ≡ leftAt place (ended-as.Stopped row)
           → Left first after bodies toCome ran
       straight-stops {row = row} is at answered setting lines start handed =
           let now = inner .still first run in

@@ -22,10 +22,10 @@ use Rattle.machine.proofs.StepsInTurn.{steps-add}
 use Rattle.machine.proofs.OpenedLaws.{opened-length}
 use Rattle.machine.proofs.RowsPinned.{buffers-pinned}
 
-place-rebuilt : (p q : Place) → p .at ≡ q .at → p .depth ≡ q .depth → p .values ≡ q .values → p .turns ≡ q .turns → p .left ≡ q .left → p ≡ q
+place-rebuilt : (p q : Place) → p .at .0 ≡ q .at .0 → p .depth ≡ q .depth → p .values ≡ q .values → p .turns ≡ q .turns → p .left ≡ q .left → p ≡ q
 place-rebuilt p q at depth values turns left =
-    let rebuilt : _≡_ {A = Place} (record { at = p .at; depth = p .depth; values = p .values; turns = p .turns; left = p .left })
-    (record { at = q .at; depth = q .depth; values = q .values; turns = q .turns; left = q .left }) = rw (at, depth, values, turns, left) in
+    let rebuilt : _≡_ {A = Place} (record { at = record { 0 = p .at .0 }; depth = p .depth; values = p .values; turns = p .turns; left = p .left })
+    (record { at = record { 0 = q .at .0 }; depth = q .depth; values = q .values; turns = q .turns; left = q .left }) = rw (at, depth, values, turns, left) in
     rebuilt
 
 module _ (A : Arithmetic) where
@@ -83,10 +83,10 @@ module _ (A : Arithmetic) where
   reasonOf (suc n) at sticks = ended-as.Stuck
 
   reason-is : (place : Place) (memory : Memory A) (found : Step A) (how : Ended) → LeavesBy A place memory found how
-      → how ≡ reasonOf (place .left) (place .at) found
+      → how ≡ reasonOf (place .left) (place .at .0) found
   reason-is place memory found how why = by-left (place .left) refl how why
     where
-      by-left : (left : ℕ) → place .left ≡ left → (how : Ended) → LeavesBy A place memory found how → how ≡ reasonOf left (place .at) found
+      by-left : (left : ℕ) → place .left ≡ left → (how : Ended) → LeavesBy A place memory found how → how ≡ reasonOf left (place .at .0) found
       by-left zero is ended-as.Finished why = absurd (omega (arith, why .0))
       by-left zero is (ended-as.Stopped row) why = absurd (omega (arith, why .0))
       by-left zero is ended-as.Stuck why = absurd (omega (arith, why .0))
@@ -164,9 +164,9 @@ module _ (A : Arithmetic) where
                   (ap (λ (b : Buffers A). b .turnHeight) buffers) left;
               reason =
                   reason-is (answer .place) _ (step A setting lines now) (answer .ended) (l .why)
-                  ∙ ap (λ (n : ℕ). reasonOf n (answer .place .at) (step A setting lines now)) left
+                  ∙ ap (λ (n : ℕ). reasonOf n (answer .place .at .0) (step A setting lines now)) left
                   ∙ ap (λ (n : ℕ). reasonOf (answer′ .place .left) n (step A setting lines now)) at
-                  ∙ ap (λ (s : State A). reasonOf (answer′ .place .left) (answer′ .place .at) (step A setting lines s)) same
+                  ∙ ap (λ (s : State A). reasonOf (answer′ .place .left) (answer′ .place .at .0) (step A setting lines s)) same
                   ∙ sym (reason-is (answer′ .place) _ (step A setting lines now′) (answer′ .ended) (l′ .why));
               repeats = repeats;
               store = ap (λ (b : Buffers A). b .store) buffers;

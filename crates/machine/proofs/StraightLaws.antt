@@ -211,9 +211,9 @@ module _ {A : Arithmetic} where
   module _ (place : Place) (before after : Cells A) (answer : Acted) (left : ℕ) (spends : place .left ≡ suc left) (setting : Setting A) (lines rest : List TableLine) (row : TableRow)
       (repeats : List Repeat)
       (former : List (A .Carrier))
-      (here : drop (place .at) lines ≡ basic row ∷ rest) where
+      (here : drop (place .at .0) lines ≡ basic row ∷ rest) where
     abbrev next : Place
-    next = following place (place .at + 1) left
+    next = following place (place .at .0 + 1) left
 
     abbrev step-there : Step A
     step-there = step A setting lines (stateAt A place repeats before former)
@@ -250,7 +250,7 @@ module _ {A : Arithmetic} where
             is =
                 there-acted
                 ∙ ap (afterAction A (stateAt A place repeats before former) (row .origin)) (sym (does .meaning))
-                ∙ ap (λ (n : ℕ). goTo A n repeats (memoryOf A (buffersAt A (raised next height turnHeight) after held))) (sym (add-one (place .at)));
+                ∙ ap (λ (n : ℕ). goTo A n repeats (memoryOf A (buffersAt A (raised next height turnHeight) after held))) (sym (add-one (place .at .0)));
             fewer = spends;
             sound = does .sound;
           },
@@ -271,12 +271,12 @@ module _ {A : Arithmetic} where
         (omega arith, subst (λ (s : Step A). Blocked A s) (sym stays) tt, stays-there height turnHeight held (does .unchanged stuck-apart))
 
   module _ {table : List ℕ} {rows : ℕ} {roles constants : List ℕ} {seeds : List (A .Carrier)} {place : Place} where
-    pub straight-over : {cells : Cells A} → rows ≤ place .at → StraightRow A table rows roles constants seeds place cells cells acted-as.Block
+    pub straight-over : {cells : Cells A} → rows ≤ place .at .0 → StraightRow A table rows roles constants seeds place cells cells acted-as.Block
     straight-over over =
         record {
           left = tt;
           steps = λ setting lines repeats former holds count suits sizes sound.
-              record { held = former; says = (none-beyond lines (place .at) (rw count over), refl, refl); copies = inl (refl, refl) };
+              record { held = former; says = (none-beyond lines (place .at .0) (rw count over), refl, refl); copies = inl (refl, refl) };
         }
 
     pub straight-spent : {cells : Cells A} → place .left ≡ 0 → StraightRow A table rows roles constants seeds place cells cells acted-as.Spent
@@ -289,9 +289,9 @@ module _ {A : Arithmetic} where
 
     pub straight-acts : {before after : Cells A} {answer : Acted} {words : Row} {to : Place} {left : ℕ}
         → place .left ≡ suc left
-        → place .at < rows
-        → words ≡ rowAt table (1 + place .at * limit .rowWords)
-        → to ≡ following place (place .at + 1) left
+        → place .at .0 < rows
+        → words ≡ rowAt table (1 + place .at .0 * limit .rowWords)
+        → to ≡ following place (place .at .0 + 1) left
         → ActsBy A words roles constants seeds to before after answer
         → StraightRow A table rows roles constants seeds place before after answer
     unfolding tableRowOf rowOf
@@ -300,17 +300,17 @@ module _ {A : Arithmetic} where
         record {
           left = rw spends (does .left);
           steps = λ setting lines repeats former holds count suits sizes sound.
-              let there = stands-there lines (place .at) (rw count within) in
-              let told = words-there table lines (there .rest) (there .line) (place .at) words holds said (there .is) in
+              let there = stands-there lines (place .at .0) (rw count within) in
+              let told = words-there table lines (there .rest) (there .line) (place .at .0) words holds said (there .is) in
               by-line setting lines (there .rest) (there .line) repeats former does suits sizes sound (there .is) told (straight-or-not (there .line));
         }
       where
         by-line : (setting : Setting A) (lines rest : List TableLine) (line : TableLine) (repeats : List Repeat) (former : List (A .Carrier))
-            → ActsBy A words roles constants seeds (following place (place .at + 1) left) before after answer
+            → ActsBy A words roles constants seeds (following place (place .at .0 + 1) left) before after answer
             → Suits A roles constants seeds setting
             → RoundSizes A roles seeds (before .store) (before .copied)
             → Sound A setting (buffersAt A place before former)
-            → drop (place .at) lines ≡ line ∷ rest
+            → drop (place .at .0) lines ≡ line ∷ rest
             → tableRowOf line ≡ words
             → ((row : TableRow) × (line ≡ basic row)) ⊎ ((actionOf (tableRowOf line) ≡ none) × ((row : TableRow) → line ≡ basic row → ⊥))
             → StepsStraight A setting lines place repeats before after former answer
@@ -326,7 +326,7 @@ module _ {A : Arithmetic} where
             }
         by-line setting lines rest line repeats former does suits sizes sound here told (inr (nothing, apart)) =
             let rested = does .other (ap actionOf (sym told) ∙ nothing) in
-            let none-straight : NoneStraight (place .at) lines =
+            let none-straight : NoneStraight (place .at .0) lines =
             λ row more there. apart row (heads line (basic row) rest more (sym here ∙ there)) in
             rw (rested .0, rested .1) (record { held = former; says = (none-straight, refl, refl); copies = inl (refl, refl) })
 

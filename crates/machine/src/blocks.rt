@@ -23,7 +23,7 @@ fn jump(beyond: &[u16], at: RowNumber, next: Place) -> Crossed
 {
     let row = at.0;
     if row < beyond.len() {
-        let to = wide(beyond[row]);
+        let to = RowNumber(wide(beyond[row]));
         return Crossed::On(moved(next, to));
     }
     Crossed::Out(Ended::Stuck)
@@ -68,7 +68,7 @@ fn open_repeat(
         return Crossed::Out(Ended::Stuck);
     }
     let body = next.at;
-    bodies[depth] = body;
+    bodies[depth] = body.0;
     to_come[depth] = count - 1;
     Crossed::On(within(next, depth + 1))
 }
@@ -91,7 +91,7 @@ fn close_turn(next: Place, bodies: &[usize; MAX_DEPTH], to_come: &mut [u16; MAX_
     }
     to_come[top] = turns - 1;
     let body = bodies[top];
-    Crossed::On(moved(next, body))
+    Crossed::On(moved(next, RowNumber(body)))
 }
 
 // Kinds 8 to 11 and 15.

@@ -291,11 +291,13 @@ fn straight_row(
         return Acted::Spent;
     }
     let at = place.at;
-    if rows <= at {
+    let number = at.0;
+    if rows <= number {
         return Acted::Block;
     }
-    let row = row_of(table, RowNumber(at));
-    let next = following(place, at + 1, left - 1);
+    let row = row_of(table, at);
+    let after = RowNumber(number + 1);
+    let next = following(place, after, left - 1);
     act(
         row,
         roles,
@@ -324,7 +326,7 @@ fn block_row(
     ensures { λ r. ⌜ BlockRow doubles (now (table .entry)) rows (now (beyond .entry)) place (now (store .entry))
         (now (turns .entry)) (now (bodies .entry)) (now («to_come» .entry)) (now (turns .exit)) (now (bodies .exit)) (now («to_come» .exit)) r ⌝ }
 {
-    let at = RowNumber(place.at);
+    let at = place.at;
     match block_at(table, rows, place) {
         Met::Out(ended) => Crossed::Out(ended),
         Met::Compare(a, b, next) => branch_to(test(store, a, b), beyond, at, next),
@@ -372,7 +374,10 @@ pub fn run_rows(
             ) {
                 Acted::On(next) => place = next,
                 Acted::Block => break,
-                Acted::Stopped => break 'run left_at(place, Ended::Stopped(RowNumber(place.at))),
+                Acted::Stopped => {
+                    let at = place.at;
+                    break 'run left_at(place, Ended::Stopped(at));
+                }
                 Acted::Stuck => break 'run left_at(place, Ended::Stuck),
                 Acted::Spent => break 'run left_at(place, Ended::Unfinished),
             }

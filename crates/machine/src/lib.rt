@@ -58,7 +58,7 @@ enum Branched {
 
 // Where a run is: its row, how many repeats are open, the heights of both stacks, and how many steps are left.
 pub struct Place {
-    pub at: usize,
+    pub at: RowNumber,
     pub depth: usize,
     pub values: usize,
     pub turns: usize,

@@ -8,6 +8,7 @@ use super::Moved;
 use super::Place;
 use super::Ran;
 use super::Went;
+use sheet::RowNumber;
 
 pub fn went_to(went: Went, next: Place) -> Acted
     ensures { λ r. ⌜ r ≡ wentTo went next ⌝ }
@@ -52,7 +53,7 @@ pub fn first_place(steps: usize) -> Place
     ensures { λ r. ⌜ r ≡ firstPlace steps ⌝ }
 {
     Place {
-        at: 0,
+        at: RowNumber(0),
         depth: 0,
         values: 0,
         turns: 0,
@@ -67,8 +68,8 @@ pub fn left_at(place: Place, ended: Ended) -> Ran
     Ran { place, ended }
 }
 
-pub fn following(place: Place, at: usize, left: usize) -> Place
-    ensures { λ r. ⌜ r ≡ following place at left ⌝ }
+pub fn following(place: Place, at: RowNumber, left: usize) -> Place
+    ensures { λ r. ⌜ r ≡ following place (at .0) left ⌝ }
 {
     Place {
         at,
@@ -80,8 +81,8 @@ pub fn following(place: Place, at: usize, left: usize) -> Place
 }
 
 // The same place at another row.
-pub fn moved(place: Place, at: usize) -> Place
-    ensures { λ r. ⌜ r ≡ moved place at ⌝ }
+pub fn moved(place: Place, at: RowNumber) -> Place
+    ensures { λ r. ⌜ r ≡ moved place (at .0) ⌝ }
 {
     following(place, at, place.left)
 }
@@ -90,8 +91,9 @@ pub fn moved(place: Place, at: usize) -> Place
 pub fn within(place: Place, depth: usize) -> Place
     ensures { λ r. ⌜ r ≡ within place depth ⌝ }
 {
+    let at = place.at;
     Place {
-        at: place.at,
+        at,
         depth,
         values: place.values,
         turns: place.turns,
@@ -103,8 +105,9 @@ pub fn within(place: Place, depth: usize) -> Place
 pub fn raised(place: Place, values: usize, turns: usize) -> Place
     ensures { λ r. ⌜ r ≡ raised place values turns ⌝ }
 {
+    let at = place.at;
     Place {
-        at: place.at,
+        at,
         depth: place.depth,
         values,
         turns,

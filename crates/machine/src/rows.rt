@@ -36,15 +36,17 @@ pub fn block_at(table: &[u16], rows: usize, place: Place) -> Met
     ensures { λ r. ⌜ Meets (now (table .entry)) rows place r ⌝ }
 {
     let at = place.at;
+    let number = at.0;
     let left = place.left;
     if left == 0 {
         return Met::Out(Ended::Unfinished);
     }
-    if rows <= at {
+    if rows <= number {
         return Met::Out(Ended::Finished);
     }
-    let row = row_of(table, RowNumber(at));
-    let next = following(place, at + 1, left - 1);
+    let row = row_of(table, at);
+    let after = RowNumber(number + 1);
+    let next = following(place, after, left - 1);
     if row.kind == kinds::IF {
         let a = row.a as usize;
         let b = row.b as usize;

@@ -62,24 +62,24 @@ raised place height turnHeight =
 
 -- the same place at another row, or with another number of open repeats
 abbrev pub moved : Place → (at : ℕ) → Place
-moved place at = record { at = at; depth = place .depth; values = place .values; turns = place .turns; left = place .left }
+moved place at = record { at = record { 0 = at }; depth = place .depth; values = place .values; turns = place .turns; left = place .left }
 
 abbrev pub within : Place → (depth : ℕ) → Place
 within place depth = record { at = place .at; depth = depth; values = place .values; turns = place .turns; left = place .left }
 
 abbrev pub firstPlace : (steps : ℕ) → Place
-firstPlace steps = record { at = 0; depth = 0; values = 0; turns = 0; left = steps }
+firstPlace steps = record { at = record { 0 = 0 }; depth = 0; values = 0; turns = 0; left = steps }
 
 abbrev pub leftAt : Place → Ended → Ran
 leftAt place how = record { place = place; ended = how }
 
 -- the place at the row after, with one step fewer left
 abbrev pub following : Place → (at left : ℕ) → Place
-following place at left = record { at = at; depth = place .depth; values = place .values; turns = place .turns; left = left }
+following place at left = record { at = record { 0 = at }; depth = place .depth; values = place .values; turns = place .turns; left = left }
 
 -- the row before a place, with one step more left
 abbrev pub preceding : Place → (at : ℕ) → Place
-preceding next at = record { at = at; depth = next .depth; values = next .values; turns = next .turns; left = suc (next .left) }
+preceding next at = record { at = record { 0 = at }; depth = next .depth; values = next .values; turns = next .turns; left = suc (next .left) }
 
 abbrev pub wentTo : Went → Place → Acted
 wentTo went-as.On place = acted.On place
@@ -128,13 +128,13 @@ NoneStraight at lines = (row : TableRow) (rest : List TableLine) → drop at lin
 -- the place of the row after it, for which a step is left
 pub record Follows (place next : Place) : Type 0 where
   pub left : ℕ
-  pub is : next ≡ following place (place .at + 1) left
+  pub is : next ≡ following place (place .at .0 + 1) left
   pub spends : place .left ≡ suc left
 
 pub record MeetsRow (table : List ℕ) (rows : ℕ) (place : Place) (row : Row) (next : Place) : Type 0 where
   pub follows : Follows place next
-  pub within : place .at < rows
-  pub said : row ≡ rowAt table (1 + place .at * limit .rowWords)
+  pub within : place .at .0 < rows
+  pub said : row ≡ rowAt table (1 + place .at .0 * limit .rowWords)
 
 pub record MeetsCompare (table : List ℕ) (rows : ℕ) (place : Place) (a b : ℕ) (next : Place) : Type 0 where
   pub row : Row
@@ -144,7 +144,7 @@ pub record MeetsCompare (table : List ℕ) (rows : ℕ) (place : Place) (a b : �
   pub second : row .b ≡ b
 
 abbrev pub Meets : (table : List ℕ) → (rows : ℕ) → Place → Met → Type 0
-Meets table rows place (met-as.Out ended-as.Finished) = (0 < place .left) × (rows ≤ place .at)
+Meets table rows place (met-as.Out ended-as.Finished) = (0 < place .left) × (rows ≤ place .at .0)
 Meets table rows place (met-as.Out (ended-as.Stopped row)) = ⊥
 Meets table rows place (met-as.Out ended-as.Stuck) = ⊥
 Meets table rows place (met-as.Out ended-as.Unfinished) = place .left ≡ 0
@@ -175,7 +175,7 @@ pub record Opens (count : ℕ) (next : Place) (bodies toCome bodiesAfter toComeA
   pub left : CrossedLeft (suc (next .left)) answer
   pub full : limit .depth ≤ next .depth → (answer ≡ stuckThere) × (bodiesAfter ≡ bodies) × (toComeAfter ≡ toCome)
   pub room : next .depth < limit .depth → (m : ℕ) → count ≡ suc m → answer ≡ crossed.On (within next (suc (next .depth)))
-  pub opened : next .depth < limit .depth → (m start : ℕ) (repeats : List Repeat) → count ≡ suc m → next .at ≡ suc start
+  pub opened : next .depth < limit .depth → (m start : ℕ) (repeats : List Repeat) → count ≡ suc m → next .at .0 ≡ suc start
       → Opened (next .depth) bodies toCome repeats
       → Opened (suc (next .depth)) bodiesAfter toComeAfter (record { start = start; left = m } ∷ repeats)
 
@@ -207,7 +207,7 @@ module _ (A : Arithmetic) where
       }
 
   abbrev pub stateAt : Place → List Repeat → Cells A → (held : List (A .Carrier)) → State A
-  stateAt place repeats cells held = record { at = place .at; repeats = repeats; memory = memoryOf A (buffersAt place cells held) }
+  stateAt place repeats cells held = record { at = place .at .0; repeats = repeats; memory = memoryOf A (buffersAt place cells held) }
 
   -- a row copies nothing out, or all that its buffer then holds
   abbrev pub CopiesOn : (former : List (A .Carrier)) → (before : Cells A) → (held : List (A .Carrier)) → (after : Cells A) → Type 0
@@ -267,9 +267,9 @@ module _ (A : Arithmetic) where
   ActedSays setting lines place repeats before after former held found (acted.On next) =
       (next .depth ≡ place .depth) × GoesTo setting place next repeats after held found
   ActedSays setting lines place repeats before after former held found acted.Block =
-      NoneStraight (place .at) lines × (after ≡ before) × (held ≡ former)
+      NoneStraight (place .at .0) lines × (after ≡ before) × (held ≡ former)
   ActedSays setting lines place repeats before after former held found acted.Stopped =
-      (0 < place .left) × StopsAt (place .at) found × Stays place before after former held
+      (0 < place .left) × StopsAt (place .at .0) found × Stays place before after former held
   ActedSays setting lines place repeats before after former held found acted.Stuck =
       (0 < place .left) × Blocked found × Stays place before after former held
   ActedSays setting lines place repeats before after former held found acted.Spent = (place .left ≡ 0) × Stays place before after former held
@@ -324,7 +324,7 @@ module _ (A : Arithmetic) where
         → Holds table lines
         → length lines ≡ rows
         → Jumps lines beyond
-        → NoneStraight (place .at) lines
+        → NoneStraight (place .at .0) lines
         → Opened (place .depth) bodies toCome repeats
         → place .depth ≤ limit .depth
         → Sound A setting (buffersAt place (cellsOf A store values turns copied) held)
@@ -338,7 +338,7 @@ module _ (A : Arithmetic) where
     pub crosses : (setting : Setting A) (lines rest : List TableLine) (line : TableLine) (repeats : List Repeat) (store values copied held : List (A .Carrier))
         → tableRowOf line ≡ row
         → row .kind ≢ 7
-        → next .at ≡ suc at
+        → next .at .0 ≡ suc at
         → drop at lines ≡ line ∷ rest
         → Jumps lines beyond
         → NoneStraight at lines

@@ -51,7 +51,7 @@ module _ (A : Arithmetic) where
   -- why the run goes no further: what the step comes to that would be next, or that none is left
   abbrev pub LeavesBy : Place → Memory A → (next : Step A) → Ended → Type 0
   LeavesBy place memory next ended-as.Finished = (0 < place .left) × (next ≡ ended memory)
-  LeavesBy place memory next (ended-as.Stopped row) = (0 < place .left) × (row .0 ≡ place .at) × StopsAt A (place .at) next
+  LeavesBy place memory next (ended-as.Stopped row) = (0 < place .left) × (row .0 ≡ place .at .0) × StopsAt A (place .at .0) next
   LeavesBy place memory next ended-as.Stuck = (0 < place .left) × (next ≡ sticks)
   LeavesBy place memory next ended-as.Unfinished = place .left ≡ 0
 

@@ -37,9 +37,9 @@ within-requires c κs = search needs
 
 returns-3 : tie.Need-returns-3
 returns-3 c =
-    let args = c .before .before .before .args in
+    let args = c .before .before .before .before .args in
     rw (c .within .ensures)
-    (opens-on (args .count) (args .next) (args .bodies .now) (args .to-come .now) (c .before .before .if1 .left))
+    (opens-on (args .count) (args .next) (args .bodies .now) (args .to-come .now) (c .before .before .before .if1 .left))
 
 pub open-repeat-spec : {M : Type 1} → statement M
 open-repeat-spec =

@@ -151,7 +151,7 @@ returns : tie.Need-returns Inv-loop μ-loop Inv-run μ-run
 returns c =
     let a : Answered = search in
     straight-stops _ (a .before .before .before .before .before .loop .inv) (a .straight-row .ensures)
-    (a .before .before .before .before .before .before .run .inv) (c .before .enum-told2 .given .1) refl (c .left-at .ensures)
+    (a .before .before .before .before .before .before .run .inv) (c .before .before .enum-told2 .given .1) refl (c .left-at .ensures)
 
 same-length-5 : tie.Need-same-length-5 Inv-loop μ-loop Inv-run μ-run
 same-length-5 c = search needs

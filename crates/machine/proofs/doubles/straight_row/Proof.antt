@@ -13,7 +13,7 @@ returns-2 c = straight-over (c .if2 .taken)
 
 row-of-requires : tie.Need-row-of-requires
 row-of-requires c κs =
-    let start = c .before .before .before .before .before .before .before .before .before .before in
+    let start = c .before .before .before .before .before .before .before .before .before .before .before in
     omega (arith, start .pre .within)
 
 add-following : tie.Need-add-following
@@ -28,7 +28,7 @@ following-requires c κs = search needs
 act-requires : tie.Need-act-requires
 act-requires c κs =
     let read = c .before .before .before .before .before in
-    let start = read .before .before .before .before .before .before .before .before .before .before .before in
+    let start = read .before .before .before .before .before .before .before .before .before .before .before .before in
     rw (read .row-of .ensures) (start .pre .named _ (omega arith))
 
 same-length : tie.Need-same-length
