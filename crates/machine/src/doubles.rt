@@ -248,17 +248,16 @@ fn act(
 {
     let kind = row.kind;
     let word = row.a;
-    let c = word as usize;
+    let a = word as usize;
     let d = Variable(row.d as usize);
-    let a = Variable(c);
     let b = Variable(row.b as usize);
     match kind {
-        kinds::COPY => did_to(assign(store, d, copy_of(store, a)), next),
-        kinds::CONSTANT => did_to(assign(store, d, fixed(constants, c)), next),
-        kinds::SUM => did_to(assign(store, d, added(store, a, b)), next),
-        kinds::DIFFERENCE => did_to(assign(store, d, subtracted(store, a, b)), next),
-        kinds::PRODUCT => did_to(assign(store, d, multiplied(store, a, b)), next),
-        kinds::NEGATION => did_to(assign(store, d, negated(store, a)), next),
+        kinds::COPY => did_to(assign(store, d, copy_of(store, Variable(a))), next),
+        kinds::CONSTANT => did_to(assign(store, d, fixed(constants, a)), next),
+        kinds::SUM => did_to(assign(store, d, added(store, Variable(a), b)), next),
+        kinds::DIFFERENCE => did_to(assign(store, d, subtracted(store, Variable(a), b)), next),
+        kinds::PRODUCT => did_to(assign(store, d, multiplied(store, Variable(a), b)), next),
+        kinds::NEGATION => did_to(assign(store, d, negated(store, Variable(a))), next),
         table::kinds::SAVE => values_to(save(store, d, values, next.values), next),
         table::kinds::TAKE_BACK => values_to(take_back(store, d, values, next.values), next),
         table::kinds::SAVE_TURN => turns_to(save_turn(is_first(word), turns, next.turns), next),

@@ -7,14 +7,14 @@ use Rattle.machine.proofs.StraightLaws.{none-acts, saved, taken-back, t
 use Rattle.machine.proofs.residues.act.Statement.{statement}
 use Rattle.machine.proofs.residues.act.Tie as tie
 
-cast-c : tie.Need-cast-c
-cast-c c = search needs
+cast-a : tie.Need-cast-a
+cast-a c = search needs
 
-cast-t16 : tie.Need-cast-t16
-cast-t16 c = search needs
+cast-t15 : tie.Need-cast-t15
+cast-t15 c = search needs
 
-cast-t16-2 : tie.Need-cast-t16-2
-cast-t16-2 c = search needs
+cast-t15-2 : tie.Need-cast-t15-2
+cast-t15-2 c = search needs
 
 copy-of-requires : tie.Need-copy-of-requires
 copy-of-requires c κs =
@@ -237,9 +237,9 @@ pub act-spec : {M : Type 1} → statement M
 act-spec =
     tie.close
     (tie.spec
-    cast-c
-    cast-t16
-    cast-t16-2
+    cast-a
+    cast-t15
+    cast-t15-2
     copy-of-requires
     assign-requires
     went-to-requires
