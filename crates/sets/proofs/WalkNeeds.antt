@@ -5,113 +5,131 @@ use native.Mathlib.Omega.{arith}
 use mathlib.Core.Path.{_≡_, sym, ap, subst, _∙_}
 use mathlib.Core.Bool.{Bool}
 use mathlib.Core.List.{List}
-use lib.ListN.{length, getD, set, replicate}
+use lib.ListN.{length, getD, replicate}
 use lib.Seq.{getD-set-other}
 use Rattle.sheet.specs.Bounds.{limit}
 use Rattle.sheet.specs.Reading.{rowAt}
 use Rattle.sheet.specs.Answers.{rowSaid}
-use Rattle.sheet.specs.Rows.{SheetLine, sheetRowOf}
+use Rattle.sheet.specs.Rows.{sheetRowOf}
 use Rattle.sheet.specs.inner.Kinds.{partFor}
 use Rattle.sheet.specs.declared.kinds.Part.{Part}
-use Rattle.sets.specs.declared.rows.Seen.{Seen}
+use Rattle.sets.specs.declared.walk.DueRow.{DueRow}
 use Rattle.sets.specs.declared.Which.{Which}
 use Rattle.sets.specs.declared.Which.the-variants.{Required}
-use Rattle.sets.specs.VariableSets.{VariableSet, empty, _∪_}
+use Rattle.sets.specs.VariableSets.{VariableSet, empty}
 use Rattle.sets.specs.Equations.{setAt, least}
-use Rattle.sets.specs.inner.RowEquations.{Given, lineIn, equationOf, equationIn, rowInTurn, settledPoint, startOf, allEquations, seedIn}
-use Rattle.sets.specs.inner.RowEquations.{Small, Sees, Known}
-use Rattle.sets.specs.inner.Walks.{asksPartner, Stored, StoredFor, Due, onward, backward, Stepping, Looking, Settles}
+use Rattle.sets.specs.inner.RowEquations.{Given, lineIn, equationIn, rowInTurn, settledPoint, startOf, allEquations, seedIn, Small, Known}
+use Rattle.sets.specs.inner.Walks.{placeInTurn, asksPartner, Due, onward, backward, Grown, Looking, DueNow, Stepping, Stepped, Settles}
 use Rattle.sets.proofs.RightSides.{settled-of}
-use Rattle.sets.proofs.Walking.{turn-below, Walk, leftOf, walk-starts, walked, walk-ends}
+use Rattle.sets.proofs.Walking.{turn-below, own-place, start-place, settled-next, Walk, leftOf, walk-starts, walked, walk-ends}
+
+-- what holds before the i-th row in turn: besides the walk, that the set at its place is in hand
+pub record Carried (which : Which) (given : Given) (others : List ℕ) (n v : ℕ) (sets : List VariableSet) (own : VariableSet) (i : ℕ) : Type 0 where
+  pub walk : Walk which given others n v (seedIn which (given .words) v) sets i
+  pub inHand : own ≡ setAt sets (placeInTurn which n i)
 
 module _ {which : Which} {given : Given} {others : List ℕ} {n v size : ℕ} (s : Settles which given others n v size) where
-  abbrev seed : VariableSet
-  seed = seedIn which (given .words) v
+  pub begun : {long own : ℕ} {next : List VariableSet} → long ≡ suc n
+      → Grown (replicate long empty) (startOf which n) (seedIn which (given .words) v) next own → Carried which given others n v next own 0
+  begun {long} {own} {next} is grown =
+      record {
+        walk = walk-starts which given others n v _ (s .proper) (s .wired) (replicate long empty) next (ap (λ m. replicate m empty) is) (grown .stored);
+        inHand = grown .stands ∙ ap (setAt next) (start-place which n);
+      }
 
-  abbrev partAt : ℕ → Part
-  partAt p = partFor (rowAt (given .words) (given .first + p * limit .rowWords) .kind)
-
-  pub looking : (i row : ℕ) → i < n → row ≡ rowInTurn which n i → (long : ℕ) → long ≡ suc n
-      → Looking which (given .words) (given .first) others long row
-  looking i row h is long l =
+  pub looking : {sets : List VariableSet} {own i row : ℕ} → Carried which given others n v sets own i → i < n → row ≡ rowInTurn which n i
+      → Looking which (given .words) (given .first) others sets own row
+  looking {sets} {own} {i} {row} carried h is =
       let below : row < n = rw is (turn-below which n i h) in
       record {
         readable = s .readable row below;
         othersThere = omega (arith, s .othersThere);
-        within = omega arith;
+        inHand = rw (is, own-place which n i h) (carried .inHand);
         back = λ e.
             let near : getD others row 0 < n = subst (λ p. getD others p 0 < n) (sym is) (s .wired .back i h (rw is at e) .0) in
-            (omega arith, s .readable _ near .there);
+            (omega (arith, carried .walk .kept .long), s .readable _ near .there);
       }
 
-  due-below : (sets : List VariableSet) (i row due : ℕ) → i < n → row ≡ rowInTurn which n i → Due which (partAt row) others sets row due → due < n
-  due-below sets i row due h is (onward e brought) = rw (e, is) (turn-below which n i h)
-  due-below sets i row due h is (backward e ends more) = rw (e, is) (s .wired .back i h (rw is at ends) .0)
+  pub ended : {sets : List VariableSet} {own i : ℕ} → Carried which given others n v sets own i → n ≤ i
+      → sets ≡ least v (suc n) (allEquations which given n (seedIn which (given .words) v))
+  ended {sets} {own} {i} carried h = walk-ends which given others n v _ (s .proper) (s .wired) sets i (carried .walk) h
 
-  abbrev DueSeen : (sets : List VariableSet) (row : ℕ) (seen : Seen) → Type 0
-  DueSeen sets row seen = Due which (partAt row) others sets row (seen .row .0) × Sees (given .words) (given .first) seen
+-- ---- the walk at a row, with the row whose equation is due
+
+pub record AtRow (which : Which) (given : Given) (others : List ℕ) (n v size : ℕ) (sets : List VariableSet) (own i row : ℕ) (due : DueRow) : Type 0 where
+  pub settles : Settles which given others n v size
+  pub carried : Carried which given others n v sets own i
+  pub below : i < n
+  pub inTurn : row ≡ rowInTurn which n i
+  pub dueNow : DueNow which (given .words) (given .first) others sets row due
+
+module _ {which : Which} {given : Given} {others : List ℕ} {n v size : ℕ} {sets : List VariableSet} {own i row : ℕ} {due : DueRow}
+    (at : AtRow which given others n v size sets own i row due) where
+  abbrev partAt : ℕ → Part
+  partAt p = partFor (rowAt (given .words) (given .first + p * limit .rowWords) .kind)
+
+  abbrev p : ℕ
+  p = due .seen .row .0
+
+  pub due-below : p < n
+  due-below = go (at .dueNow .isDue)
+    where
+      go : Due which (partAt row) others sets row p → p < n
+      go (onward e brought) = rw (e, at .inTurn) (turn-below which n i (at .below))
+      go (backward e ends more) = rw (e, at .inTurn) (at .settles .wired .back i (at .below) (rw (at .inTurn) at ends) .0)
+
+  pub turned-below : rowInTurn which n p < n
+  turned-below = turn-below which n p due-below
 
   -- the row that is due is there, and its words say its line
-  pub known : (sets : List VariableSet) (i row : ℕ) (seen : Seen) → i < n → row ≡ rowInTurn which n i → DueSeen sets row seen → Known seen
-  known sets i row seen h is d =
-      let r = s .readable _ (due-below sets i row (seen .row .0) h is (d .0)) in
-      record { formed = d .1 .formed; small = subst Small (sym (d .1 .says)) (r .small); numbered = r .numbered }
+  pub known : Known (due .seen)
+  known =
+      let r = at .settles .readable p due-below in
+      record { formed = at .dueNow .sees .formed; small = subst Small (sym (at .dueNow .sees .says)) (r .small); numbered = r .numbered }
 
-  pub line-said : (sets : List VariableSet) (i row : ℕ) (seen : Seen) → i < n → row ≡ rowInTurn which n i → DueSeen sets row seen
-      → sheetRowOf (lineIn (given .words) (given .first) (seen .row .0)) ≡ rowSaid (seen .line)
-  line-said sets i row seen h is d = s .readable _ (due-below sets i row (seen .row .0) h is (d .0)) .says ∙ sym (d .1 .says)
+  pub line-said : sheetRowOf (lineIn (given .words) (given .first) p) ≡ rowSaid (due .seen .line)
+  line-said = at .settles .readable p due-below .says ∙ sym (at .dueNow .sees .says)
 
-  pub stepping : (sets : List VariableSet) (i row : ℕ) (seen : Seen) → i < n → row ≡ rowInTurn which n i → DueSeen sets row seen
-      → (long : ℕ) → long ≡ suc n → Stepping which seen (given .partners) long
-  stepping sets i row seen h is d long l =
-      let below = due-below sets i row (seen .row .0) h is (d .0) in
+  pub stepping : Stepping which due (given .partners) sets
+  stepping =
+      let below = due-below in
+      let long = at .carried .walk .kept .long in
       record {
-        known = known sets i row seen h is d;
-        partnered = omega (arith, s .partnered);
+        known = known;
+        inHand = at .dueNow .inHand;
+        partnered = omega (arith, at .settles .partnered);
         within = omega arith;
-        taken = λ e. omega (arith, s .wired .taken _ below (ap (λ r. asksPartner which (partFor (r .kind))) (sym (d .1 .says)) ∙ e));
+        taken = λ e. omega (arith, at .settles .wired .taken p below (ap (λ r. asksPartner which (partFor (r .kind))) (sym (at .dueNow .sees .says)) ∙ e));
       }
 
-  pub turned-below : (sets : List VariableSet) (i row due : ℕ) → i < n → row ≡ rowInTurn which n i → Due which (partAt row) others sets row due
-      → (due < n) × (rowInTurn which n due < n)
-  turned-below sets i row due h is d = let below = due-below sets i row due h is d in (below, turn-below which n due below)
-
-  pub begun : (sets next : List VariableSet) → length sets ≡ suc n
-      → next ≡ set (replicate (length sets) empty) (startOf which n) (setAt (replicate (length sets) empty) (startOf which n) ∪ seed)
-      → Walk which given others n v seed next 0
-  begun sets next long is =
-      walk-starts which given others n v seed (s .proper) (s .wired) (replicate (length sets) empty) next (ap (λ m. replicate m empty) long) is
-
-  pub gone-on : (sets : List VariableSet) (i : ℕ) → Walk which given others n v seed sets i → i < n → (row : ℕ) (seen : Seen) (done : ℕ) → row ≡ rowInTurn which n i
-      → DueSeen sets row seen → (acts : Bool) → acts ≡ given .active (seen .row .0) → (next : List VariableSet)
-      → StoredFor which (rowSaid (seen .line)) acts (seen .row .0) (getD (given .partners) (seen .row .0) 0) sets next
-      → done ≡ rowInTurn which n (seen .row .0)
-      → Walk which given others n v seed next (done + 1) × (leftOf v n next (done + 1) < leftOf v n sets i)
+  pub gone-on : {acts : Bool} {next : List VariableSet} {stands done : ℕ} → Stepped which due acts (given .partners) sets next stands
+      → acts ≡ given .active p → done ≡ rowInTurn which n p
+      → Carried which given others n v next stands (done + 1) × (leftOf v n next (done + 1) < leftOf v n sets i)
   unfolding equationIn
-  gone-on sets i walk h row seen done is d acts active next stores turns =
-      let due = seen .row .0 in
-      rw (turns, add-one (rowInTurn which n due))
-      (walked which given others n v seed (s .proper) (s .wired) sets i h walk (partAt row) due (ap partAt is)
-      (subst (λ p. Due which (partAt row) others sets p due) is (d .0)) next (rw active at (stores _ (line-said sets i row seen h is d))))
-
-  pub ended : (sets : List VariableSet) (i : ℕ) → Walk which given others n v seed sets i → n ≤ i
-      → sets ≡ least v (suc n) (allEquations which given n seed)
-  ended sets i walk h = walk-ends which given others n v seed (s .proper) (s .wired) sets i walk h
+  gone-on {acts} {next} {stands} {done} stepped active turns =
+      let on = walked which given others n v _ (at .settles .proper) (at .settles .wired) sets i (at .below) (at .carried .walk) (partAt row) p (ap partAt (at .inTurn))
+      (subst (λ q. Due which (partAt row) others sets q p) (at .inTurn) (at .dueNow .isDue)) next (rw active at (stepped .stored _ line-said)) in
+      rw (turns, add-one (rowInTurn which n p))
+      (record { walk = on .0; inHand = stepped .stands ∙ ap (setAt next) (settled-next which n p due-below) }, on .1)
 
 -- ---- of the required variables, whose walk marks the rows
 
-module _ {given : Given} {others : List ℕ} {n v size : ℕ} (s : Settles Required given others n v size) where
-  pub due-upto : (sets : List VariableSet) (i row due : ℕ) → i < n → row ≡ rowInTurn Required n i
-      → Due Required (partFor (rowAt (given .words) (given .first + row * limit .rowWords) .kind)) others sets row due → due ≤ i
+module _ {given : Given} {others : List ℕ} {n v size : ℕ} {sets : List VariableSet} {own i row : ℕ} {due : DueRow}
+    (at : AtRow Required given others n v size sets own i row due) where
+  pub due-upto : due .seen .row .0 ≤ i
   unfolding rowInTurn
-  due-upto sets i row due h is (onward e brought) = omega arith
-  due-upto sets i row due h is (backward e ends more) =
-      let near = s .wired .back i h (rw is at ends) in
-      omega (arith, near .1, ap (λ p. getD others p 0) is)
+  due-upto = go (at .dueNow .isDue)
+    where
+      go : Due Required (partAt at row) others sets row (due .seen .row .0) → due .seen .row .0 ≤ i
+      go (onward e brought) = omega (arith, at .inTurn)
+      go (backward e ends more) =
+          let near = at .settles .wired .back i (at .below) (rw (at .inTurn) at ends) in
+          omega (arith, near .1, ap (λ q. getD others q 0) (at .inTurn))
 
-pub same-before : (acts : Bool) (l : SheetLine) (p c : ℕ) (sets next : List VariableSet) → Stored (equationOf Required acts l p c) sets next
-    → (k : ℕ) → k ≤ p → setAt next k ≡ setAt sets k
-unfolding settledPoint
-same-before acts l p c sets next stores k h =
-    let point = settled-of Required acts l p c in
-    rw stores (getD-set-other sets _ k _ empty (λ e. omega (arith, point)))
+  -- the sets up to the row's own point are as they were
+  pub same-behind : {acts : Bool} {next : List VariableSet} {stands : ℕ} → Stepped Required due acts (given .partners) sets next stands
+      → (k : ℕ) → k ≤ due .seen .row .0 → setAt next k ≡ setAt sets k
+  unfolding settledPoint
+  same-behind {acts} stepped k h =
+      let point = settled-of Required acts (lineIn (given .words) (given .first) (due .seen .row .0)) (due .seen .row .0) (getD (given .partners) (due .seen .row .0) 0) in
+      rw (stepped .stored _ (line-said at)) (getD-set-other sets _ k _ empty (λ e. omega (arith, point)))

@@ -42,11 +42,21 @@ own-place Varied n i h = refl
 own-place Useful n i h = omega arith
 own-place Required n i h = refl
 
-pub settled-place : (which : Which) (n i : ℕ) → i < n → settledPoint which (rowInTurn which n i) ≡ placeInTurn which n (suc i)
+settled-place : (which : Which) (n i : ℕ) → i < n → settledPoint which (rowInTurn which n i) ≡ placeInTurn which n (suc i)
 unfolding rowInTurn settledPoint placeInTurn
 settled-place Varied n i h = omega arith
 settled-place Useful n i h = refl
 settled-place Required n i h = omega arith
+
+pub start-place : (which : Which) (n : ℕ) → startOf which n ≡ placeInTurn which n 0
+unfolding startOf placeInTurn
+start-place Varied n = refl
+start-place Useful n = omega arith
+start-place Required n = refl
+
+pub settled-next : (which : Which) (n p : ℕ) → p < n → settledPoint which p ≡ placeInTurn which n (suc (rowInTurn which n p))
+settled-next which n p h =
+    ap (settledPoint which) (sym (turn-back which n p h)) ∙ settled-place which n (rowInTurn which n p) (turn-below which n p h)
 
 place-apart : (which : Which) (n i j : ℕ) → i ≤ n → j ≤ n → placeInTurn which n i ≡ placeInTurn which n j → i ≡ j
 unfolding placeInTurn

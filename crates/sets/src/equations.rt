@@ -105,16 +105,22 @@ fn joins(which: Which, part: Part) -> bool
     }
 }
 
-pub fn right_side(which: Which, seen: Seen, active: bool, sets: &[u64], partner: RowNumber) -> u64
-    requires { ⌜ Known seen × (partner .0 < wordValues) × (ownPoint which (seen .row .0) < length (now sets))
+// `own` is the set at the row's own point, which the caller has in hand.
+pub fn right_side(
+    which: Which,
+    seen: Seen,
+    active: bool,
+    own: u64,
+    sets: &[u64],
+    partner: RowNumber,
+) -> u64
+    requires { ⌜ Known seen × (partner .0 < wordValues) × (own ≡ setAt (now sets) (ownPoint which (seen .row .0)))
         × (asksPartner which (partFor (seen .line .kind)) ≡ true → ownPoint which (partner .0) < length (now sets)) ⌝ }
     ensures { λ r. ⌜ RightSide which (rowSaid (seen .line)) active (now (sets .entry)) (seen .row .0) (partner .0) r ⌝ }
 {
-    let row = seen.row;
     let line = seen.line;
     let form = seen.form;
     let part = form.3;
-    let own = own_set(which, sets, row);
     if kinds::assigns(part) {
         return transfers::transfer(which, transfers::operation_of(line, form), active, own);
     }

@@ -1,10 +1,13 @@
 // A byte of marks for every row, by the three sets at its points.
 ghost use mathlib.Core.Path.{_≡_};
 ghost use Prim.Native.Nat.{suc, _≤_, _<_};
+ghost use mathlib.Core.List.{List};
 ghost use lib.ListN.{length};
 ghost use Rattle.sets.specs.inner.RowWords.{rowOf, InMask, Reads, Gives};
 ghost use Rattle.sheet.specs.Rows.{SheetLine, sheetRowOf};
 ghost use Rattle.sheet.specs.Answers.{rowSaid};
+ghost use Rattle.sets.specs.VariableSets.{VariableSet};
+ghost use Rattle.sets.specs.Equations.{setAt};
 ghost use Rattle.sets.specs.inner.RowEquations.{Known};
 ghost use Rattle.sets.specs.MarkBytes.{weight, weightIf, bitOf};
 ghost use Rattle.sets.specs.inner.RowBytes.{byteFor, byteAt};
@@ -46,11 +49,11 @@ fn row_byte(row: Operation, varied: u64, useful: u64, required: u64) -> u8
         + weight_if(saved, SAVED)
 }
 
-pub fn byte_at(seen: Seen, varied: &[u64], useful: &[u64], required: &[u64]) -> u8
-    requires { ⌜ Known seen × (seen .row .0 < length (now varied)) × (suc (seen .row .0) < length (now useful))
-        × (seen .row .0 < length (now required)) ⌝ }
-    ensures { λ r. ⌜ ((l : SheetLine) → sheetRowOf l ≡ rowSaid (seen .line)
-        → r ≡ byteAt (now (varied .entry)) (now (useful .entry)) (now (required .entry)) (seen .row .0) l) ⌝ }
+// `needed` are the variables required before the row.
+pub fn byte_at(seen: Seen, varied: &[u64], useful: &[u64], needed: u64) -> u8
+    requires { ⌜ Known seen × (seen .row .0 < length (now varied)) × (suc (seen .row .0) < length (now useful)) ⌝ }
+    ensures { λ r. ⌜ ((required : List VariableSet) → needed ≡ setAt required (seen .row .0) → (l : SheetLine) → sheetRowOf l ≡ rowSaid (seen .line)
+        → r ≡ byteAt (now (varied .entry)) (now (useful .entry)) required (seen .row .0) l) ⌝ }
 {
     let row = seen.row;
     let line = seen.line;
@@ -61,6 +64,5 @@ pub fn byte_at(seen: Seen, varied: &[u64], useful: &[u64], required: &[u64]) -> 
     }
     let before = equations::set_at(varied, row.0);
     let after = equations::set_at(useful, row.0 + 1);
-    let needed = equations::set_at(required, row.0);
     row_byte(transfers::operation_of(line, form), before, after, needed)
 }

@@ -1,19 +1,15 @@
 // One of the three sets at every point: one walk over the rows in the set's direction, back from the far end of a repeat to its near end where it brings more.
 ghost use mathlib.Core.Path.{_≡_};
-ghost use Prim.Native.Nat.{suc, _+_, _*_, _≤_, _<_};
-ghost use lib.ListN.{getD, length, replicate, set};
-ghost use Rattle.sheet.specs.Bounds.{limit};
-ghost use Rattle.sheet.specs.Answers.{rowSaid};
-ghost use Rattle.sheet.specs.Reading.{rowAt};
-ghost use Rattle.sheet.specs.inner.Kinds.{partFor};
+ghost use Prim.Native.Nat.{suc, _≤_, _<_};
+ghost use lib.ListN.{length, replicate};
 ghost use Rattle.sets.specs.declared.Which.the-variants.{Varied, Useful, Required};
-ghost use Rattle.sets.specs.VariableSets.{empty, _∪_};
-ghost use Rattle.sets.specs.Equations.{least, setAt};
+ghost use Rattle.sets.specs.VariableSets.{empty};
+ghost use Rattle.sets.specs.Equations.{least};
 ghost use Rattle.sets.specs.inner.RowWords.{maskBits};
-ghost use Rattle.sets.specs.inner.RowEquations.{givenBy, noneActive, activeBy, lineIn, rowInTurn, Sees};
+ghost use Rattle.sets.specs.inner.RowEquations.{givenBy, noneActive, activeBy, lineIn, rowInTurn};
 ghost use Rattle.sets.specs.inner.RowEquations.{startOf, allEquations, hasRole, seedIn};
 ghost use Rattle.sets.specs.inner.RowBytes.{bytesOf, written};
-ghost use Rattle.sets.specs.inner.Walks.{endsOn, endsBack, endsRepeat, StoredFor, Due, Stepping, Looking, Settles};
+ghost use Rattle.sets.specs.inner.Walks.{endsOn, endsBack, endsRepeat, Grown, Looking, DueNow, Stepping, Stepped, Settles};
 use super::Extent;
 use super::Which;
 use super::equations;
@@ -24,24 +20,34 @@ use super::rows::Seen;
 use sheet::RowNumber;
 use sheet::kinds::Part;
 
-fn grow(sets: &mut [u64], point: usize, more: u64)
-    requires { ⌜ point < length (now sets) ⌝ }
-    ensures { λ r. ⌜ now (sets .exit) ≡ set (now (sets .entry)) point (setAt (now (sets .entry)) point ∪ more) ⌝ }
-{
-    let old = sets[point];
-    sets[point] = old | more;
+// A row whose equation is due, and the set at its own point. The set goes from row to row in hand: the row before has only just stored it, and to load it
+// again would wait for that.
+struct DueRow {
+    pub seen: Seen,
+    pub own: u64,
 }
 
-// One row's equation: its right side is put into the set that it settles.
-fn step(which: Which, seen: Seen, active: bool, partners: &[u16], sets: &mut [u64])
-    requires { ⌜ Stepping which seen (now partners) (length (now sets)) ⌝ }
-    ensures { λ r. ⌜ StoredFor which (rowSaid (seen .line)) active (seen .row .0) (getD (now (partners .entry)) (seen .row .0) 0)
-        (now (sets .entry)) (now (sets .exit)) ⌝ }
+// The answer is the set that the point has now.
+fn grow(sets: &mut [u64], point: usize, more: u64) -> u64
+    requires { ⌜ point < length (now sets) ⌝ }
+    ensures { λ r. ⌜ Grown (now (sets .entry)) point more (now (sets .exit)) r ⌝ }
 {
+    let old = sets[point];
+    let all = old | more;
+    sets[point] = all;
+    all
+}
+
+// One row's equation: its right side is put into the set that it settles, which is the answer.
+fn step(which: Which, due: DueRow, active: bool, partners: &[u16], sets: &mut [u64]) -> u64
+    requires { ⌜ Stepping which due (now partners) (now sets) ⌝ }
+    ensures { λ r. ⌜ Stepped which due active (now (partners .entry)) (now (sets .entry)) (now (sets .exit)) r ⌝ }
+{
+    let seen = due.seen;
     let row = seen.row;
     let partner = partners::partner_there(partners, row);
-    let right = equations::right_side(which, seen, active, sets, partner);
-    grow(sets, equations::settled_point(which, row), right);
+    let right = equations::right_side(which, seen, active, due.own, sets, partner);
+    grow(sets, equations::settled_point(which, row), right)
 }
 
 // Whether a row is where a walk leaves a repeat's body: from the first row on, and from the last row to the first.
@@ -88,11 +94,11 @@ fn row_due(
     first: usize,
     others: &[u16],
     sets: &[u64],
+    own: u64,
     row: RowNumber,
-) -> Seen
-    requires { ⌜ Looking which (now words) first (now others) (length (now sets)) (row .0) ⌝ }
-    ensures { λ r. ⌜ Due which (partFor (rowAt (now (words .entry)) (first + row .0 * limit .rowWords) .kind)) (now (others .entry)) (now (sets .entry))
-        (row .0) (r .row .0) × Sees (now (words .entry)) first r ⌝ }
+) -> DueRow
+    requires { ⌜ Looking which (now words) first (now others) (now sets) own (row .0) ⌝ }
+    ensures { λ r. ⌜ DueNow which (now (words .entry)) first (now (others .entry)) (now (sets .entry)) (row .0) r ⌝ }
 {
     let seen = rows::look(words, first, row);
     let form = seen.form;
@@ -100,13 +106,17 @@ fn row_due(
     if ends_repeat(which, part) {
         let near = partners::partner_there(others, row);
         let kept = equations::set_at(sets, equations::settled_point(which, near));
-        let brought = equations::own_set(which, sets, row);
-        if (kept | brought) != kept {
-            return rows::look(words, first, near);
+        if (kept | own) != kept {
+            let entered = rows::look(words, first, near);
+            let before = equations::own_set(which, sets, near);
+            return DueRow {
+                seen: entered,
+                own: before,
+            };
         }
-        return seen;
+        return DueRow { seen, own };
     }
-    seen
+    DueRow { seen, own }
 }
 
 fn row_in_turn(which: Which, rows: usize, turn: usize) -> RowNumber
@@ -166,16 +176,16 @@ fn clear(sets: &mut [u64])
     }
 }
 
-// All sets empty but that at the start point.
-fn begin(which: Which, words: &[u16], extent: Extent, sets: &mut [u64])
+// All sets empty but that at the start point, which is the answer.
+fn begin(which: Which, words: &[u16], extent: Extent, sets: &mut [u64]) -> u64
     requires { ⌜ (extent .variables ≤ maskBits) × (extent .variables < length (now words)) × (extent .rows < length (now sets)) ⌝ }
-    ensures { λ r. ⌜ now (sets .exit) ≡ set (replicate (length (now (sets .entry))) empty) (startOf which (extent .rows))
-        (setAt (replicate (length (now (sets .entry))) empty) (startOf which (extent .rows)) ∪ seedIn which (now (words .entry)) (extent .variables)) ⌝ }
+    ensures { λ r. ⌜ Grown (replicate (length (now (sets .entry))) empty) (startOf which (extent .rows))
+        (seedIn which (now (words .entry)) (extent .variables)) (now (sets .exit)) r ⌝ }
 {
     clear(sets);
     let seed = seed_of(which, words, extent.variables);
     let start = start_of(which, extent.rows);
-    grow(sets, start, seed);
+    grow(sets, start, seed)
 }
 
 pub fn settle_varied(
@@ -191,13 +201,13 @@ pub fn settle_varied(
         (allEquations Varied (givenBy (now (words .entry)) (extent .first) noneActive (now (partners .entry)))
         (extent .rows) (seedIn Varied (now (words .entry)) (extent .variables))) ⌝ }
 {
-    begin(Which::Varied, words, extent, sets);
+    let mut own = begin(Which::Varied, words, extent, sets);
     let mut turn: usize = 0;
     while turn < extent.rows {
         let here = row_in_turn(Which::Varied, extent.rows, turn);
-        let seen = row_due(Which::Varied, words, extent.first, others, sets, here);
-        let row = seen.row;
-        step(Which::Varied, seen, false, partners, sets);
+        let due = row_due(Which::Varied, words, extent.first, others, sets, own, here);
+        own = step(Which::Varied, due, false, partners, sets);
+        let row = due.seen.row;
         let done = row_in_turn(Which::Varied, extent.rows, row.0);
         turn = done.0 + 1;
     }
@@ -216,13 +226,13 @@ pub fn settle_useful(
         (allEquations Useful (givenBy (now (words .entry)) (extent .first) noneActive (now (partners .entry)))
         (extent .rows) (seedIn Useful (now (words .entry)) (extent .variables))) ⌝ }
 {
-    begin(Which::Useful, words, extent, sets);
+    let mut own = begin(Which::Useful, words, extent, sets);
     let mut turn: usize = 0;
     while turn < extent.rows {
         let here = row_in_turn(Which::Useful, extent.rows, turn);
-        let seen = row_due(Which::Useful, words, extent.first, others, sets, here);
-        let row = seen.row;
-        step(Which::Useful, seen, false, partners, sets);
+        let due = row_due(Which::Useful, words, extent.first, others, sets, own, here);
+        own = step(Which::Useful, due, false, partners, sets);
+        let row = due.seen.row;
         let done = row_in_turn(Which::Useful, extent.rows, row.0);
         turn = done.0 + 1;
     }
@@ -248,17 +258,25 @@ pub fn settle_required(
         × (now (marks .exit) ≡ written (bytesOf (now (varied .entry)) (now (useful .entry)) (now (sets .exit)) (lineIn (now (words .entry)) (extent .first)))
         (extent .rows) (now (marks .entry))) ⌝ }
 {
-    begin(Which::Required, words, extent, sets);
+    let mut own = begin(Which::Required, words, extent, sets);
     let mut turn: usize = 0;
     while turn < extent.rows {
         let here = row_in_turn(Which::Required, extent.rows, turn);
-        let seen = row_due(Which::Required, words, extent.first, others, sets, here);
-        let row = seen.row;
-        let byte = marks::byte_at(seen, varied, useful, sets);
+        let due = row_due(
+            Which::Required,
+            words,
+            extent.first,
+            others,
+            sets,
+            own,
+            here,
+        );
+        let row = due.seen.row;
+        let byte = marks::byte_at(due.seen, varied, useful, due.own);
         let number = row.0;
         marks[number] = byte;
         let active = marks::is_active(byte);
-        step(Which::Required, seen, active, partners, sets);
+        own = step(Which::Required, due, active, partners, sets);
         let done = row_in_turn(Which::Required, extent.rows, row.0);
         turn = done.0 + 1;
     }

@@ -5,11 +5,12 @@ use mathlib.Core.Path.{_≡_}
 use mathlib.Core.Bool.{Bool, true, false, _||_}
 use mathlib.Core.List.{List}
 use lib.ListN.{getD, set, length as List·length}
-use Rattle.sheet.specs.Rows.{SheetLine, Row, sheetRowOf}
+use Rattle.sheet.specs.Answers.{rowSaid}
+use Rattle.sheet.specs.Rows.{SheetLine, sheetRowOf}
 use Rattle.sheet.specs.inner.Kinds.{partFor}
 use Rattle.sheet.specs.declared.kinds.Part.{Part}
 use Rattle.sheet.specs.declared.kinds.Part.the-variants as part
-use Rattle.sets.specs.declared.rows.Seen.{Seen}
+use Rattle.sets.specs.declared.walk.DueRow.{DueRow}
 use Rattle.sets.specs.declared.Which.{Which}
 use Rattle.sets.specs.declared.Which.the-variants.{Varied, Useful, Required}
 use Rattle.sets.specs.VariableSets.{VariableSet, _∪_}
@@ -17,7 +18,7 @@ use Rattle.sets.specs.Equations.{Equation, joins, pointOf, rightSide, se
 use Rattle.sets.specs.inner.ProperEquations.{Proper}
 use Rattle.sets.specs.inner.RowWords.{maskBits}
 use Rattle.sets.specs.inner.RowEquations.{Given, rowIn, equationOf, equationIn, rowInTurn, ownPoint, settledPoint, splits, joinsBy}
-use Rattle.sets.specs.inner.RowEquations.{RowThere, Readable, AllReadable, Known, allEquations, seedIn}
+use Rattle.sets.specs.inner.RowEquations.{RowThere, Readable, AllReadable, Sees, Known, allEquations, seedIn}
 use Rattle.sheet.specs.Bounds.{limit}
 use Rattle.sheet.specs.Reading.{rowAt}
 
@@ -100,24 +101,38 @@ pub data Due (which : Which) (part : Part) (others : List ℕ) (sets : List Vari
   backward : due ≡ getD others row 0 → endsRepeat which part ≡ true → (Brought which sets (getD others row 0) row → ⊥)
       → Due which part others sets row due
 
--- the same of the row's line
-abbrev pub StoredFor : Which → Row → (active : Bool) → (p partner : ℕ) → (before after : List VariableSet) → Type 0
-StoredFor which row active p c before after = (l : SheetLine) → sheetRowOf l ≡ row → Stored (equationOf which active l p c) before after
+-- the set at a point grew, and r is what stands there now
+pub record Grown (before : List VariableSet) (point : ℕ) (more : VariableSet) (after : List VariableSet) (r : VariableSet) : Type 0 where
+  pub stored : after ≡ set before point (setAt before point ∪ more)
+  pub stands : r ≡ setAt after point
 
--- what the code needs to store a row's equation into so many sets
-pub record Stepping (which : Which) (seen : Seen) (partners : List ℕ) (size : ℕ) : Type 0 where
-  pub known : Known seen
-  pub partnered : seen .row .0 < List·length partners
-  pub within : suc (seen .row .0) < size
-  pub taken : asksPartner which (partFor (seen .line .kind)) ≡ true → suc (getD partners (seen .row .0) 0) < size
-
--- and to see which row's equation is due
-pub record Looking (which : Which) (words : List ℕ) (first : ℕ) (others : List ℕ) (size row : ℕ) : Type 0 where
+-- what the code needs to see which row's equation is due
+pub record Looking (which : Which) (words : List ℕ) (first : ℕ) (others : List ℕ) (sets : List VariableSet) (own : VariableSet) (row : ℕ) : Type 0 where
   pub readable : Readable words first row
   pub othersThere : row < List·length others
-  pub within : suc row < size
+  pub inHand : own ≡ setAt sets (ownPoint which row)
   pub back : endsRepeat which (partFor (rowAt words (first + row * limit .rowWords) .kind)) ≡ true
-      → let near = getD others row 0 in (suc near < size) × RowThere words first near
+      → let near = getD others row 0 in (suc near < List·length sets) × RowThere words first near
+
+-- what it sees
+pub record DueNow (which : Which) (words : List ℕ) (first : ℕ) (others : List ℕ) (sets : List VariableSet) (row : ℕ) (due : DueRow) : Type 0 where
+  pub isDue : Due which (partFor (rowAt words (first + row * limit .rowWords) .kind)) others sets row (due .seen .row .0)
+  pub sees : Sees words first (due .seen)
+  pub inHand : due .own ≡ setAt sets (ownPoint which (due .seen .row .0))
+
+-- what it needs to store that row's equation
+pub record Stepping (which : Which) (due : DueRow) (partners : List ℕ) (sets : List VariableSet) : Type 0 where
+  pub known : Known (due .seen)
+  pub inHand : due .own ≡ setAt sets (ownPoint which (due .seen .row .0))
+  pub partnered : due .seen .row .0 < List·length partners
+  pub within : suc (due .seen .row .0) < List·length sets
+  pub taken : asksPartner which (partFor (due .seen .line .kind)) ≡ true → suc (getD partners (due .seen .row .0) 0) < List·length sets
+
+-- it is stored, and r is what stands now at the point that the row settles
+pub record Stepped (which : Which) (due : DueRow) (active : Bool) (partners : List ℕ) (before after : List VariableSet) (r : VariableSet) : Type 0 where
+  pub stored : (l : SheetLine) → sheetRowOf l ≡ rowSaid (due .seen .line)
+      → Stored (equationOf which active l (due .seen .row .0) (getD partners (due .seen .row .0) 0)) before after
+  pub stands : r ≡ setAt after (settledPoint which (due .seen .row .0))
 
 -- what the code needs to settle the sets
 pub record Settles (which : Which) (given : Given) (others : List ℕ) (rows variables length : ℕ) : Type 0 where

@@ -11,18 +11,15 @@ use Rattle.sets.proofs.RightSides.{assigned, at-else, in-block, asks-el
 use Rattle.sets.proofs.equations.right_side.Statement.{statement}
 use Rattle.sets.proofs.equations.right_side.Tie as tie
 
-abbrev start : tie.After-own-set → tie.Start
-start c = c .before .before .before .before .before
+abbrev start : tie.After-assigns → tie.Start
+start c = c .before .before .before .before
 
-abbrev sets : tie.After-own-set → List VariableSet
+abbrev sets : tie.After-assigns → List VariableSet
 sets c = now (start c .args .sets)
 
 -- what the row is to the blocks, from the table of kinds
-part : (c : tie.After-own-set) → start c .args .seen .form .3 ≡ partFor (start c .args .seen .line .kind)
+part : (c : tie.After-assigns) → start c .args .seen .form .3 ≡ partFor (start c .args .seen .line .kind)
 part c = ap (λ form. form .3) (start c .pre .0 .formed)
-
-own-set-requires : tie.Need-own-set-requires
-own-set-requires c κs = search needs
 
 assigns-requires : tie.Need-assigns-requires
 assigns-requires c κs = search needs
@@ -33,50 +30,49 @@ operation-of-requires c κs = search needs
 transfer-requires : tie.Need-transfer-requires
 transfer-requires c κs =
     let judged = c .before .before in
-    let own = judged .before in
-    let isAssigned = ap assigns (sym (part own)) ∙ sym (judged .assigns .ensures) ∙ c .before .if1 .taken in
-    (rw (c .operation-of .ensures .0) (start own .pre .0 .small isAssigned), c .operation-of .ensures .1)
+    let isAssigned = ap assigns (sym (part judged)) ∙ sym (judged .assigns .ensures) ∙ c .before .if1 .taken in
+    (rw (c .operation-of .ensures .0) (start judged .pre .0 .small isAssigned), c .operation-of .ensures .1)
 
 returns : tie.Need-returns
 returns c =
     let judged = c .before .before .before in
-    let own = judged .before in
-    assigned _ _ (sets own) _ _ _ _ (part own) _ _ _ (own .own-set .ensures) (c .before .operation-of .ensures .0)
+    assigned _ _ (sets judged) _ _ _ _ (part judged) _ _ _ (start judged .pre .2) (c .before .operation-of .ensures .0)
     (sym (judged .assigns .ensures) ∙ c .before .before .if1 .taken) (c .transfer .ensures)
 
 splits-requires : tie.Need-splits-requires
 splits-requires c κs = search needs
 
-own-set-requires-2 : tie.Need-own-set-requires-2
-own-set-requires-2 c κs =
+own-set-requires : tie.Need-own-set-requires
+own-set-requires c κs =
     let split = c .before in
-    let own = split .before .before .before in
-    let args = start own .args in
-    (start own .pre .1, start own .pre .3 (asks-else (args .which) (partFor (args .seen .line .kind)) (ap splits (sym (part own)) ∙ sym (split .splits .ensures) ∙ c .if2 .taken)))
+    let judged = split .before .before in
+    let first = start judged in
+    let isElse = ap splits (sym (part judged)) ∙ sym (split .splits .ensures) ∙ c .if2 .taken in
+    (first .pre .1, first .pre .3 (asks-else (first .args .which) (partFor (first .args .seen .line .kind)) isElse))
 
 returns-2 : tie.Need-returns-2
 returns-2 c =
     let split = c .before .before in
-    let own = split .before .before .before in
-    at-else _ _ (sets own) _ _ _ _ (part own) _ (c .own-set2 .ensures) (sym (split .splits .ensures) ∙ c .before .if2 .taken)
+    let judged = split .before .before in
+    at-else _ _ (sets judged) _ _ _ _ (part judged) _ (c .own-set .ensures) (sym (split .splits .ensures) ∙ c .before .if2 .taken)
 
 joins-requires : tie.Need-joins-requires
 joins-requires c κs = search needs
 
-own-set-requires-3 : tie.Need-own-set-requires-3
-own-set-requires-3 c κs =
+own-set-requires-2 : tie.Need-own-set-requires-2
+own-set-requires-2 c κs =
     let joins = c .before in
-    let own = joins .before .before .before .before .before in
-    let args = start own .args in
-    (start own .pre .1, start own .pre .3 (asks-joined (args .which) (partFor (args .seen .line .kind)) (ap (joinsBy (args .which)) (sym (part own)) ∙ sym (joins .joins .ensures) ∙ c .if3 .taken)))
+    let judged = joins .before .before .before .before in
+    let first = start judged in
+    let isJoin = ap (joinsBy (first .args .which)) (sym (part judged)) ∙ sym (joins .joins .ensures) ∙ c .if3 .taken in
+    (first .pre .1, first .pre .3 (asks-joined (first .args .which) (partFor (first .args .seen .line .kind)) isJoin))
 
 returns-3 : tie.Need-returns-3
 returns-3 c =
     let joins = c .before .before in
     let split = joins .before .before in
     let judged = split .before .before in
-    let own = judged .before in
-    in-block _ _ (sets own) _ _ _ _ (part own) _ _ _ (own .own-set .ensures) (c .own-set3 .ensures)
+    in-block _ _ (sets judged) _ _ _ _ (part judged) _ _ _ (start judged .pre .2) (c .own-set2 .ensures)
     (sym (judged .assigns .ensures) ∙ split .before .if1 .left) (sym (split .splits .ensures) ∙ joins .before .if2 .left)
     (rw (sym (joins .joins .ensures) ∙ c .before .if3 .taken))
 
@@ -85,8 +81,7 @@ returns-4 c =
     let joins = c .before in
     let split = joins .before .before in
     let judged = split .before .before in
-    let own = judged .before in
-    in-block _ _ (sets own) _ _ _ _ (part own) _ _ _ (own .own-set .ensures) refl
+    in-block _ _ (sets judged) _ _ _ _ (part judged) _ _ _ (start judged .pre .2) refl
     (sym (judged .assigns .ensures) ∙ split .before .if1 .left) (sym (split .splits .ensures) ∙ joins .before .if2 .left)
     (rw (sym (joins .joins .ensures) ∙ c .if3 .left))
 
@@ -94,15 +89,14 @@ pub right-side-spec : {M : Type 1} → statement M
 right-side-spec =
     tie.close
     (tie.spec
-    own-set-requires
     assigns-requires
     operation-of-requires
     transfer-requires
     returns
     splits-requires
-    own-set-requires-2
+    own-set-requires
     returns-2
     joins-requires
-    own-set-requires-3
+    own-set-requires-2
     returns-3
     returns-4)

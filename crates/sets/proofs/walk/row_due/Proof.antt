@@ -54,46 +54,60 @@ set-at-requires c κs =
     rw (c .settled-point .ensures)
     (settled-below (start ends .args .which) _ _ (rw (partner .partner-there .ensures .0) (start ends .pre .back (is-end ends (partner .before .if1 .taken)) .0)))
 
-own-set-requires : tie.Need-own-set-requires
-own-set-requires c κs =
-    let first = start (c .before .before .before .before) in
-    (first .pre .readable .numbered, own-below (first .args .which) _ _ (first .pre .within))
-
-kept-is : (c : tie.After-own-set) → let first = start (c .before .before .before .before .before) in let args = first .args in
-    c .before .set-at .result ≡ setAt (now (args .sets)) (settledPoint (args .which) (getD (now (args .others)) (args .row .0) 0))
+kept-is : (c : tie.After-set-at) → let args = start (c .before .before .before .before) .args in
+    c .set-at .result ≡ setAt (now (args .sets)) (settledPoint (args .which) (getD (now (args .others)) (args .row .0) 0))
 kept-is c =
-    let point = c .before .before in
-    let args = start (point .before .before .before) .args in
-    c .before .set-at .ensures
-    ∙ ap (setAt (now (args .sets))) (point .settled-point .ensures ∙ ap (settledPoint (args .which)) (point .before .partner-there .ensures .0))
+    let point = c .before in
+    let partner = point .before in
+    let args = start (partner .before .before) .args in
+    c .set-at .ensures ∙ ap (setAt (now (args .sets))) (point .settled-point .ensures ∙ ap (settledPoint (args .which)) (partner .partner-there .ensures .0))
 
 look-requires-2 : tie.Need-look-requires-2
 look-requires-2 c κs =
-    let partner = c .before .before .before .before in
+    let partner = c .before .before .before in
     let ends = partner .before .before in
     rw (partner .partner-there .ensures .0) (start ends .pre .back (is-end ends (partner .before .if1 .taken)) .1)
 
+own-set-requires : tie.Need-own-set-requires
+own-set-requires c κs =
+    let partner = c .before .before .before .before in
+    let ends = partner .before .before in
+    let near = partner .partner-there .ensures in
+    (near .1, own-below (start ends .args .which) _ _ (rw (near .0) (start ends .pre .back (is-end ends (partner .before .if1 .taken)) .0)))
+
 returns : tie.Need-returns
 returns c =
-    let own = c .before .before in
-    let partner = own .before .before .before in (
-      backward (c .look2 .ensures .0 ∙ partner .partner-there .ensures .0) (is-end (partner .before .before) (partner .before .if1 .taken))
-          (λ e. c .before .if2 .taken (rw (kept-is own, own .own-set .ensures) e)),
-      c .look2 .ensures .1,
-    )
+    let entered = c .before in
+    let more = entered .before in
+    let partner = more .before .before .before in
+    let ends = partner .before .before in
+    let look = entered .look2 .ensures in
+    record {
+      isDue =
+          backward (look .0 ∙ partner .partner-there .ensures .0) (is-end ends (partner .before .if1 .taken))
+          (λ e. more .if2 .taken (rw (sym (kept-is (more .before)), sym (start ends .pre .inHand)) at e));
+      sees = look .1;
+      inHand = rw (look .0) (c .own-set .ensures);
+    }
 
 returns-2 : tie.Need-returns-2
 returns-2 c =
-    let own = c .before in
-    let look = seen (own .before .before .before .before .before) .look .ensures in
-    (onward (look .0) (λ e. rw (sym (kept-is own), sym (own .own-set .ensures)) (c .if2 .left)), look .1)
+    let kept = c .before in
+    let ends = kept .before .before .before .before in
+    let look = seen ends .look .ensures in
+    let own = start ends .pre .inHand in
+    record { isDue = onward (look .0) (λ e. rw (sym (kept-is kept), sym own) (c .if2 .left)); sees = look .1; inHand = rw (look .0) own }
 
 returns-3 : tie.Need-returns-3
 returns-3 c =
     let ends = c .before in
     let look = seen ends .look .ensures in
     let which = start ends .args .which in
-    (onward (look .0) (λ e. never (sym (c .if1 .left) ∙ ends .ends-repeat .ensures ∙ ap (endsRepeat which) (part-is ends) ∙ e)), look .1)
+    record {
+      isDue = onward (look .0) (λ e. never (sym (c .if1 .left) ∙ ends .ends-repeat .ensures ∙ ap (endsRepeat which) (part-is ends) ∙ e));
+      sees = look .1;
+      inHand = rw (look .0) (start ends .pre .inHand);
+    }
 
 pub row-due-spec : {M : Type 1} → statement M
 row-due-spec =
@@ -104,8 +118,8 @@ row-due-spec =
     partner-there-requires
     settled-point-requires
     set-at-requires
-    own-set-requires
     look-requires-2
+    own-set-requires
     returns
     returns-2
     returns-3)

@@ -1,22 +1,22 @@
--- `sets::walk::settle_useful` meets its contract: the loop's invariant: what is passed holds, and nothing has more than the least sets.
--- The measure: each way back adds a member, which is worth a whole walk, and each other row leaves one row fewer.
+-- `sets::walk::settle_useful` meets its contract: the loop's invariant: what is passed holds, nothing has more than the least sets, and the next row's own set is
+-- in hand. The measure: each way back adds a member, which is worth a whole walk, and each other row leaves one row fewer.
 use native.Mathlib.Omega.{arith}
 use mathlib.Core.Path.{refl, sym, _∙_}
 use denote.Ref.{now}
+use lib.ListN.{length}
 use Rattle.sets.specs.declared.Which.the-variants.{Useful}
-use Rattle.sets.specs.inner.RowEquations.{givenBy, noneActive, seedIn}
-use Rattle.sets.proofs.Walking.{Walk, leftOf}
-use Rattle.sets.proofs.WalkNeeds.{looking, stepping, turned-below, begun, gone-on, ended}
+use Rattle.sets.specs.inner.RowEquations.{givenBy, noneActive}
+use Rattle.sets.proofs.Walking.{leftOf}
+use Rattle.sets.proofs.WalkNeeds.{Carried, begun, looking, ended, AtRow, stepping, due-below, turned-below, gone-on}
 use Rattle.sets.proofs.walk.settle_useful.Statement.{statement}
 use Rattle.sets.proofs.walk.settle_useful.Tie as tie
 
 abbrev Inv-loop : tie.InvT-loop
-Inv-loop words extent partners others sets₀ turn₀ sets turn =
-    Walk Useful (givenBy words (extent .first) noneActive partners) others (extent .rows) (extent .variables)
-    (seedIn Useful words (extent .variables)) sets turn
+Inv-loop words extent partners others sets₀ own₀ turn₀ sets own turn =
+    Carried Useful (givenBy words (extent .first) noneActive partners) others (extent .rows) (extent .variables) sets own turn
 
 abbrev μ-loop : tie.MeasureT-loop
-μ-loop words extent partners others sets₀ turn₀ sets turn = leftOf (extent .variables) (extent .rows) sets turn
+μ-loop words extent partners others sets₀ own₀ turn₀ sets own turn = leftOf (extent .variables) (extent .rows) sets turn
 
 abbrev start : tie.At-loop Inv-loop μ-loop → tie.Start Inv-loop μ-loop
 start c = c .before .before .before .before .before .before .before .before .before
@@ -24,14 +24,31 @@ start c = c .before .before .before .before .before .before .before .before .bef
 abbrev looked : tie.After-row-due Inv-loop μ-loop → tie.At-loop Inv-loop μ-loop
 looked c = c .before .before .before .before .before
 
+at : (c : tie.After-row-due Inv-loop μ-loop) → let loop = looked c in let args = start loop .args in
+    AtRow Useful (givenBy (now (args .words)) (args .extent .first) noneActive (now (args .partners))) (now (args .others)) (args .extent .rows)
+    (args .extent .variables) (length (now (args .sets))) (loop .loop .sets) (loop .loop .own) (loop .loop .turn)
+    (c .before .before .row-in-turn .result .0) (c .row-due .result)
+at c =
+    let turned = c .before .before in
+    record {
+      settles = start (looked c) .pre;
+      carried = looked c .loop .inv;
+      below = turned .before .if1 .taken;
+      inTurn = turned .row-in-turn .ensures;
+      dueNow = c .row-due .ensures;
+    }
+
+abbrev due : tie.After-row-in-turn2 Inv-loop μ-loop → tie.After-row-due Inv-loop μ-loop
+due c = c .before .before .before .before .before .before
+
 begin-requires : tie.Need-begin-requires Inv-loop μ-loop
 begin-requires c κs = let pre = c .before .before .before .before .before .pre in (pre .variablesSmall, pre .rolesThere, omega (arith, pre .long))
 
 loop-holds : tie.Need-loop-holds Inv-loop μ-loop
 loop-holds c =
     let begins = c .before .before in
-    let first = begins .before .before .before .before .before .before in
-    begun (first .pre) (now (first .args .sets)) _ (first .pre .long) (begins .begin .ensures)
+    let pre = begins .before .before .before .before .before .before .pre in
+    begun pre (pre .long) (begins .begin .ensures)
 
 row-in-turn-requires : tie.Need-row-in-turn-requires Inv-loop μ-loop
 row-in-turn-requires c κs = c .if1 .taken
@@ -40,52 +57,32 @@ row-due-requires : tie.Need-row-due-requires Inv-loop μ-loop
 row-due-requires c κs =
     let turned = c .before in
     let loop = turned .before .before .before in
-    looking (start loop .pre) _ _ (turned .before .if1 .taken) (turned .row-in-turn .ensures) _ (loop .loop .inv .kept .long)
+    looking (start loop .pre) (loop .loop .inv) (turned .before .if1 .taken) (turned .row-in-turn .ensures)
 
 step-requires : tie.Need-step-requires Inv-loop μ-loop
-step-requires c κs =
-    let due = c .before .before in
-    let turned = due .before .before in
-    let loop = looked due in
-    stepping (start loop .pre) _ _ _ _ (turned .before .if1 .taken) (turned .row-in-turn .ensures) (due .row-due .ensures) _
-    (loop .loop .inv .kept .long)
+step-requires c κs = stepping (at (c .before))
 
 row-in-turn-requires-2 : tie.Need-row-in-turn-requires-2 Inv-loop μ-loop
-row-in-turn-requires-2 c κs =
-    let due = c .before .before .before .before .before in
-    let turned = due .before .before in
-    turned-below (start (looked due) .pre) _ _ _ _ (turned .before .if1 .taken) (turned .row-in-turn .ensures) (due .row-due .ensures .0) .0
+row-in-turn-requires-2 c κs = due-below (at (c .before .before .before .before .before))
 
 add-turn : tie.Need-add-turn Inv-loop μ-loop
-add-turn c =
-    let due = c .before .before .before .before .before .before .before in
-    let turned = due .before .before in
-    let below = turned-below (start (looked due) .pre) _ _ _ _ (turned .before .if1 .taken) (turned .row-in-turn .ensures) (due .row-due .ensures .0) in
-    omega (arith, c .before .row-in-turn2 .ensures, below .1)
+add-turn c = omega (arith, c .before .row-in-turn2 .ensures, turned-below (at (due (c .before))))
 
 loop-less : tie.Need-loop-less Inv-loop μ-loop
 loop-less c =
-    let stepped = c .before .before .before .before in
-    let due = c .before .before .before .before .before .before .before in
-    let turned = due .before .before in
-    let loop = looked due in
-    gone-on (start loop .pre) _ _ (loop .loop .inv) (turned .before .if1 .taken) _ _ _ (turned .row-in-turn .ensures) (due .row-due .ensures)
-    _ refl _ (stepped .step .ensures) (c .before .row-in-turn2 .ensures) .1
+    let turned = c .before in
+    gone-on (at (due turned)) (turned .before .before .before .before .step .ensures) refl (turned .row-in-turn2 .ensures) .1
 
 loop-again : tie.Need-loop-again Inv-loop μ-loop
 loop-again c =
-    let stepped = c .before .before .before .before in
-    let due = c .before .before .before .before .before .before .before in
-    let turned = due .before .before in
-    let loop = looked due in
-    gone-on (start loop .pre) _ _ (loop .loop .inv) (turned .before .if1 .taken) _ _ _ (turned .row-in-turn .ensures) (due .row-due .ensures)
-    _ refl _ (stepped .step .ensures) (c .before .row-in-turn2 .ensures) .0
+    let turned = c .before in
+    gone-on (at (due turned)) (turned .before .before .before .before .step .ensures) refl (turned .row-in-turn2 .ensures) .0
 
 same-length : tie.Need-same-length Inv-loop μ-loop
-same-length c = let loop = c .before .before in loop .loop .inv .kept .long ∙ sym (start loop .pre .long)
+same-length c = let loop = c .before .before in loop .loop .inv .walk .kept .long ∙ sym (start loop .pre .long)
 
 returns : tie.Need-returns Inv-loop μ-loop
-returns c = let loop = c .before .before in ended (start loop .pre) _ _ (loop .loop .inv) (c .if1 .left)
+returns c = let loop = c .before .before in ended (start loop .pre) (loop .loop .inv) (c .if1 .left)
 
 pub settle-useful-spec : {M : Type 1} → statement M
 settle-useful-spec =

@@ -6,7 +6,7 @@ use Rattle.sets.proofs.walk.step.Statement.{statement}
 use Rattle.sets.proofs.walk.step.Tie as tie
 
 abbrev start : tie.After-partner-there → tie.Start
-start c = c .before .before .before .before
+start c = c .before .before .before .before .before
 
 partner-there-requires : tie.Need-partner-there-requires
 partner-there-requires c κs = search needs
@@ -14,9 +14,8 @@ partner-there-requires c κs = search needs
 right-side-requires : tie.Need-right-side-requires
 right-side-requires c κs =
     let first = start (c .before) in
-    let below = own-below (first .args .which) in
     let partner = c .before .partner-there .ensures in
-    (first .pre .known, partner .1, below _ _ (first .pre .within), λ e. below _ _ (rw (partner .0) (first .pre .taken e)))
+    (first .pre .known, partner .1, first .pre .inHand, λ e. own-below (first .args .which) _ _ (rw (partner .0) (first .pre .taken e)))
 
 settled-point-requires : tie.Need-settled-point-requires
 settled-point-requires c κs = search needs
@@ -30,13 +29,19 @@ same-length : tie.Need-same-length
 same-length c = search needs
 
 returns : tie.Need-returns
-returns c l e =
-    let found = c .before .before .before .before .before in
+returns c =
+    let grown = c .before .before in
+    let settled = grown .before in
+    let found = settled .before .before in
     let partner = found .before .before in
     let args = start partner .args in
-    let p = args .seen .row .0 in
-    let point = c .before .before .before .settled-point .ensures ∙ settled-of (args .which) (args .active) l p (partner .partner-there .result .0) in
-    rw (sym (partner .partner-there .ensures .0), sym (found .right-side .ensures l e), sym point) (c .before .before .grow .ensures)
+    let p = args .due .seen .row .0 in
+    record {
+      stored = λ l e.
+          let point = settled .settled-point .ensures ∙ settled-of (args .which) (args .active) l p (partner .partner-there .result .0) in
+          rw (sym (partner .partner-there .ensures .0), sym (found .right-side .ensures l e), sym point) (grown .grow .ensures .stored);
+      stands = rw (sym (settled .settled-point .ensures)) (grown .grow .ensures .stands);
+    }
 
 pub step-spec : {M : Type 1} → statement M
 step-spec =
