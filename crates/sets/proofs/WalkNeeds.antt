@@ -11,7 +11,8 @@ use Rattle.sheet.specs.Bounds.{limit}
 use Rattle.sheet.specs.Reading.{rowAt}
 use Rattle.sheet.specs.Answers.{rowSaid}
 use Rattle.sheet.specs.Rows.{sheetRowOf}
-use Rattle.sheet.specs.inner.Kinds.{partFor}
+use Rattle.sheet.specs.inner.Kinds.{allForms, partFor}
+use Rattle.sheet.specs.declared.kinds.Form.{Form}
 use Rattle.sheet.specs.declared.kinds.Part.{Part}
 use Rattle.sets.specs.declared.walk.DueRow.{DueRow}
 use Rattle.sets.specs.declared.Which.{Which}
@@ -37,11 +38,12 @@ module _ {which : Which} {given : Given} {others : List ℕ} {n v size : ℕ} (s
         inHand = grown .stands ∙ ap (setAt next) (start-place which n);
       }
 
-  pub looking : {sets : List VariableSet} {own i row : ℕ} → Carried which given others n v sets own i → i < n → row ≡ rowInTurn which n i
-      → Looking which (given .words) (given .first) others sets own row
-  looking {sets} {own} {i} {row} carried h is =
+  pub looking : {forms : List Form} {sets : List VariableSet} {own i row : ℕ} → forms ≡ allForms → Carried which given others n v sets own i → i < n → row ≡ rowInTurn which n i
+      → Looking which forms (given .words) (given .first) others sets own row
+  looking {forms} {sets} {own} {i} {row} table carried h is =
       let below : row < n = rw is (turn-below which n i h) in
       record {
+        tableIs = table;
         readable = s .readable row below;
         othersThere = omega (arith, s .othersThere);
         inHand = rw (is, own-place which n i h) (carried .inHand);

@@ -9,6 +9,7 @@ ghost use Rattle.sets.specs.inner.PartnerPass.{found, foundBy, PartnersF
 use super::Extent;
 use super::rows;
 use sheet::RowNumber;
+use sheet::kinds;
 use sheet::kinds::Part;
 
 fn partner_of(partners: &[u16], row: RowNumber) -> RowNumber
@@ -85,12 +86,13 @@ pub fn find_partners(words: &[u16], extent: Extent, came: &mut [u16], goes: &mut
     ensures { λ r. ⌜ PartnersFound (lineIn (now (words .entry)) (extent .first)) (extent .rows)
         (now (came .entry)) (now (goes .entry)) (now (came .exit)) (now (goes .exit)) ⌝ }
 {
+    let forms = kinds::forms();
     let rows = extent.rows;
     let mut top = RowNumber(0);
     let mut number: usize = 0;
     while number < rows {
         let row = RowNumber(number);
-        let seen = rows::look(words, extent.first, row);
+        let seen = rows::look(forms, words, extent.first, row);
         let form = seen.form;
         let part = form.3;
         top = partner_step(part, row, top, came, goes);

@@ -1,5 +1,6 @@
 // A row as it is looked up once: its number, its words and what the table of kinds says of its kind.
 ghost use mathlib.Core.Path.{_≡_};
+ghost use Rattle.sheet.specs.inner.Kinds.{allForms};
 ghost use Rattle.sets.specs.inner.RowEquations.{RowThere, Sees};
 use sheet::RowNumber;
 use sheet::RowWords;
@@ -12,11 +13,12 @@ pub struct Seen {
     pub form: Form,
 }
 
-pub fn look(words: &[u16], first: usize, row: RowNumber) -> Seen
-    requires { ⌜ RowThere (now words) first (row .0) ⌝ }
+// `forms` is the table of kinds, which a pass takes once.
+pub fn look(forms: [Form; kinds::LAST + 1], words: &[u16], first: usize, row: RowNumber) -> Seen
+    requires { ⌜ (forms ≡ allForms) × RowThere (now words) first (row .0) ⌝ }
     ensures { λ r. ⌜ (r .row .0 ≡ row .0) × Sees (now (words .entry)) first r ⌝ }
 {
     let line = sheet::row_of(words, first, row);
-    let form = kinds::form_of(line.kind);
+    let form = kinds::form_in(forms, line.kind);
     Seen { row, line, form }
 }

@@ -18,6 +18,8 @@ use super::partners;
 use super::rows;
 use super::rows::Seen;
 use sheet::RowNumber;
+use sheet::kinds;
+use sheet::kinds::Form;
 use sheet::kinds::Part;
 
 // A row whose equation is due, and the set at its own point. The set goes from row to row in hand: the row before has only just stored it, and to load it
@@ -90,6 +92,7 @@ fn ends_repeat(which: Which, part: Part) -> bool
 // The row whose equation is due: this one, or, if it ends a repeat and brings more to the body's start, the repeat's first in this direction.
 fn row_due(
     which: Which,
+    forms: [Form; kinds::LAST + 1],
     words: &[u16],
     first: usize,
     others: &[u16],
@@ -97,17 +100,17 @@ fn row_due(
     own: u64,
     row: RowNumber,
 ) -> DueRow
-    requires { ⌜ Looking which (now words) first (now others) (now sets) own (row .0) ⌝ }
+    requires { ⌜ Looking which forms (now words) first (now others) (now sets) own (row .0) ⌝ }
     ensures { λ r. ⌜ DueNow which (now (words .entry)) first (now (others .entry)) (now (sets .entry)) (row .0) r ⌝ }
 {
-    let seen = rows::look(words, first, row);
+    let seen = rows::look(forms, words, first, row);
     let form = seen.form;
     let part = form.3;
     if ends_repeat(which, part) {
         let near = partners::partner_there(others, row);
         let kept = equations::set_at(sets, equations::settled_point(which, near));
         if (kept | own) != kept {
-            let entered = rows::look(words, first, near);
+            let entered = rows::look(forms, words, first, near);
             let before = equations::own_set(which, sets, near);
             return DueRow {
                 seen: entered,
@@ -202,10 +205,20 @@ pub fn settle_varied(
         (extent .rows) (seedIn Varied (now (words .entry)) (extent .variables))) ⌝ }
 {
     let mut own = begin(Which::Varied, words, extent, sets);
+    let forms = kinds::forms();
     let mut turn: usize = 0;
     while turn < extent.rows {
         let here = row_in_turn(Which::Varied, extent.rows, turn);
-        let due = row_due(Which::Varied, words, extent.first, others, sets, own, here);
+        let due = row_due(
+            Which::Varied,
+            forms,
+            words,
+            extent.first,
+            others,
+            sets,
+            own,
+            here,
+        );
         own = step(Which::Varied, due, false, partners, sets);
         let row = due.seen.row;
         let done = row_in_turn(Which::Varied, extent.rows, row.0);
@@ -227,10 +240,20 @@ pub fn settle_useful(
         (extent .rows) (seedIn Useful (now (words .entry)) (extent .variables))) ⌝ }
 {
     let mut own = begin(Which::Useful, words, extent, sets);
+    let forms = kinds::forms();
     let mut turn: usize = 0;
     while turn < extent.rows {
         let here = row_in_turn(Which::Useful, extent.rows, turn);
-        let due = row_due(Which::Useful, words, extent.first, others, sets, own, here);
+        let due = row_due(
+            Which::Useful,
+            forms,
+            words,
+            extent.first,
+            others,
+            sets,
+            own,
+            here,
+        );
         own = step(Which::Useful, due, false, partners, sets);
         let row = due.seen.row;
         let done = row_in_turn(Which::Useful, extent.rows, row.0);
@@ -259,11 +282,13 @@ pub fn settle_required(
         (extent .rows) (now (marks .entry))) ⌝ }
 {
     let mut own = begin(Which::Required, words, extent, sets);
+    let forms = kinds::forms();
     let mut turn: usize = 0;
     while turn < extent.rows {
         let here = row_in_turn(Which::Required, extent.rows, turn);
         let due = row_due(
             Which::Required,
+            forms,
             words,
             extent.first,
             others,

@@ -7,7 +7,8 @@ use mathlib.Core.List.{List}
 use lib.ListN.{getD, set, length as List·length}
 use Rattle.sheet.specs.Answers.{rowSaid}
 use Rattle.sheet.specs.Rows.{SheetLine, sheetRowOf}
-use Rattle.sheet.specs.inner.Kinds.{partFor}
+use Rattle.sheet.specs.inner.Kinds.{allForms, partFor}
+use Rattle.sheet.specs.declared.kinds.Form.{Form}
 use Rattle.sheet.specs.declared.kinds.Part.{Part}
 use Rattle.sheet.specs.declared.kinds.Part.the-variants as part
 use Rattle.sets.specs.declared.walk.DueRow.{DueRow}
@@ -107,7 +108,8 @@ pub record Grown (before : List VariableSet) (point : ℕ) (more : VariableSet) 
   pub stands : r ≡ setAt after point
 
 -- what the code needs to see which row's equation is due
-pub record Looking (which : Which) (words : List ℕ) (first : ℕ) (others : List ℕ) (sets : List VariableSet) (own : VariableSet) (row : ℕ) : Type 0 where
+pub record Looking (which : Which) (forms : List Form) (words : List ℕ) (first : ℕ) (others : List ℕ) (sets : List VariableSet) (own : VariableSet) (row : ℕ) : Type 0 where
+  pub tableIs : forms ≡ allForms
   pub readable : Readable words first row
   pub othersThere : row < List·length others
   pub inHand : own ≡ setAt sets (ownPoint which row)

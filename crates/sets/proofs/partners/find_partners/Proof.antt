@@ -9,30 +9,34 @@ use Rattle.sets.proofs.partners.find_partners.Statement.{statement}
 use Rattle.sets.proofs.partners.find_partners.Tie as tie
 
 abbrev Inv-loop : tie.InvT-loop
-Inv-loop words extent came₀ goes₀ rows top₀ number₀ came goes top number =
+Inv-loop words extent came₀ goes₀ forms rows top₀ number₀ came goes top number =
     Finding (lineIn words (extent .first)) (extent .rows) came₀ goes₀ came goes (top .0) number
 
 abbrev μ-loop : tie.MeasureT-loop
-μ-loop words extent came₀ goes₀ rows top₀ number₀ came goes top number = extent .rows - number
+μ-loop words extent came₀ goes₀ forms rows top₀ number₀ came goes top number = extent .rows - number
+
+forms-requires : tie.Need-forms-requires Inv-loop μ-loop
+forms-requires c κs = tt
 
 loop-holds : tie.Need-loop-holds Inv-loop μ-loop
 loop-holds c = finding-starts _ _ _ _
 
 look-requires : tie.Need-look-requires Inv-loop μ-loop
 look-requires c κs =
-    let start = c .before .before .before .before .before in
-    start .pre _ (c .loop-test .taken) .there
+    let forms = c .before .before in
+    let start = forms .before .before .before .before in
+    (forms .forms .ensures, start .pre _ (c .loop-test .taken) .there)
 
 partner-step-requires : tie.Need-partner-step-requires Inv-loop μ-loop
 partner-step-requires c κs =
     let inside = c .before .before .before .before in
-    let start = inside .before .before .before .before .before in
+    let start = inside .before .before .before .before .before .before in
     (start .pre _ (inside .loop-test .taken) .numbered, inside .before .loop .inv .small)
 
 add-number : tie.Need-add-number Inv-loop μ-loop
 add-number c =
     let inside = c .before .before .before .before .before .before .before .before .before in
-    let start = inside .before .before .before .before .before in
+    let start = inside .before .before .before .before .before .before in
     omega (arith, start .pre _ (inside .loop-test .taken) .numbered)
 
 loop-less : tie.Need-loop-less Inv-loop μ-loop
@@ -43,7 +47,7 @@ loop-again c =
     let step = c .before .before .before .before in
     let read = step .before .before .before .before in
     let inside = read .before in
-    let start = inside .before .before .before .before .before in
+    let start = inside .before .before .before .before .before .before in
     finding-on _ _ _ _ _ _ _ _ (inside .before .loop .inv) (inside .loop-test .taken) _
     (part-read _ _ _ _ (start .pre _ (inside .loop-test .taken)) (read .look .ensures)) _ _ _ (step .partner-step .ensures)
     (step .partner-step .kept .1 .1 .1 .0) (step .partner-step .kept .1 .1 .1 .1 .0)
@@ -63,6 +67,7 @@ find-partners-spec =
     (tie.spec
     Inv-loop
     μ-loop
+    forms-requires
     loop-holds
     look-requires
     partner-step-requires

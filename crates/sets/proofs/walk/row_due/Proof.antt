@@ -36,7 +36,7 @@ is-end : (c : tie.After-ends-repeat) → c .ends-repeat .result ≡ true
 is-end c e = ap (endsRepeat (start c .args .which)) (sym (part-is c)) ∙ sym (c .ends-repeat .ensures) ∙ e
 
 look-requires : tie.Need-look-requires
-look-requires c κs = search needs
+look-requires c κs = let pre = c .before .before .before .pre in (pre .tableIs, pre .readable .there)
 
 ends-repeat-requires : tie.Need-ends-repeat-requires
 ends-repeat-requires c κs = search needs
@@ -66,7 +66,7 @@ look-requires-2 : tie.Need-look-requires-2
 look-requires-2 c κs =
     let partner = c .before .before .before in
     let ends = partner .before .before in
-    rw (partner .partner-there .ensures .0) (start ends .pre .back (is-end ends (partner .before .if1 .taken)) .1)
+    (start ends .pre .tableIs, rw (partner .partner-there .ensures .0) (start ends .pre .back (is-end ends (partner .before .if1 .taken)) .1))
 
 own-set-requires : tie.Need-own-set-requires
 own-set-requires c κs =

@@ -15,16 +15,16 @@ use Rattle.sets.proofs.walk.settle_required.Statement.{statement}
 use Rattle.sets.proofs.walk.settle_required.Tie as tie
 
 abbrev Inv-loop : tie.InvT-loop
-Inv-loop words extent varied useful partners others sets₀ marks₀ own₀ turn₀ sets marks own turn =
+Inv-loop words extent varied useful partners others sets₀ marks₀ own₀ forms turn₀ sets marks own turn =
     Carried Required (givenBy words (extent .first) (activeBy words (extent .first) varied useful) partners) others (extent .rows) (extent .variables)
     sets own turn
     × Marking (lineIn words (extent .first)) varied useful (extent .rows) marks₀ sets marks turn
 
 abbrev μ-loop : tie.MeasureT-loop
-μ-loop words extent varied useful partners others sets₀ marks₀ own₀ turn₀ sets marks own turn = leftOf (extent .variables) (extent .rows) sets turn
+μ-loop words extent varied useful partners others sets₀ marks₀ own₀ forms turn₀ sets marks own turn = leftOf (extent .variables) (extent .rows) sets turn
 
 abbrev start : tie.At-loop Inv-loop μ-loop → tie.Start Inv-loop μ-loop
-start c = c .before .before .before .before .before .before .before .before .before .before .before .before
+start c = c .before .before .before .before .before .before .before .before .before .before .before .before .before
 
 abbrev looked : tie.After-row-due Inv-loop μ-loop → tie.At-loop Inv-loop μ-loop
 looked c = c .before .before .before .before .before
@@ -68,9 +68,12 @@ begin-requires c κs =
     let pre = c .before .before .before .before .before .before .before .before .pre .0 in
     (pre .variablesSmall, pre .rolesThere, omega (arith, pre .long))
 
+forms-requires : tie.Need-forms-requires Inv-loop μ-loop
+forms-requires c κs = tt
+
 loop-holds : tie.Need-loop-holds Inv-loop μ-loop
 loop-holds c =
-    let begins = c .before .before in
+    let begins = c .before .before .before in
     let pre = begins .before .before .before .before .before .before .before .before .before .pre .0 in
     (begun pre (pre .long) (begins .begin .ensures), marking-starts _ _ _ _ _ _)
 
@@ -81,7 +84,7 @@ row-due-requires : tie.Need-row-due-requires Inv-loop μ-loop
 row-due-requires c κs =
     let turned = c .before in
     let loop = turned .before .before .before in
-    looking (start loop .pre .0) (loop .loop .inv .0) (turned .before .if1 .taken) (turned .row-in-turn .ensures)
+    looking (start loop .pre .0) (loop .before .forms .ensures) (loop .loop .inv .0) (turned .before .if1 .taken) (turned .row-in-turn .ensures)
 
 byte-at-requires : tie.Need-byte-at-requires Inv-loop μ-loop
 byte-at-requires c κs =
@@ -143,6 +146,7 @@ settle-required-spec =
     Inv-loop
     μ-loop
     begin-requires
+    forms-requires
     loop-holds
     row-in-turn-requires
     row-due-requires

@@ -12,14 +12,14 @@ use Rattle.sets.proofs.walk.settle_useful.Statement.{statement}
 use Rattle.sets.proofs.walk.settle_useful.Tie as tie
 
 abbrev Inv-loop : tie.InvT-loop
-Inv-loop words extent partners others sets₀ own₀ turn₀ sets own turn =
+Inv-loop words extent partners others sets₀ own₀ forms turn₀ sets own turn =
     Carried Useful (givenBy words (extent .first) noneActive partners) others (extent .rows) (extent .variables) sets own turn
 
 abbrev μ-loop : tie.MeasureT-loop
-μ-loop words extent partners others sets₀ own₀ turn₀ sets own turn = leftOf (extent .variables) (extent .rows) sets turn
+μ-loop words extent partners others sets₀ own₀ forms turn₀ sets own turn = leftOf (extent .variables) (extent .rows) sets turn
 
 abbrev start : tie.At-loop Inv-loop μ-loop → tie.Start Inv-loop μ-loop
-start c = c .before .before .before .before .before .before .before .before .before
+start c = c .before .before .before .before .before .before .before .before .before .before
 
 abbrev looked : tie.After-row-due Inv-loop μ-loop → tie.At-loop Inv-loop μ-loop
 looked c = c .before .before .before .before .before
@@ -44,9 +44,12 @@ due c = c .before .before .before .before .before .before
 begin-requires : tie.Need-begin-requires Inv-loop μ-loop
 begin-requires c κs = let pre = c .before .before .before .before .before .pre in (pre .variablesSmall, pre .rolesThere, omega (arith, pre .long))
 
+forms-requires : tie.Need-forms-requires Inv-loop μ-loop
+forms-requires c κs = tt
+
 loop-holds : tie.Need-loop-holds Inv-loop μ-loop
 loop-holds c =
-    let begins = c .before .before in
+    let begins = c .before .before .before in
     let pre = begins .before .before .before .before .before .before .pre in
     begun pre (pre .long) (begins .begin .ensures)
 
@@ -57,7 +60,7 @@ row-due-requires : tie.Need-row-due-requires Inv-loop μ-loop
 row-due-requires c κs =
     let turned = c .before in
     let loop = turned .before .before .before in
-    looking (start loop .pre) (loop .loop .inv) (turned .before .if1 .taken) (turned .row-in-turn .ensures)
+    looking (start loop .pre) (loop .before .forms .ensures) (loop .loop .inv) (turned .before .if1 .taken) (turned .row-in-turn .ensures)
 
 step-requires : tie.Need-step-requires Inv-loop μ-loop
 step-requires c κs = stepping (at (c .before))
@@ -91,6 +94,7 @@ settle-useful-spec =
     Inv-loop
     μ-loop
     begin-requires
+    forms-requires
     loop-holds
     row-in-turn-requires
     row-due-requires
