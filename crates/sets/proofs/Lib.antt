@@ -3,7 +3,7 @@ pub mod Truths
 pub mod VariableSetLaws
 pub mod VariableSetSizes
 pub mod TransferLaws
-pub mod RowWordLaws
+pub mod OperationLaws
 pub mod RightSides
 pub mod PartnerPass
 pub mod RowByRow

@@ -13,9 +13,10 @@ use Rattle.sheet.specs.Tree.{basic, ifLine, elseLine, endIf, repeat, endRepeat}
 use Rattle.sheet.specs.Rows.{SheetLine, Row, sheetRowOf}
 use Rattle.sheet.specs.inner.Kinds.{assigns, partOf, partFor}
 use Rattle.sheet.specs.declared.kinds.Part.{Part}
+use Rattle.sets.specs.declared.transfers.Operation.{Operation}
 use Rattle.sets.specs.VariableSets.{VariableSet}
 use Rattle.sets.specs.Equations.{setAt}
-use Rattle.sets.specs.inner.RowWords.{Gives}
+use Rattle.sets.specs.inner.Operations.{Gives, PerformsRow}
 use Rattle.sets.specs.Transfers.{Activity}
 use Rattle.sets.specs.Marks.{markBy, activityAt}
 use Rattle.sets.specs.MarkBytes.{weight, weightIf, byteBy, bitOf}
@@ -74,13 +75,13 @@ module _ (varied useful required : List VariableSet) (p : ℕ) (row : Row) (part
       go endRepeat h = refl
 
   -- an assignment's, by the three sets that were read
-  pub some-byte : (r v u s : ℕ) (said : Row) (l : SheetLine) → sheetRowOf l ≡ row → assigns part ≡ true → said ≡ row → v ≡ setAt varied p
-      → u ≡ setAt useful (p + 1) → s ≡ setAt required p → Gives said r (byteFor v u s) → r ≡ byteAt varied useful required p l
+  pub some-byte : (r v u s : ℕ) (operation : Operation) (l : SheetLine) → sheetRowOf l ≡ row → assigns part ≡ true → PerformsRow operation row → v ≡ setAt varied p
+      → u ≡ setAt useful (p + 1) → s ≡ setAt required p → Gives operation r (byteFor v u s) → r ≡ byteAt varied useful required p l
   unfolding sheetRowOf byteAt markBy
-  some-byte r v u s said l e h is before after needed gives = go l e (ap assigns (row-part l row e ∙ sym is-part) ∙ h)
+  some-byte r v u s operation l e h performs before after needed gives = go l e (ap assigns (row-part l row e ∙ sym is-part) ∙ h)
     where
       go : (l : SheetLine) → sheetRowOf l ≡ row → assigns (partOf l) ≡ true → r ≡ byteAt varied useful required p l
-      go (basic b) e h = gives b (e ∙ sym is) ∙ rw (before, after, needed, add-one p)
+      go (basic b) e h = gives b (performs b e) ∙ rw (before, after, needed, add-one p)
       go (ifLine f) e h = let z : _≡_ {A = ℕ} 0 1 = cc in absurd (omega arith)
       go elseLine e h = let z : _≡_ {A = ℕ} 0 1 = cc in absurd (omega arith)
       go endIf e h = let z : _≡_ {A = ℕ} 0 1 = cc in absurd (omega arith)

@@ -1,5 +1,5 @@
 -- A row's right side, by the cases that the code tells apart.
-use Prim.Native.Nat.{ℕ, suc, _+_, _*_, _≤_, _<_}
+use Prim.Native.Nat.{ℕ, suc, _+_, _<_}
 use native.Mathlib.Omega.{arith}
 use native.Mathlib.Numerals.{add-one}
 use mathlib.Core.Path.{_≡_, refl, sym, ap, _∙_}
@@ -10,11 +10,12 @@ use Rattle.sheet.specs.Tree.{basic, ifLine, elseLine, endIf, repeat, endRepeat}
 use Rattle.sheet.specs.Rows.{Assignment, SheetLine, Row, sheetRowOf}
 use Rattle.sheet.specs.inner.Kinds.{assigns, partOf, partFor}
 use Rattle.sheet.specs.declared.kinds.Part.{Part}
+use Rattle.sets.specs.declared.transfers.Operation.{Operation}
 use Rattle.sets.specs.declared.Which.{Which}
 use Rattle.sets.specs.declared.Which.the-variants.{Varied, Useful, Required}
 use Rattle.sets.specs.VariableSets.{VariableSet, _∪_}
 use Rattle.sets.specs.Equations.{setAt, rightSide, pointOf}
-use Rattle.sets.specs.inner.RowWords.{Gives}
+use Rattle.sets.specs.inner.Operations.{Gives, PerformsRow}
 use Rattle.sets.specs.inner.RowEquations.{equationOf, forwardOf, backwardOf, turnOf, ownPoint, settledPoint, splits, joinsBy}
 use Rattle.sets.specs.inner.RowEquations.{RightSide, Given, equationIn, startOf}
 use Rattle.sets.specs.inner.Walks.{asksPartner}
@@ -72,13 +73,13 @@ module _ (which : Which) (active : Bool) (sets : List VariableSet) (p c : ℕ) (
   same-part : (l : SheetLine) → sheetRowOf l ≡ row → part ≡ partOf l
   same-part l e = is-part ∙ sym (row-part l row e)
 
-  pub assigned : (r own : VariableSet) (said : Row) → own ≡ setAt sets (ownPoint which p) → said ≡ row → assigns part ≡ true
-      → Gives said r (λ b. turnOf which active b own) → IsSide r
+  pub assigned : (r own : VariableSet) (operation : Operation) → own ≡ setAt sets (ownPoint which p) → PerformsRow operation row → assigns part ≡ true
+      → Gives operation r (λ b. turnOf which active b own) → IsSide r
   unfolding sheetRowOf
-  assigned r own said o s h turned l e = go l e (ap assigns (sym (same-part l e)) ∙ h)
+  assigned r own operation o performs h turned l e = go l e (ap assigns (sym (same-part l e)) ∙ h)
     where
       go : (l : SheetLine) → sheetRowOf l ≡ row → assigns (partOf l) ≡ true → r ≡ sideOf which active sets p c l
-      go (basic b) e h = turned b (e ∙ sym s) ∙ ap (turnOf which active b) o ∙ assigned-side which active sets p c b
+      go (basic b) e h = turned b (performs b e) ∙ ap (turnOf which active b) o ∙ assigned-side which active sets p c b
       go (ifLine f) e h = let z : _≡_ {A = ℕ} 0 1 = cc in absurd (omega arith)
       go elseLine e h = let z : _≡_ {A = ℕ} 0 1 = cc in absurd (omega arith)
       go endIf e h = let z : _≡_ {A = ℕ} 0 1 = cc in absurd (omega arith)

@@ -12,7 +12,7 @@ use lib.Seq.{drop-cons, getD-take, getD-drop, getD-set-same, getD-set-other, ext
 use lib.Pow.{pow-mono}
 use Rattle.sets.specs.declared.Which.{Which}
 use Rattle.sets.specs.VariableSets.{VariableSet, empty, places}
-use Rattle.sets.specs.inner.RowWords.{maskBits}
+use Rattle.sets.specs.inner.Operations.{maskBits}
 use Rattle.sets.specs.inner.RowEquations.{hasRole, seedIn}
 use Rattle.sets.proofs.VariableSetSizes.{places-below}
 

@@ -1,5 +1,5 @@
 -- For an accepted sheet the code's equations are the definitions', with the partners that were found and the marks that were written.
-use Prim.Native.Nat.{ℕ, suc, _+_, _*_, _≤_, _<_}
+use Prim.Native.Nat.{ℕ, suc, _+_, _≤_, _<_}
 use native.Mathlib.Omega.{arith}
 use mathlib.Core.Path.{_≡_, refl, sym, ap, subst, _∙_}
 use mathlib.Core.Bool.{Bool, false}
@@ -26,7 +26,7 @@ use Rattle.sets.specs.inner.PartnerPass.{found, PartnersFound}
 use Rattle.sets.specs.inner.RowEquations.{givenBy, lineIn, noneActive, activeLine, activeBy, turnOf, equationOf, equationIn, rowInTurn}
 use Rattle.sets.specs.inner.RowEquations.{rowEquations, startOf, allEquations, AllReadable, seedIn}
 use Rattle.sets.specs.inner.Walks.{Wired, Settles}
-use Rattle.sets.specs.inner.RowWords.{maskBits}
+use Rattle.sets.specs.inner.Operations.{maskBits}
 use Rattle.sets.specs.MarkBytes.{markBytes}
 use Rattle.sets.specs.inner.RowBytes.{bytesOf, written}
 use Rattle.sets.specs.inner.Laid.{Laid, MarksLeft, AllMarked}

@@ -15,7 +15,7 @@ use Rattle.sheet.specs.Names.{SourcePresent, AssignmentPresent, Present}
 use Rattle.sheet.specs.Reading.{rowAt, rowsAt}
 use Rattle.sheet.proofs.RowsBack.{line-back}
 use Rattle.sheet.proofs.RowsCounted.{lines-counted}
-use Rattle.sets.specs.inner.RowWords.{maskBits, InMask}
+use Rattle.sets.specs.inner.Operations.{maskBits, InMask}
 use Rattle.sets.specs.inner.RowEquations.{lineIn, Readable, Small}
 use Rattle.sets.proofs.RowByRow.{LinesAt}
 

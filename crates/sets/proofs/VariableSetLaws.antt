@@ -7,11 +7,12 @@ use mathlib.Core.Bool.{Bool, true, false, not, _&&_, _||_, xor, cond}
 use mathlib.Core.List.{List, [], _∷_}
 use mathlib.Core.Option.{Option, none, some}
 use lib.ListN.{getD}
-use lib.Bits.{bitOr, bitXor, differ, or-step, xor-step, or-shr, xor-shr}
+use lib.Bits.{bitAnd, bitOr, bitXor, differ, and-step, or-step, xor-step, and-zero-r, or-shr, xor-shr}
 use lib.Dec.{T, eqb, eqb→eq, eqb·zero-suc, eqb·suc-zero, eqb·suc-suc}
 use lib.Arith.{bin-ind}
 use lib.Pow.{shr-shr}
 use Rattle.sets.specs.VariableSets.{VariableSet, empty, has, _∪_, single, without, places, hasSome, _⊆_}
+use Rattle.sets.specs.inner.Operations.{meets}
 use Rattle.sets.proofs.Truths.{each-truth, or-left, or-right, or-least, and-left}
 
 -- ---- a member is a digit
@@ -70,6 +71,29 @@ single-has (suc j) zero = let even : 2 ^ suc j % 2 ≡ 0 = omega arith in rw (ha
 single-has (suc j) (suc i) =
     let half : 2 ^ suc j / 2 ≡ 2 ^ j = omega arith in
     rw (has-suc (2 ^ suc j) i, half, eqb·suc-suc i j) (single-has j i)
+
+-- a double is 0 where its half is
+double-some : (x y : ℕ) → y ≡ x * 2 → not (eqb y 0) ≡ not (eqb x 0)
+double-some zero zero e = refl
+double-some zero (suc y) e = absurd (omega arith)
+double-some (suc x) zero e = absurd (omega arith)
+double-some (suc x) (suc y) e = rw (eqb·suc-zero x, eqb·suc-zero y)
+
+digit-some : (x y : ℕ) → y ≡ x → x < 2 → not (eqb y 0) ≡ eqb x 1
+digit-some zero y e h = rw e
+digit-some (suc zero) y e h = rw e
+digit-some (suc (suc x)) y e h = absurd (omega arith)
+
+pub meets-none : (s : VariableSet) → meets s empty ≡ false
+meets-none s = rw (and-zero-r s)
+
+pub meets-single : (s : VariableSet) (i : ℕ) → meets s (single i) ≡ has s i
+meets-single s zero =
+    digit-some (s % 2) (bitAnd s 1) (omega (arith, and-step s 1, and-zero-r (s / 2))) (omega arith) ∙ sym (has-zero s)
+meets-single s (suc i) =
+    let half : 2 ^ suc i / 2 ≡ 2 ^ i = omega arith in
+    double-some (bitAnd (s / 2) (2 ^ i)) (bitAnd s (2 ^ suc i)) (omega (arith, rw half at (and-step s (2 ^ suc i)))) ∙ meets-single (s / 2) i
+    ∙ sym (has-suc s i)
 
 pub without-has : (j : ℕ) (s : VariableSet) (i : ℕ) → has (without j s) i ≡ (has s i && not (eqb i j))
 unfolding without xor

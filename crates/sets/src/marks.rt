@@ -3,7 +3,7 @@ ghost use mathlib.Core.Path.{_≡_};
 ghost use Prim.Native.Nat.{suc, _≤_, _<_};
 ghost use mathlib.Core.List.{List};
 ghost use lib.ListN.{length};
-ghost use Rattle.sets.specs.inner.RowWords.{rowOf, InMask, Reads, Gives};
+ghost use Rattle.sets.specs.inner.Operations.{TargetSmall, Gives};
 ghost use Rattle.sheet.specs.Rows.{SheetLine, sheetRowOf};
 ghost use Rattle.sheet.specs.Answers.{rowSaid};
 ghost use Rattle.sets.specs.VariableSets.{VariableSet};
@@ -36,11 +36,11 @@ fn weight_if(there: bool, weight: u8) -> u8
 }
 
 fn row_byte(row: Operation, varied: u64, useful: u64, required: u64) -> u8
-    requires { ⌜ InMask (rowOf row) × Reads row ⌝ }
-    ensures { λ r. ⌜ Gives (rowOf row) r (byteFor varied useful required) ⌝ }
+    requires { ⌜ TargetSmall row ⌝ }
+    ensures { λ r. ⌜ Gives row r (byteFor varied useful required) ⌝ }
 {
-    let first = row.first & masks::has(varied, row.a);
-    let second = row.second & masks::has(varied, row.b);
+    let first = masks::meets(varied, row.first);
+    let second = masks::meets(varied, row.second);
     let active = transfers::active(row, varied, useful);
     let saved = transfers::recorded(row, active, required);
     weight_if(first, VARIED_A)

@@ -1,9 +1,8 @@
 // Sets of variables as masks: variable i is bit i.
 ghost use mathlib.Core.Path.{_≡_};
-ghost use mathlib.Core.Bool.{cond};
 ghost use Prim.Native.Nat.{_<_};
-ghost use Rattle.sets.specs.VariableSets.{has, single, without, empty};
-ghost use Rattle.sets.specs.inner.RowWords.{maskBits};
+ghost use Rattle.sets.specs.VariableSets.{has, single, without};
+ghost use Rattle.sets.specs.inner.Operations.{maskBits, meets};
 use sheet::Variable;
 
 pub fn has(s: u64, i: Variable) -> bool
@@ -20,11 +19,11 @@ pub fn single(i: Variable) -> u64
     1 << i.0
 }
 
-pub fn single_if(there: bool, i: Variable) -> u64
-    requires { ⌜ i .0 < maskBits ⌝ }
-    ensures { λ r. ⌜ r ≡ cond there (single (i .0)) empty ⌝ }
+// Whether the two have a variable in common.
+pub fn meets(s: u64, t: u64) -> bool
+    ensures { λ r. ⌜ r ≡ meets s t ⌝ }
 {
-    if there { single(i) } else { 0 }
+    (s & t) != 0
 }
 
 pub fn without(i: Variable, s: u64) -> u64

@@ -1,9 +1,10 @@
 // An assignment as the code has it: what it reads, and what it does to each of the three sets.
 ghost use mathlib.Core.Path.{_≡_};
+ghost use Prim.Native.Nat.{_<_};
 ghost use Rattle.sheet.specs.Answers.{rowSaid};
 ghost use Rattle.sheet.specs.inner.Kinds.{formFor};
-ghost use Rattle.sets.specs.Transfers.{variedAfter, usefulBefore, activityOf, requiredAfter, recordedBy};
-ghost use Rattle.sets.specs.inner.RowWords.{rowOf, InMask, Reads, Gives, GivesKnown, anyReadBy, readsBy, useBy};
+ghost use Rattle.sets.specs.Transfers.{anyRead, reads, variedAfter, usefulBefore, activityOf, adjointUse, requiredAfter, recordedBy};
+ghost use Rattle.sets.specs.inner.Operations.{maskBits, InMask, namedBy, sourceOf, PerformsRow, TargetSmall, Gives, GivesKnown};
 ghost use Rattle.sets.specs.inner.RowEquations.{turnOf};
 use super::Which;
 use super::masks;
@@ -11,69 +12,74 @@ use sheet::RowWords;
 use sheet::Variable;
 use sheet::kinds;
 use sheet::kinds::Form;
+use sheet::kinds::Slot;
 
-// A row's kind, whether it names a variable by its word a and by b, and its words d, a and b as the variables that they are where it does.
+// An assignment's kind, its target, and the variables that its words a and b name, as sets: the empty one for a word that names none.
 pub struct Operation {
     pub kind: u16,
-    pub first: bool,
-    pub second: bool,
-    pub d: Variable,
-    pub a: Variable,
-    pub b: Variable,
+    pub target: Variable,
+    pub first: u64,
+    pub second: u64,
+}
+
+// A word that names no variable, such as a constant's number, never becomes one.
+fn named(slot: Slot, word: u16) -> u64
+    requires { ⌜ word < maskBits ⌝ }
+    ensures { λ r. ⌜ r ≡ namedBy slot word ⌝ }
+{
+    if kinds::names_variable(slot) {
+        masks::single(Variable(word as usize))
+    } else {
+        0
+    }
 }
 
 pub fn operation_of(line: RowWords, form: Form) -> Operation
-    requires { ⌜ form ≡ formFor (line .kind) ⌝ }
-    ensures { λ r. ⌜ (rowOf r ≡ rowSaid line) × Reads r ⌝ }
+    requires { ⌜ (form ≡ formFor (line .kind)) × InMask (rowSaid line) ⌝ }
+    ensures { λ r. ⌜ PerformsRow r (rowSaid line) × TargetSmall r ⌝ }
 {
     let of_a = form.1;
     let of_b = form.2;
-    let first = kinds::names_variable(of_a);
-    let second = kinds::names_variable(of_b);
-    let d = Variable(line.d as usize);
-    let a = Variable(line.a as usize);
-    let b = Variable(line.b as usize);
+    let first = named(of_a, line.a);
+    let second = named(of_b, line.b);
+    let target = Variable(line.d as usize);
     Operation {
         kind: line.kind,
+        target,
         first,
         second,
-        d,
-        a,
-        b,
     }
 }
 
 fn any_read(row: Operation, s: u64) -> bool
-    requires { ⌜ InMask (rowOf row) × Reads row ⌝ }
-    ensures { λ r. ⌜ r ≡ anyReadBy s (rowOf row) ⌝ }
+    ensures { λ r. ⌜ Gives row r (λ b. anyRead s (sourceOf b)) ⌝ }
 {
-    (row.first & masks::has(s, row.a)) | (row.second & masks::has(s, row.b))
+    masks::meets(s, row.first) | masks::meets(s, row.second)
 }
 
 fn reads(row: Operation) -> u64
-    requires { ⌜ InMask (rowOf row) × Reads row ⌝ }
-    ensures { λ r. ⌜ r ≡ readsBy (rowOf row) ⌝ }
+    ensures { λ r. ⌜ Gives row r (λ b. reads (sourceOf b)) ⌝ }
 {
-    masks::single_if(row.first, row.a) | masks::single_if(row.second, row.b)
+    row.first | row.second
 }
 
 fn varied_after(row: Operation, before: u64) -> u64
-    requires { ⌜ InMask (rowOf row) × Reads row ⌝ }
-    ensures { λ r. ⌜ Gives (rowOf row) r (λ b. variedAfter b before) ⌝ }
+    requires { ⌜ TargetSmall row ⌝ }
+    ensures { λ r. ⌜ Gives row r (λ b. variedAfter b before) ⌝ }
 {
     if any_read(row, before) {
-        before | masks::single(row.d)
+        before | masks::single(row.target)
     } else {
-        masks::without(row.d, before)
+        masks::without(row.target, before)
     }
 }
 
 fn useful_before(row: Operation, after: u64) -> u64
-    requires { ⌜ InMask (rowOf row) × Reads row ⌝ }
-    ensures { λ r. ⌜ Gives (rowOf row) r (λ b. usefulBefore b after) ⌝ }
+    requires { ⌜ TargetSmall row ⌝ }
+    ensures { λ r. ⌜ Gives row r (λ b. usefulBefore b after) ⌝ }
 {
-    let before = masks::without(row.d, after) | reads(row);
-    if masks::has(after, row.d) {
+    let before = masks::without(row.target, after) | reads(row);
+    if masks::has(after, row.target) {
         before
     } else {
         after
@@ -82,40 +88,39 @@ fn useful_before(row: Operation, after: u64) -> u64
 
 // The one place that says what a row's adjoint needs.
 fn adjoint_use(row: Operation, active: bool) -> u64
-    requires { ⌜ InMask (rowOf row) ⌝ }
-    ensures { λ r. ⌜ r ≡ useBy (rowOf row) active ⌝ }
+    ensures { λ r. ⌜ GivesKnown row active r (λ b known. adjointUse (sourceOf b) known) ⌝ }
 {
     if active & (row.kind == kinds::PRODUCT) {
-        masks::single(row.a) | masks::single(row.b)
+        reads(row)
     } else {
         0
     }
 }
 
 fn required_after(row: Operation, active: bool, before: u64) -> u64
-    requires { ⌜ InMask (rowOf row) ⌝ }
-    ensures { λ r. ⌜ GivesKnown (rowOf row) active r (λ b known. requiredAfter b known before) ⌝ }
+    requires { ⌜ TargetSmall row ⌝ }
+    ensures { λ r. ⌜ GivesKnown row active r (λ b known. requiredAfter b known before) ⌝ }
 {
-    masks::without(row.d, before | adjoint_use(row, active))
+    masks::without(row.target, before | adjoint_use(row, active))
 }
 
 pub fn recorded(row: Operation, active: bool, required: u64) -> bool
-    requires { ⌜ InMask (rowOf row) ⌝ }
-    ensures { λ r. ⌜ GivesKnown (rowOf row) active r (λ b known. recordedBy b known required) ⌝ }
+    requires { ⌜ TargetSmall row ⌝ }
+    ensures { λ r. ⌜ GivesKnown row active r (λ b known. recordedBy b known required) ⌝ }
 {
-    masks::has(required, row.d) | masks::has(adjoint_use(row, active), row.d)
+    masks::has(required, row.target) | masks::has(adjoint_use(row, active), row.target)
 }
 
 pub fn active(row: Operation, varied: u64, useful: u64) -> bool
-    requires { ⌜ InMask (rowOf row) × Reads row ⌝ }
-    ensures { λ r. ⌜ Gives (rowOf row) r (λ b. activityOf b varied useful .active) ⌝ }
+    requires { ⌜ TargetSmall row ⌝ }
+    ensures { λ r. ⌜ Gives row r (λ b. activityOf b varied useful .active) ⌝ }
 {
-    masks::has(useful, row.d) & any_read(row, varied)
+    masks::has(useful, row.target) & any_read(row, varied)
 }
 
 pub fn transfer(which: Which, row: Operation, active: bool, set: u64) -> u64
-    requires { ⌜ InMask (rowOf row) × Reads row ⌝ }
-    ensures { λ r. ⌜ Gives (rowOf row) r (λ b. turnOf which active b set) ⌝ }
+    requires { ⌜ TargetSmall row ⌝ }
+    ensures { λ r. ⌜ Gives row r (λ b. turnOf which active b set) ⌝ }
 {
     match which {
         Which::Varied => varied_after(row, set),

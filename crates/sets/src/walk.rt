@@ -5,7 +5,7 @@ ghost use lib.ListN.{length, replicate};
 ghost use Rattle.sets.specs.declared.Which.the-variants.{Varied, Useful, Required};
 ghost use Rattle.sets.specs.VariableSets.{empty};
 ghost use Rattle.sets.specs.Equations.{least};
-ghost use Rattle.sets.specs.inner.RowWords.{maskBits};
+ghost use Rattle.sets.specs.inner.Operations.{maskBits};
 ghost use Rattle.sets.specs.inner.RowEquations.{givenBy, noneActive, activeBy, lineIn, rowInTurn};
 ghost use Rattle.sets.specs.inner.RowEquations.{startOf, allEquations, hasRole, seedIn};
 ghost use Rattle.sets.specs.inner.RowBytes.{bytesOf, written};

@@ -20,7 +20,7 @@ use Rattle.sets.specs.declared.Which.the-variants.{Varied, Useful, Requi
 use Rattle.sets.specs.VariableSets.{VariableSet, places}
 use Rattle.sets.specs.Equations.{Equation, starts, passes, joins, unchanged, rightSide, setAt}
 use Rattle.sets.specs.Transfers.{variedAfter, usefulBefore, requiredAfter, activityOf}
-use Rattle.sets.specs.inner.RowWords.{InMask}
+use Rattle.sets.specs.inner.Operations.{InMask}
 
 -- the line of a sheet's row
 abbrev pub lineIn : List ℕ → (first row : ℕ) → SheetLine

@@ -17,7 +17,7 @@ use Rattle.sets.specs.declared.Which.the-variants.{Varied, Useful, Requi
 use Rattle.sets.specs.VariableSets.{VariableSet, _∪_}
 use Rattle.sets.specs.Equations.{Equation, joins, pointOf, rightSide, setAt}
 use Rattle.sets.specs.inner.ProperEquations.{Proper}
-use Rattle.sets.specs.inner.RowWords.{maskBits}
+use Rattle.sets.specs.inner.Operations.{maskBits}
 use Rattle.sets.specs.inner.RowEquations.{Given, rowIn, equationOf, equationIn, rowInTurn, ownPoint, settledPoint, splits, joinsBy}
 use Rattle.sets.specs.inner.RowEquations.{RowThere, Readable, AllReadable, Sees, Known, allEquations, seedIn}
 use Rattle.sheet.specs.Bounds.{limit}

@@ -2,7 +2,6 @@
 use borrow.Author.Needs.{needs}
 use denote.Ref.{now}
 use mathlib.Core.Path.{_≡_, refl, sym, ap, _∙_}
-use mathlib.Core.Bool.{true, false}
 use mathlib.Core.List.{List}
 use Rattle.sheet.specs.inner.Kinds.{assigns, partFor}
 use Rattle.sets.specs.VariableSets.{VariableSet}
@@ -25,13 +24,13 @@ assigns-requires : tie.Need-assigns-requires
 assigns-requires c κs = search needs
 
 operation-of-requires : tie.Need-operation-of-requires
-operation-of-requires c κs = search needs
+operation-of-requires c κs =
+    let judged = c .before in
+    let isAssigned = ap assigns (sym (part judged)) ∙ sym (judged .assigns .ensures) ∙ c .if1 .taken in
+    (start judged .pre .0 .formed, start judged .pre .0 .small isAssigned)
 
 transfer-requires : tie.Need-transfer-requires
-transfer-requires c κs =
-    let judged = c .before .before in
-    let isAssigned = ap assigns (sym (part judged)) ∙ sym (judged .assigns .ensures) ∙ c .before .if1 .taken in
-    (rw (c .operation-of .ensures .0) (start judged .pre .0 .small isAssigned), c .operation-of .ensures .1)
+transfer-requires c κs = c .operation-of .ensures .1
 
 returns : tie.Need-returns
 returns c =

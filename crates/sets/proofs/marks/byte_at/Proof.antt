@@ -1,9 +1,8 @@
 -- `sets::marks::byte_at` meets its contract: each branch is one case of what the row is to the blocks.
 use borrow.Author.Needs.{needs}
 use borrow.Author.Tests.{not-true, not-false}
-use mathlib.Core.Path.{_≡_, sym, ap, subst, _∙_}
+use mathlib.Core.Path.{_≡_, sym, ap, _∙_}
 use Rattle.sheet.specs.inner.Kinds.{assigns, partFor}
-use Rattle.sets.specs.inner.RowWords.{InMask}
 use Rattle.sets.proofs.MarkByteLaws.{no-byte, some-byte}
 use Rattle.sets.proofs.marks.byte_at.Statement.{statement}
 use Rattle.sets.proofs.marks.byte_at.Tie as tie
@@ -33,14 +32,14 @@ set-at-requires-2 : tie.Need-set-at-requires-2
 set-at-requires-2 c κs = search needs
 
 operation-of-requires : tie.Need-operation-of-requires
-operation-of-requires c κs = search needs
-
-row-byte-requires : tie.Need-row-byte-requires
-row-byte-requires c κs =
-    let assigned = c .before .before .before .before in
+operation-of-requires c κs =
+    let assigned = c .before .before .before in
     let judged = assigned .before in
     let isAssigned = ap assigns (sym (part judged)) ∙ sym (judged .assigns .ensures) ∙ not-false _ (assigned .if1 .left) in
-    (subst InMask (sym (c .operation-of .ensures .0)) (start judged .pre .0 .small isAssigned), c .operation-of .ensures .1)
+    (start judged .pre .0 .formed, start judged .pre .0 .small isAssigned)
+
+row-byte-requires : tie.Need-row-byte-requires
+row-byte-requires c κs = c .operation-of .ensures .1
 
 returns-2 : tie.Need-returns-2
 returns-2 c required needed l e =

@@ -2,15 +2,15 @@
 use borrow.Author.Needs.{needs}
 use mathlib.Core.Path.{sym}
 use Rattle.sets.specs.Transfers.{activityOf}
-use Rattle.sets.proofs.RowWordLaws.{activity-said}
+use Rattle.sets.proofs.OperationLaws.{activity-said}
 use Rattle.sets.proofs.marks.row_byte.Statement.{statement}
 use Rattle.sets.proofs.marks.row_byte.Tie as tie
 
-has-requires : tie.Need-has-requires
-has-requires c κs = search needs
+meets-requires : tie.Need-meets-requires
+meets-requires c κs = search needs
 
-has-requires-2 : tie.Need-has-requires-2
-has-requires-2 c κs = search needs
+meets-requires-2 : tie.Need-meets-requires-2
+meets-requires-2 c κs = search needs
 
 active-requires : tie.Need-active-requires
 active-requires c κs = search needs
@@ -40,14 +40,14 @@ add-result-3 : tie.Need-add-result-3
 add-result-3 c = search needs
 
 returns : tie.Need-returns
-returns c b e =
+returns c b performs =
     let marks = c .before .before .before .before in
-    let second = marks .before .before .before in
-    let first = second .before .before in
+    let second = marks .before .before in
+    let first = second .before in
     let start = first .before in
-    let active = marks .before .active .ensures b e in
+    let active = marks .before .active .ensures b performs in
     let known = activityOf b (start .args .varied) (start .args .useful) in
-    let said = activity-said _ (start .args .varied) (start .args .useful) b e in
+    let said = activity-said b performs (start .args .varied) (start .args .useful) in
     cc (
       c .before .before .before .weight-if .ensures .0,
       c .before .before .weight-if2 .ensures .0,
@@ -55,20 +55,18 @@ returns c b e =
       c .weight-if4 .ensures .0,
       said .variedA,
       said .variedB,
-      start .pre .1 .first,
-      first .has .ensures,
-      start .pre .1 .second,
-      second .has2 .ensures,
+      first .meets .ensures,
+      second .meets2 .ensures,
       active,
-      marks .recorded .ensures known (sym active) b e,
+      marks .recorded .ensures known (sym active) b performs,
     )
 
 pub row-byte-spec : {M : Type 1} → statement M
 row-byte-spec =
     tie.close
     (tie.spec
-    has-requires
-    has-requires-2
+    meets-requires
+    meets-requires-2
     active-requires
     recorded-requires
     weight-if-requires

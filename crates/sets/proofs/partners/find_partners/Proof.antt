@@ -2,7 +2,6 @@
 -- The measure is what is left of the rows.
 use Prim.Native.Nat.{_-_}
 use native.Mathlib.Omega.{arith}
-use borrow.Author.Needs.{needs}
 use Rattle.sets.specs.inner.RowEquations.{lineIn}
 use Rattle.sets.proofs.PartnerPass.{Finding, finding-starts, finding-on, found-all, part-read}
 use Rattle.sets.proofs.partners.find_partners.Statement.{statement}

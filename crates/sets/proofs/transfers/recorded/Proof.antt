@@ -1,6 +1,6 @@
 -- `sets::transfers::recorded` meets its contract: required before, or in the row's own use.
 use borrow.Author.Needs.{needs}
-use Rattle.sets.proofs.RowWordLaws.{recorded-said}
+use Rattle.sets.proofs.OperationLaws.{recorded-said}
 use Rattle.sets.proofs.transfers.recorded.Statement.{statement}
 use Rattle.sets.proofs.transfers.recorded.Tie as tie
 
@@ -14,8 +14,8 @@ has-requires-2 : tie.Need-has-requires-2
 has-requires-2 c κs = search needs
 
 returns : tie.Need-returns
-returns c known knows b e =
-    rw (c .before .before .has .ensures, c .has2 .ensures, c .before .adjoint-use .ensures, recorded-said _ _ known b e, knows)
+returns c known knows b performs =
+    rw (c .before .before .has .ensures, c .has2 .ensures, c .before .adjoint-use .ensures known knows b performs, recorded-said b performs known _)
 
 pub recorded-spec : {M : Type 1} → statement M
 recorded-spec = tie.close (tie.spec has-requires adjoint-use-requires has-requires-2 returns)

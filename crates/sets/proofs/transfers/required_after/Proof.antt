@@ -1,6 +1,6 @@
--- `sets::transfers::required_after` meets its contract: the use is the definition's by one law, `adjoint-use`.
+-- `sets::transfers::required_after` meets its contract: the use is the definition's by the contract of `adjoint_use`.
 use borrow.Author.Needs.{needs}
-use Rattle.sets.proofs.RowWordLaws.{required-said}
+use Rattle.sets.proofs.OperationLaws.{required-said}
 use Rattle.sets.proofs.transfers.required_after.Statement.{statement}
 use Rattle.sets.proofs.transfers.required_after.Tie as tie
 
@@ -11,7 +11,7 @@ without-requires : tie.Need-without-requires
 without-requires c κs = search needs
 
 returns : tie.Need-returns
-returns c known knows b e = rw (c .without .ensures, c .before .adjoint-use .ensures, required-said _ _ known b e, knows)
+returns c known knows b performs = rw (c .without .ensures, c .before .adjoint-use .ensures known knows b performs, required-said b performs known _)
 
 pub required-after-spec : {M : Type 1} → statement M
 required-after-spec = tie.close (tie.spec adjoint-use-requires without-requires returns)

@@ -25,15 +25,15 @@ required-after-requires c κs = search needs
 
 returns : tie.Need-returns
 unfolding turnOf
-returns c b e = rw (c .before .enum-told .given .1) (c .varied-after .ensures b e)
+returns c b performs = rw (c .before .enum-told .given .1) (c .varied-after .ensures b performs)
 
 returns-2 : tie.Need-returns-2
 unfolding turnOf
-returns-2 c b e = rw (c .before .enum-told2 .given .1) (c .useful-before .ensures b e)
+returns-2 c b performs = rw (c .before .enum-told2 .given .1) (c .useful-before .ensures b performs)
 
 returns-3 : tie.Need-returns-3
 unfolding turnOf
-returns-3 c b e = rw (c .before .enum-told3 .given .1) (c .required-after .ensures _ refl b e)
+returns-3 c b performs = rw (c .before .enum-told3 .given .1) (c .required-after .ensures _ refl b performs)
 
 pub transfer-spec : {M : Type 1} → statement M
 transfer-spec =

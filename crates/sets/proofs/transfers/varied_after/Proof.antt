@@ -1,7 +1,7 @@
--- `sets::transfers::varied_after` meets its contract: the code's branch is the definition's, by what the words say of the reads.
+-- `sets::transfers::varied_after` meets its contract: the code's branch is the definition's.
 use borrow.Author.Needs.{needs}
 use mathlib.Core.Path.{sym}
-use Rattle.sets.proofs.RowWordLaws.{varied-said}
+use Rattle.sets.proofs.OperationLaws.{varied-said}
 use Rattle.sets.proofs.transfers.varied_after.Statement.{statement}
 use Rattle.sets.proofs.transfers.varied_after.Tie as tie
 
@@ -15,10 +15,10 @@ without-requires : tie.Need-without-requires
 without-requires c κs = search needs
 
 returns : tie.Need-returns
-returns c b e = rw (varied-said _ _ b e, sym (c .before .before .any-read .ensures), c .before .if1 .taken, c .single .ensures)
+returns c b performs = rw (varied-said b performs _, sym (c .before .before .any-read .ensures b performs), c .before .if1 .taken, c .single .ensures)
 
 returns-2 : tie.Need-returns-2
-returns-2 c b e = rw (varied-said _ _ b e, sym (c .before .before .any-read .ensures), c .before .if1 .left, c .without .ensures)
+returns-2 c b performs = rw (varied-said b performs _, sym (c .before .before .any-read .ensures b performs), c .before .if1 .left, c .without .ensures)
 
 pub varied-after-spec : {M : Type 1} → statement M
 varied-after-spec =

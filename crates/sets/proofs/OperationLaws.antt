@@ -1,0 +1,107 @@
+-- What the code's operation says of an assignment: its target, its reads, its adjoint use, and so what it does to each of the three sets.
+use mathlib.Core.Path.{_≡_, refl, sym, ap, _∙_}
+use mathlib.Core.Bool.{Bool, true, false, _&&_, _||_, cond}
+use mathlib.Core.Option.{Option, none, some}
+use Prim.Native.Nat.{ℕ}
+use lib.Dec.{eqb}
+use Rattle.sheet.specs.Rows.{Assignment, copy, fixed, sum, difference, product, negation, _≔_, Row, rowOfAssignment}
+use Rattle.sheet.specs.inner.Kinds.{formFor}
+use Rattle.sets.specs.declared.transfers.Operation.{Operation}
+use Rattle.sets.specs.VariableSets.{VariableSet, empty, has, _∪_, single, without, hasSome, singleSome}
+use Rattle.sets.specs.Transfers.{anyRead, firstRead, secondRead, reads, variedAfter, usefulBefore}
+use Rattle.sets.specs.Transfers.{Activity, activityOf, adjointUse, recordedBy, requiredAfter}
+use Rattle.sets.specs.inner.Operations.{namedBy, meets, sourceOf, Performs, PerformsRow}
+use Rattle.sets.proofs.VariableSetLaws.{meets-none, meets-single}
+
+-- ---- from the words of a row
+
+pub row-performed : (operation : Operation) (row : Row) → operation .kind ≡ row .kind → operation .target .0 ≡ row .d
+    → operation .first ≡ namedBy (formFor (row .kind) .1) (row .a) → operation .second ≡ namedBy (formFor (row .kind) .2) (row .b)
+    → PerformsRow operation row
+unfolding rowOfAssignment firstRead secondRead formFor
+row-performed operation row kind target first second b said =
+    each b (kind ∙ ap (λ r. r .kind) (sym said)) (target ∙ ap (λ r. r .d) (sym said))
+    (first ∙ ap (λ r. namedBy (formFor (r .kind) .1) (r .a)) (sym said)) (second ∙ ap (λ r. namedBy (formFor (r .kind) .2) (r .b)) (sym said))
+  where
+    each : (b : Assignment) → let r = rowOfAssignment b in operation .kind ≡ r .kind → operation .target .0 ≡ r .d
+        → operation .first ≡ namedBy (formFor (r .kind) .1) (r .a) → operation .second ≡ namedBy (formFor (r .kind) .2) (r .b) → Performs operation b
+    each (d ≔ copy a) k t f g = record { kind = k; target = t; first = f; second = g }
+    each (d ≔ fixed c) k t f g = record { kind = k; target = t; first = f; second = g }
+    each (d ≔ sum a b) k t f g = record { kind = k; target = t; first = f; second = g }
+    each (d ≔ difference a b) k t f g = record { kind = k; target = t; first = f; second = g }
+    each (d ≔ product a b) k t f g = record { kind = k; target = t; first = f; second = g }
+    each (d ≔ negation a) k t f g = record { kind = k; target = t; first = f; second = g }
+
+-- ---- the definitions, by the operation
+
+-- a variable that may be lacking is in a set if its own set meets it
+meets-some : (s : VariableSet) (o : Option ℕ) → meets s (singleSome o) ≡ hasSome s o
+meets-some s none = meets-none s
+meets-some s (some i) = meets-single s i
+
+module _ {operation : Operation} {b : Assignment} (performs : Performs operation b) where
+  pub first-said : (s : VariableSet) → meets s (operation .first) ≡ hasSome s (firstRead (sourceOf b))
+  first-said s = ap (meets s) (performs .first) ∙ meets-some s (firstRead (sourceOf b))
+
+  pub second-said : (s : VariableSet) → meets s (operation .second) ≡ hasSome s (secondRead (sourceOf b))
+  second-said s = ap (meets s) (performs .second) ∙ meets-some s (secondRead (sourceOf b))
+
+  pub any-said : (s : VariableSet) → (meets s (operation .first) || meets s (operation .second)) ≡ anyRead s (sourceOf b)
+  unfolding anyRead
+  any-said s = rw (first-said s, second-said s)
+
+  pub reads-said : operation .first ∪ operation .second ≡ reads (sourceOf b)
+  unfolding reads
+  reads-said = rw (performs .first, performs .second)
+
+pub varied-said : {operation : Operation} (b : Assignment) → Performs operation b → (before : VariableSet)
+    → variedAfter b before ≡ cond (anyRead before (sourceOf b)) (before ∪ single (operation .target .0)) (without (operation .target .0) before)
+unfolding variedAfter
+varied-said (d ≔ source) performs before = rw (performs .target)
+
+pub useful-said : {operation : Operation} (b : Assignment) → Performs operation b → (after : VariableSet)
+    → usefulBefore b after ≡ cond (has after (operation .target .0)) (without (operation .target .0) after ∪ reads (sourceOf b)) after
+unfolding usefulBefore
+useful-said (d ≔ source) performs after = rw (performs .target)
+
+-- what is known of the assignment
+pub record Knows (operation : Operation) (b : Assignment) (varied useful : VariableSet) : Type 0 where
+  pub variedA : activityOf b varied useful .variedA ≡ meets varied (operation .first)
+  pub variedB : activityOf b varied useful .variedB ≡ meets varied (operation .second)
+  pub active : activityOf b varied useful .active ≡ (has useful (operation .target .0) && anyRead varied (sourceOf b))
+
+pub activity-said : {operation : Operation} (b : Assignment) → Performs operation b → (varied useful : VariableSet) → Knows operation b varied useful
+unfolding activityOf
+activity-said (d ≔ source) performs varied useful =
+    record { variedA = sym (first-said performs varied); variedB = sym (second-said performs varied); active = rw (performs .target) }
+
+pub use-said : {operation : Operation} (b : Assignment) → Performs operation b → (known : Activity)
+    → adjointUse (sourceOf b) known ≡ cond (known .active && eqb (operation .kind) 5) (reads (sourceOf b)) empty
+unfolding rowOfAssignment adjointUse reads
+use-said b performs known = rw (performs .kind) (each b)
+  where
+    never : (x : Bool) (s : VariableSet) → empty ≡ cond (x && false) s empty
+    never true s = refl
+    never false s = refl
+
+    always : (x : Bool) (s : VariableSet) → cond x s empty ≡ cond (x && true) s empty
+    always true s = refl
+    always false s = refl
+
+    each : (b : Assignment) → adjointUse (sourceOf b) known ≡ cond (known .active && eqb (rowOfAssignment b .kind) 5) (reads (sourceOf b)) empty
+    each (d ≔ copy a) = never (known .active) _
+    each (d ≔ fixed c) = never (known .active) _
+    each (d ≔ sum a b) = never (known .active) _
+    each (d ≔ difference a b) = never (known .active) _
+    each (d ≔ product a b) = always (known .active) _
+    each (d ≔ negation a) = never (known .active) _
+
+pub required-said : {operation : Operation} (b : Assignment) → Performs operation b → (known : Activity) (before : VariableSet)
+    → requiredAfter b known before ≡ without (operation .target .0) (before ∪ adjointUse (sourceOf b) known)
+unfolding requiredAfter
+required-said (d ≔ source) performs known before = rw (performs .target)
+
+pub recorded-said : {operation : Operation} (b : Assignment) → Performs operation b → (known : Activity) (required : VariableSet)
+    → recordedBy b known required ≡ (has required (operation .target .0) || has (adjointUse (sourceOf b) known) (operation .target .0))
+unfolding recordedBy
+recorded-said (d ≔ source) performs known required = rw (performs .target)
