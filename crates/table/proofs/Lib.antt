@@ -5,6 +5,7 @@ pub mod WritingLaws
 pub mod AssignmentRows
 pub mod PartsApart
 pub mod LineRows
+pub mod JumpLaws
 pub mod ForwardOver
 pub mod BackwardOver
 pub mod TreeRows

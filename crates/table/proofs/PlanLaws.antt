@@ -15,6 +15,7 @@ use Rattle.table.specs.Adjoint.{adjointTable, tableOf}
 use Rattle.table.specs.Sizes.{mostTableRows, tableRows}
 use Rattle.table.specs.Calls.{tableRoom, overwritten}
 use Rattle.table.specs.inner.MarkedRows.{rowsIn, Readable, Handed, handed, Walkable, Room, Wrote, wholeRows, countAll}
+use Rattle.table.specs.inner.JumpsNoted.{noting, notedOver, Numbered, JumpsNoted}
 use Rattle.table.specs.declared.needs.Stack.{Stack}
 use Rattle.table.specs.inner.Needs.{needOver}
 use Rattle.table.specs.inner.Plans.{SheetNoted, PlanMade}
@@ -81,6 +82,14 @@ module _ {words : List ℕ} {sheet : Sheet} {shape : Shape} (lies : Lies words s
         buffer-overwritten buffer after count next (tableOf sheet) (right ∙ counts-rows)
         (subst (Room buffer 1) whole-right (room-right count buffer right long))
         (subst (λ rs. Wrote (set buffer 0 count) 1 rs after next) whole-right wrote)
+
+    pub rows-numbered : (count : ℕ) → count ≡ tableRows (variablesOf sheet) (marked sheet) → count ≤ mostTableRows → Numbered 1 (wholeRows given)
+    rows-numbered count right few =
+        record { begins = refl; few = omega (arith, ap length whole-right, table-rows-counted (tableOf sheet), counts-rows) }
+
+    pub jumps-noted : (before after : List ℕ) (top : ℕ) → noting top after ≡ notedOver (wholeRows given) 0 (noting 0 before)
+        → JumpsNoted (tableOf sheet) before after
+    jumps-noted before after top noted = ap (λ s. s .beyond) noted ∙ ap (λ rs. notedOver rs 0 (noting 0 before) .beyond) whole-right
 
 -- a plan that was made says where its sheet lies
 pub planned-lies : {words : List ℕ} {plan : Plan} {marks came goes : List ℕ} (made : PlanMade words plan marks came goes)

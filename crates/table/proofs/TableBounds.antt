@@ -79,7 +79,7 @@ row-counted : EachRow 1 rows
 unfolding rows
 row-counted row rest = refl
 
-row-flat : EachRow 0 deep
+pub row-flat : EachRow 0 deep
 unfolding deep
 row-flat row rest = omega arith
 

@@ -10,9 +10,11 @@ ghost use Rattle.sets.specs.Calls.{lent, MarksSaid};
 ghost use Rattle.table.specs.TableRows.{tableWords};
 ghost use Rattle.table.specs.Adjoint.{tableOf};
 ghost use Rattle.table.specs.Calls.{tableRoom, overwritten, checkedSaid, check, writtenOf, write};
+ghost use Rattle.table.specs.inner.JumpsNoted.{JumpsNoted};
 ghost use Rattle.table.specs.inner.Plans.{SheetNoted, PlanMade, PlanSays};
 
 mod count;
+mod jumps;
 pub mod kinds;
 mod needs;
 mod partners;
@@ -104,7 +106,7 @@ pub fn plan_sheet(
     }
 }
 
-// The table of a planned sheet into a buffer that has room for it.
+// The table of a planned sheet into a buffer that has room for it, and where each of its "if"s and "else"s goes on to.
 pub fn write_planned(
     words: &[u16],
     plan: Plan,
@@ -112,12 +114,14 @@ pub fn write_planned(
     came: &[u16; sheet::MAX_ROWS],
     goes: &[u16; sheet::MAX_ROWS],
     table: &mut [u16],
+    beyond: &mut [u16; MAX_TABLE_ROWS],
 )
     requires { ⌜ PlanSays (now words) (now marks) (now came) (now goes) (Planned.Made plan) ⌝ ∗ ⌜ tableRoom (plan .rows) ≤ length (now table) ⌝ }
     ensures { λ r. ⌜ ((sheet : Sheet) → read (now (words .entry)) ≡ given sheet
-        → now (table .exit) ≡ overwritten (tableWords (tableOf sheet)) (now (table .entry))) ⌝ }
+        → (now (table .exit) ≡ overwritten (tableWords (tableOf sheet)) (now (table .entry)))
+        × JumpsNoted (tableOf sheet) (now (beyond .entry)) (now (beyond .exit))) ⌝ }
 {
-    sweep::write_table(words, plan, marks, came, goes, table);
+    sweep::write_table(words, plan, marks, came, goes, table, beyond);
 }
 
 // Any words: the first refusal of 1 to 7, or the sizes of the sheet that they are.
@@ -182,7 +186,8 @@ pub fn write(words: &[u16], table: &mut [u16]) -> Answer
                     place: 0,
                 };
             }
-            write_planned(words, plan, &marks, &came, &goes, table);
+            let mut beyond = [0u16; MAX_TABLE_ROWS];
+            write_planned(words, plan, &marks, &came, &goes, table, &mut beyond);
             Answer {
                 number: DONE,
                 place: 0,

@@ -3,8 +3,11 @@ ghost use mathlib.Core.Path.{_≡_};
 ghost use lib.ListN.{set};
 ghost use Prim.Native.Nat.{_≤_};
 ghost use Rattle.table.specs.Sizes.{mostTableRows};
-ghost use Rattle.table.specs.inner.MarkedRows.{Room, Wrote, Readable, forwardAll, stepBack, turnsBack, handed, Walkable, backwardAll, wholeRows};
+ghost use Rattle.table.specs.inner.MarkedRows.{Room, Readable, forwardAll, stepBack, turnsBack, handed, Walkable, backwardAll, wholeRows};
+ghost use Rattle.table.specs.inner.JumpsNoted.{noting, Numbered, WroteNoted};
+use super::MAX_TABLE_ROWS;
 use super::Plan;
+use super::jumps;
 use super::kinds;
 use super::partners;
 use super::rows;
@@ -12,22 +15,41 @@ use sheet::RowNumber;
 use sheet::Shape;
 use sheet::kinds::Part;
 
-// The forward part: each row's rows in the sheet's order, from place on. Answers the place after them.
-fn forward_part(words: &[u16], shape: Shape, marks: &[u8], table: &mut [u16], place: usize) -> usize
-    requires { ⌜ Room (now table) place (forwardAll (now words) shape (now marks)) ⌝ ∗ ⌜ Readable (now words) shape (now marks) ⌝ }
-    ensures { λ r. ⌜ Wrote (now (table .entry)) place (forwardAll (now (words .entry)) shape (now (marks .entry))) (now (table .exit)) r ⌝ }
+// Where the writer is: the place after the last row, and the innermost open branch's row.
+pub struct Reached {
+    pub place: usize,
+    pub top: u16,
+}
+
+// The forward part: each row's rows in the sheet's order.
+fn forward_part(
+    words: &[u16],
+    shape: Shape,
+    marks: &[u8],
+    table: &mut [u16],
+    from: Reached,
+    beyond: &mut [u16; MAX_TABLE_ROWS],
+) -> Reached
+    requires { ⌜ Room (now table) (from .place) (forwardAll (now words) shape (now marks)) ⌝
+        ∗ ⌜ Numbered (from .place) (forwardAll (now words) shape (now marks)) ⌝
+        ∗ ⌜ Readable (now words) shape (now marks) ⌝ }
+    ensures { λ r. ⌜ WroteNoted (now (table .entry)) (from .place) (forwardAll (now (words .entry)) shape (now (marks .entry)))
+        (now (table .exit)) (r .place) (noting (from .top) (now (beyond .entry))) (noting (r .top) (now (beyond .exit))) ⌝ }
 {
     let rows = shape.rows;
-    let mut next: usize = place;
+    let mut next: usize = from.place;
+    let mut top: u16 = from.top;
     let mut p: usize = 0;
     while p < rows {
         let row = sheet::row_of(words, shape.first_row, RowNumber(p));
         let form = sheet::kinds::form_of(row.kind);
         let part = form.3;
         next = rows::forward_row(table, next, row, part, marks[p]);
+        let what = jumps::forward(part);
+        top = jumps::note(what, next, top, beyond);
         p += 1;
     }
-    next
+    Reached { place: next, top }
 }
 
 // Where the backward walk goes from a row: to the end of what comes next there.
@@ -73,17 +95,20 @@ fn backward_part(
     came: &[u16],
     goes: &[u16],
     table: &mut [u16],
-    place: usize,
-) -> usize
-    requires { ⌜ Room (now table) place (backwardAll (handed (now words) shape (now marks) (now came) (now goes))) ⌝
+    from: Reached,
+    beyond: &mut [u16; MAX_TABLE_ROWS],
+) -> Reached
+    requires { ⌜ Room (now table) (from .place) (backwardAll (handed (now words) shape (now marks) (now came) (now goes))) ⌝
+        ∗ ⌜ Numbered (from .place) (backwardAll (handed (now words) shape (now marks) (now came) (now goes))) ⌝
         ∗ ⌜ Readable (now words) shape (now marks) ⌝
         ∗ ⌜ Walkable (handed (now words) shape (now marks) (now came) (now goes)) ⌝ }
-    ensures { λ r. ⌜ Wrote (now (table .entry)) place
+    ensures { λ r. ⌜ WroteNoted (now (table .entry)) (from .place)
         (backwardAll (handed (now (words .entry)) shape (now (marks .entry)) (now (came .entry)) (now (goes .entry))))
-        (now (table .exit)) r ⌝ }
+        (now (table .exit)) (r .place) (noting (from .top) (now (beyond .entry))) (noting (r .top) (now (beyond .exit))) ⌝ }
 {
     let variables = shape.variables as u16;
-    let mut next: usize = place;
+    let mut next: usize = from.place;
+    let mut top: u16 = from.top;
     let mut end: usize = shape.rows;
     let mut left: usize = shape.rows;
     while 0 < left {
@@ -93,13 +118,15 @@ fn backward_part(
         let part = form.3;
         let turns = turns_back(words, shape.first_row, goes, RowNumber(q), part);
         next = rows::backward_row(table, next, variables, row, part, marks[q], turns);
+        let what = jumps::backward(part);
+        top = jumps::note(what, next, top, beyond);
         end = step_back(came, goes, RowNumber(q), part);
         left -= 1;
     }
-    next
+    Reached { place: next, top }
 }
 
-// The whole table: the row count, the forward part, row 17 and the backward part. Answers the place after it.
+// The whole table: the row count, the forward part, row 17 and the backward part.
 pub fn write_table(
     words: &[u16],
     plan: Plan,
@@ -107,18 +134,25 @@ pub fn write_table(
     came: &[u16],
     goes: &[u16],
     table: &mut [u16],
-) -> usize
+    beyond: &mut [u16; MAX_TABLE_ROWS],
+) -> Reached
     requires { ⌜ Room (now table) 1 (wholeRows (handed (now words) (plan .shape) (now marks) (now came) (now goes))) ⌝
+        ∗ ⌜ Numbered 1 (wholeRows (handed (now words) (plan .shape) (now marks) (now came) (now goes))) ⌝
         ∗ ⌜ Readable (now words) (plan .shape) (now marks) ⌝
         ∗ ⌜ Walkable (handed (now words) (plan .shape) (now marks) (now came) (now goes)) ⌝
         ∗ ⌜ plan .rows ≤ mostTableRows ⌝ }
-    ensures { λ r. ⌜ Wrote (set (now (table .entry)) 0 (plan .rows)) 1
+    ensures { λ r. ⌜ WroteNoted (set (now (table .entry)) 0 (plan .rows)) 1
         (wholeRows (handed (now (words .entry)) (plan .shape) (now (marks .entry)) (now (came .entry)) (now (goes .entry))))
-        (now (table .exit)) r ⌝ }
+        (now (table .exit)) (r .place) (noting 0 (now (beyond .entry))) (noting (r .top) (now (beyond .exit))) ⌝ }
 {
     let shape = plan.shape;
     table[0] = plan.rows as u16;
-    let turned = forward_part(words, shape, marks, table, 1);
-    let back = rows::put(table, turned, kinds::TURN_ROUND, 0, 0, 0);
-    backward_part(words, shape, marks, came, goes, table, back)
+    let first = Reached { place: 1, top: 0 };
+    let turned = forward_part(words, shape, marks, table, first, beyond);
+    let place = rows::put(table, turned.place, kinds::TURN_ROUND, 0, 0, 0);
+    let back = Reached {
+        place,
+        top: turned.top,
+    };
+    backward_part(words, shape, marks, came, goes, table, back, beyond)
 }

@@ -40,7 +40,7 @@ returns c =
 
 write-planned-requires : tie.Need-write-planned-requires
 write-planned-requires c κs =
-    let tested = c .before .before .before .before in
+    let tested = c .before .before .before .before .before in
     let fits = sym (tested .before .has-room .ensures) ∙ not-false _ (tested .if1 .left) in
     (plan-made (tested .before .before .before), leb-true _ _ fits)
 
@@ -58,9 +58,9 @@ same-length c = search needs
 returns-3 : tie.Need-returns-3
 returns-3 c =
     let wrote = c .before .before in
-    let tested = wrote .before .before .before .before .before in
+    let tested = wrote .before .before .before .before .before .before in
     let fits = sym (tested .before .has-room .ensures) ∙ not-false _ (tested .if1 .left) in
-    write-made _ _ (plan-made (tested .before .before .before)) _ fits (wrote .write-planned .ensures)
+    write-made _ _ (plan-made (tested .before .before .before)) _ fits (λ sheet e. wrote .write-planned .ensures sheet e .0)
 
 pub write-spec : {M : Type 1} → statement M
 write-spec =

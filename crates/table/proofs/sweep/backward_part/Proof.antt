@@ -1,11 +1,13 @@
--- `table::sweep::backward_part` meets its contract. The invariant: the walk stays on the rows, and what is written and what the rest of the walk
--- gives make up the whole.
+-- `table::sweep::backward_part` meets its contract. The invariant: the walk stays on the rows, and what is written and noted and what the rest of
+-- the walk gives make up the whole.
 use Prim.Native.Nat.{_<_, _-_}
 use mathlib.Core.Path.{refl, sym, ap, subst}
 use borrow.Author.Needs.{needs}
 use native.Mathlib.Omega.{arith}
 use Rattle.table.specs.inner.MarkedRows.{Says, SaysPart, Small, Handed, handed, backwardAll, backwardRows, Visited, Walks}
+use Rattle.table.specs.inner.JumpsNoted.{noting}
 use Rattle.table.proofs.WritingLaws.{Underway, underway-start, underway-room, underway-next, underway-end, underway-length, room-first}
+use Rattle.table.proofs.JumpLaws.{Jumping, jumping-start, backward-ends, row-ends, jumping-next, jumping-end}
 use Rattle.sheet.specs.Answers.{rowSaid}
 use Rattle.table.proofs.LineRows.{says-part}
 use Rattle.table.proofs.BackwardOver.{backward-next, backward-none, visit-now, walk-on}
@@ -13,12 +15,14 @@ use Rattle.table.proofs.sweep.backward_part.Statement.{statement}
 use Rattle.table.proofs.sweep.backward_part.Tie as tie
 
 abbrev Inv-loop : tie.InvT-loop
-Inv-loop words shape marks came goes table₀ place variables next₀ end₀ left₀ table next end left =
+Inv-loop words shape marks came goes table₀ beyond₀ variables next₀ top₀ end₀ left₀ table beyond next top end left =
     let given = handed words shape marks came goes in
-    Walks given left end × Underway table₀ place (backwardAll given) (backwardRows given left end) table next
+    let rest = backwardRows given left end in
+    Walks given left end × Underway table₀ next₀ (backwardAll given) rest table next
+    × Jumping (backwardAll given) next₀ (noting top₀ beyond₀) rest next (noting top beyond)
 
 abbrev μ-loop : tie.MeasureT-loop
-μ-loop words shape marks came goes table₀ place variables next₀ end₀ left₀ table next end left = left
+μ-loop words shape marks came goes table₀ beyond₀ variables next₀ top₀ end₀ left₀ table beyond next top end left = left
 
 abbrev start : tie.In-loop Inv-loop μ-loop → tie.Start Inv-loop μ-loop
 start c = c .before .before .before .before .before .before .before .before
@@ -34,19 +38,21 @@ said : (c : tie.After-form-of Inv-loop μ-loop) → SaysPart (rowSaid (c .before
 said c =
     let turn = c .before .before in
     let there : turn .before .loop .end - 1 < handedTo turn .rows = omega (arith, visit turn) in
-    says-part _ _ (subst Says (sym (c .before .row-of .ensures)) (start turn .pre .1 .0 .says _ there)) (ap (λ form. form .3) (c .form-of .ensures))
+    says-part _ _ (subst Says (sym (c .before .row-of .ensures)) (start turn .pre .1 .1 .0 .says _ there)) (ap (λ form. form .3) (c .form-of .ensures))
 
 cast-variables : tie.Need-cast-variables Inv-loop μ-loop
-cast-variables c = record { fits = omega (arith, c .before .before .before .before .before .before .pre .1 .1 .few) }
+cast-variables c = record { fits = omega (arith, c .before .before .before .before .before .before .pre .1 .1 .1 .few) }
 
 loop-holds : tie.Need-loop-holds Inv-loop μ-loop
-loop-holds c = (c .before .before .before .before .before .before .pre .1 .1 .walks, underway-start _ _ refl)
+loop-holds c =
+    let given = c .before .before .before .before .before .before .pre in
+    (given .1 .1 .1 .walks, underway-start _ _ refl, jumping-start _ refl (given .1 .0))
 
 sub-q : tie.Need-sub-q Inv-loop μ-loop
 sub-q c = omega (arith, visit c)
 
 row-of-requires : tie.Need-row-of-requires Inv-loop μ-loop
-row-of-requires c κs = omega (arith, visit c, start c .pre .1 .0 .there)
+row-of-requires c κs = omega (arith, visit c, start c .pre .1 .1 .0 .there)
 
 form-of-requires : tie.Need-form-of-requires Inv-loop μ-loop
 form-of-requires c κs = search needs
@@ -57,7 +63,7 @@ turns-back-requires c κs = search needs
 shared-slice-read-backward-row : tie.Need-shared-slice-read-backward-row Inv-loop μ-loop
 shared-slice-read-backward-row c =
     let turn = c .before .before .before .before .before in
-    omega (arith, visit turn, start turn .pre .1 .0 .marked)
+    omega (arith, visit turn, start turn .pre .1 .1 .0 .marked)
 
 backward-row-requires : tie.Need-backward-row-requires Inv-loop μ-loop
 backward-row-requires c κs =
@@ -68,28 +74,46 @@ backward-row-requires c κs =
     let left = backward-next (handedTo turn) _ _ (turn .loop-test .taken) is (said row .is) (c .before .before .turns-back .ensures) refl in
     let there : turn .before .loop .end - 1 < handedTo turn .rows = omega (arith, visit turn) in (
       room-first _ _ (rw left at (underway-room (turn .before .loop .inv .1) (given .0))),
-      (said row, subst (Small (handedTo turn .variables)) (sym is) (given .1 .1 .small _ there)),
+      (said row, subst (Small (handedTo turn .variables)) (sym is) (given .1 .1 .1 .small _ there)),
     )
+
+backward-requires : tie.Need-backward-requires Inv-loop μ-loop
+backward-requires c κs = search needs
+
+note-requires : tie.Need-note-requires Inv-loop μ-loop
+note-requires c κs =
+    let wrote = c .before .before .before .before in
+    let row = wrote .before .before .before .before in
+    let turn = row .before .before in
+    let turns = wrote .before .before .before .turns-back .ensures in
+    let left = backward-next (handedTo turn) _ _ (turn .loop-test .taken) (row .before .row-of .ensures) (said row .is) turns refl in
+    row-ends (turn .before .loop .inv .2) _ left (wrote .backward-row .ensures) (backward-ends (said row) _ _ _ (c .before .backward .ensures))
 
 step-back-requires : tie.Need-step-back-requires Inv-loop μ-loop
 step-back-requires c κs = search needs
 
 sub-left : tie.Need-sub-left Inv-loop μ-loop
-sub-left c = omega (arith, c .before .before .before .before .before .before .before .before .before .loop-test .taken)
+sub-left c = omega (arith, c .before .before .before .before .before .before .before .before .before .before .before .before .loop-test .taken)
 
 loop-less : tie.Need-loop-less Inv-loop μ-loop
-loop-less c = omega (arith, c .before .before .before .before .before .before .before .before .before .loop-test .taken)
+loop-less c = omega (arith, c .before .before .before .before .before .before .before .before .before .before .before .before .loop-test .taken)
 
 loop-again : tie.Need-loop-again Inv-loop μ-loop
 loop-again c =
-    let row = c .before .before .before .before .before .before .before in
+    let noted = c .before in
+    let wrote = noted .before .before .before .before .before in
+    let row = wrote .before .before .before .before in
     let turn = row .before .before in
     let held = turn .before .loop .inv in
     let some = turn .loop-test .taken in
     let is = row .before .row-of .ensures in
     let goes = c .step-back .ensures in
-    let left = backward-next (handedTo turn) _ _ some is (said row .is) (c .before .before .before .before .before .before .turns-back .ensures) goes in
-    (walk-on (handedTo turn) _ _ some is (said row .is) goes (held .0), underway-next _ (held .1) left (c .before .before .before .backward-row .ensures))
+    let rows = wrote .backward-row .ensures in
+    let left = backward-next (handedTo turn) _ _ some is (said row .is) (wrote .before .before .before .turns-back .ensures) goes in (
+      walk-on (handedTo turn) _ _ some is (said row .is) goes (held .0),
+      underway-next _ (held .1) left rows,
+      jumping-next (held .2) _ left rows (backward-ends (said row) _ _ _ (noted .before .before .backward .ensures)) (noted .note .ensures),
+    )
 
 same-length : tie.Need-same-length Inv-loop μ-loop
 same-length c = underway-length (c .before .loop .inv .1)
@@ -98,7 +122,8 @@ returns : tie.Need-returns Inv-loop μ-loop
 returns c =
     let x = c .before .before .before .before .before .before .before .before .args in
     let given = handed (x .words .now) (x .shape) (x .marks .now) (x .came .now) (x .goes .now) in
-    underway-end (c .before .loop .inv .1) (backward-none given _ _ (c .loop-test .left))
+    let none = backward-none given _ _ (c .loop-test .left) in
+    record { wrote = underway-end (c .before .loop .inv .1) none; noted = jumping-end (c .before .loop .inv .2) none }
 
 pub backward-part-spec : {M : Type 1} → statement M
 backward-part-spec =
@@ -114,6 +139,8 @@ backward-part-spec =
     turns-back-requires
     shared-slice-read-backward-row
     backward-row-requires
+    backward-requires
+    note-requires
     step-back-requires
     sub-left
     loop-less

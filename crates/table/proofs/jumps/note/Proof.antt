@@ -1,0 +1,86 @@
+-- `table::jumps::note` meets its contract: each arm is one case of what the row is to the branches.
+use borrow.Author.Needs.{needs}
+use Rattle.table.proofs.JumpLaws.{branch-opens, branch-splits, branch-closes, branch-passes}
+use Rattle.table.proofs.jumps.note.Statement.{statement}
+use Rattle.table.proofs.jumps.note.Tie as tie
+
+rows-before-requires : tie.Need-rows-before-requires
+rows-before-requires c κs = search needs
+
+sub-row : tie.Need-sub-row
+sub-row c = search needs
+
+enum-told : tie.Need-enum-told
+enum-told c = search needs
+
+put-requires : tie.Need-put-requires
+put-requires c κs = search needs
+
+enum-told-2 : tie.Need-enum-told-2
+enum-told-2 c = search needs
+
+word-at-requires : tie.Need-word-at-requires
+word-at-requires c κs = search needs
+
+put-requires-2 : tie.Need-put-requires-2
+put-requires-2 c κs = search needs
+
+put-requires-3 : tie.Need-put-requires-3
+put-requires-3 c κs = search needs
+
+enum-told-3 : tie.Need-enum-told-3
+enum-told-3 c = search needs
+
+word-at-requires-2 : tie.Need-word-at-requires-2
+word-at-requires-2 c κs = search needs
+
+put-requires-4 : tie.Need-put-requires-4
+put-requires-4 c κs = search needs
+
+enum-told-4 : tie.Need-enum-told-4
+enum-told-4 c = search needs
+
+returns : tie.Need-returns
+returns c =
+    let told = c .before .before in
+    branch-opens _ _ _ _ (told .before .before .rows-before .ensures) (told .enum-told .given .1) (c .put .ensures)
+
+returns-2 : tie.Need-returns-2
+returns-2 c =
+    let closed = c .before .before in
+    let read = closed .before .before in
+    let told = read .before .before .before in
+    let counted = told .before .before in
+    branch-splits _ _ _ _ (counted .rows-before .ensures) (counted .before .pre) (read .word-at .ensures) (told .enum-told2 .given .1) (closed .put2 .ensures)
+    (c .put3 .ensures)
+
+returns-3 : tie.Need-returns-3
+returns-3 c =
+    let read = c .before .before in
+    let told = read .before .before .before in
+    let counted = told .before .before in
+    branch-closes _ _ _ _ (counted .rows-before .ensures) (counted .before .pre) (read .word-at2 .ensures) (told .enum-told3 .given .1) (c .put4 .ensures)
+
+returns-4 : tie.Need-returns-4
+returns-4 c = branch-passes (c .enum-told4 .given .1) _ _
+
+pub note-spec : {M : Type 1} → statement M
+note-spec =
+    tie.close
+    (tie.spec
+    rows-before-requires
+    sub-row
+    enum-told
+    put-requires
+    enum-told-2
+    word-at-requires
+    put-requires-2
+    put-requires-3
+    enum-told-3
+    word-at-requires-2
+    put-requires-4
+    enum-told-4
+    returns
+    returns-2
+    returns-3
+    returns-4)
