@@ -1,8 +1,18 @@
-// A block's rows, found by the partners that are noted for them.
+// What a row is to the blocks, and a block's rows, found by the partners that are noted for them.
 ghost use mathlib.Core.Path.{_≡_};
 ghost use lib.ListN.{getD};
+ghost use Rattle.sheet.specs.inner.Kinds.{partFor};
 ghost use Rattle.table.specs.inner.MarkedRows.{ifEnd};
 use sheet::RowNumber;
+use sheet::kinds;
+use sheet::kinds::Part;
+
+pub fn part_of(kind: u16) -> Part
+    ensures { λ r. ⌜ r ≡ partFor kind ⌝ }
+{
+    let form = kinds::form_of(kind);
+    form.3
+}
 
 // A row's partner; row 0 where none is noted.
 pub fn partner(noted: &[u16], row: RowNumber) -> RowNumber
