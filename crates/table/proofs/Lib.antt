@@ -15,8 +15,8 @@ pub mod WalkTree
 pub mod WholeTable
 pub mod RowCounts
 pub mod CountTree
-pub mod NeedRows
 pub mod NeedsTree
+pub mod SizesPass
 pub mod RowsSmall
 pub mod SheetLaid
 pub mod NotedTree

@@ -9,21 +9,10 @@ use types.Run.{OneOf}
 use Rattle.sheet.specs.declared.kinds.Part.{Part}
 use Rattle.sheet.specs.declared.kinds.Part.the-variants as part
 use Rattle.sheet.proofs.kinds.Part as part-type
-use Rattle.table.specs.inner.MarkedRows.{ifEnd, turnsBack}
-use Rattle.table.specs.inner.Needs.{blockEnd}
+use Rattle.table.specs.inner.MarkedRows.{turnsBack}
 
 abbrev Among : List ℕ → Part → Type 0
 Among numbers p = OneOf numbers (tagOf part-type.the-type p)
-
-pub not-repeat : (came goes : List ℕ) (q : ℕ) (p : Part) → Among (0 ∷ 1 ∷ 2 ∷ 3 ∷ 5 ∷ []) p → blockEnd came goes q p ≡ ifEnd goes q
-unfolding blockEnd
-not-repeat came goes q part.Assignment other = refl
-not-repeat came goes q part.If other = refl
-not-repeat came goes q part.Else other = refl
-not-repeat came goes q part.EndIf other = refl
-not-repeat came goes q part.Repeat other =
-    absurd (⊎-elim (λ e. omega arith) (⊎-elim (λ e. omega arith) (⊎-elim (λ e. omega arith) (⊎-elim (λ e. omega arith) (λ e. omega arith)))) other)
-not-repeat came goes q part.EndRepeat other = refl
 
 pub not-end-repeat : (words : List ℕ) (first : ℕ) (goes : List ℕ) (q : ℕ) (p : Part) → Among (0 ∷ 1 ∷ 2 ∷ 3 ∷ 4 ∷ []) p
     → turnsBack words first goes q p ≡ 0

@@ -2,27 +2,28 @@
 use Prim.Native.Nat.{ℕ, _+_, _≤_}
 use native.Mathlib.Omega.{arith}
 use mathlib.Core.Path.{_≡_, refl, sym, ap, subst, _∙_}
-use mathlib.Core.List.{List}
+use mathlib.Core.List.{List, []}
 use lib.ListN.{length, set}
 use Rattle.sheet.specs.Tree.{rows}
 use Rattle.sheet.specs.Reading.{Sheet, variablesOf}
 use Rattle.sheet.specs.declared.Shape.{Shape}
 use Rattle.sheet.specs.Rows.{Assignment}
+use Rattle.sheet.proofs.Depth.{sheet-deep}
 use Rattle.sets.specs.Marks.{Marked, varied, useful, required, markBy, marked}
 use Rattle.table.specs.declared.Plan.{Plan}
 use Rattle.table.specs.TableRows.{tableWords}
 use Rattle.table.specs.Adjoint.{adjointTable, tableOf}
-use Rattle.table.specs.Sizes.{mostTableRows, tableRows}
+use Rattle.table.specs.Sizes.{mostTableRows, tableRows, valuesNeeded, turnsNeeded}
 use Rattle.table.specs.Calls.{tableRoom, overwritten}
 use Rattle.table.specs.inner.MarkedRows.{rowsIn, Readable, Handed, handed, Walkable, Room, Wrote, wholeRows, countAll}
 use Rattle.table.specs.inner.JumpsNoted.{noting, notedOver, Numbered, JumpsNoted}
-use Rattle.table.specs.declared.needs.Stack.{Stack}
-use Rattle.table.specs.inner.Needs.{needOver}
+use Rattle.table.specs.declared.needs.Need.{Need}
+use Rattle.table.specs.inner.Needs.{needing, nothing, Comes}
 use Rattle.table.specs.inner.Plans.{SheetNoted, PlanMade}
 use Rattle.table.proofs.WalkTree.{tree-says, tree-walks}
 use Rattle.table.proofs.WholeTable.{whole-is-table, table-rows-counted, buffer-overwritten}
 use Rattle.table.proofs.CountTree.{counted-is-table-rows}
-use Rattle.table.proofs.NeedsTree.{neededOn, need-is-needed}
+use Rattle.table.proofs.NeedsTree.{body-comes}
 use Rattle.table.proofs.SheetLaid.{Lies, sheet-lies, table-rows-within}
 
 -- the marks that the sets give
@@ -53,12 +54,15 @@ module _ {words : List ℕ} {sheet : Sheet} {shape : Shape} (lies : Lies words s
         ∙ counted-is-table-rows (variablesOf sheet) words (shape .«first_row») marks came goes (marksOf sheet) (shape .rows) (sheet .body)
         (lies .says) noted
 
-    pub need-right : (stack : Stack) (r : ℕ) → r ≡ needOver stack words shape marks came goes → r ≡ neededOn stack (marked sheet)
-    unfolding marked needOver
-    need-right stack r e =
-        e
-        ∙ need-is-needed stack words (shape .«first_row») marks came goes (marksOf sheet) (shape .rows) (sheet .body) (lies .says) noted
-        (omega (arith, lies .short))
+    -- S and T
+    abbrev pub needOf : Need
+    needOf = needing (valuesNeeded (marked sheet)) (turnsNeeded (marked sheet))
+
+    pub need-comes : Comes words (shape .«first_row») marks needOf 0 (shape .rows) nothing []
+    unfolding marked
+    need-comes =
+        body-comes words (shape .«first_row») marks came goes (marksOf sheet) (sheet .body) (shape .rows) (lies .says) noted (lies .short)
+        (sheet-deep words sheet (lies .is))
 
     whole-right : wholeRows given ≡ rowsIn (tableOf sheet)
     unfolding tableOf marked

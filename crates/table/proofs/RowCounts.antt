@@ -1,14 +1,15 @@
 -- How many rows a sheet's row has in the table's two parts, and how many all of them have.
-use Prim.Native.Nat.{ℕ, suc, _+_, _*_, _-_, _≤_, _<_}
+use Prim.Native.Nat.{ℕ, zero, suc, _+_, _*_, _-_, _≤_, _<_}
 use mathlib.Core.Path.{_≡_, refl, ap, _∙_}
-use mathlib.Core.Bool.{Bool, true, false, cond}
+use mathlib.Core.Bool.{Bool, true, false, cond, not, _&&_}
 use mathlib.Core.List.{List, [], _∷_, _++_}
 use lib.ListN.{length, length-append, getD}
+use lib.Dec.{eqb, leb}
 use native.Mathlib.Omega.{arith}
 use Rattle.sheet.specs.Rows.{Row}
 use Rattle.sheet.specs.inner.RowLines.{lineOfRow}
 use Rattle.sheet.specs.declared.kinds.Part.{Part}
-use Rattle.table.specs.inner.MarkedRows.{rowIf, knownBy, savedBy, rowNumbered, SaysPart, partRows, derivativesOf, assignmentBack, forwardOfLine, backwardOfLine, bothParts, countRows}
+use Rattle.table.specs.inner.MarkedRows.{rowIf, knownBy, savedBy, rowNumbered, Assigns, SaysPart, partRows, derivativesOf, assignmentBack, forwardOfLine, backwardOfLine, bothParts, countRows}
 use Rattle.table.proofs.AssignmentRows.{constant-rows, copy-rows, negation-rows, two-rows, product-rows, active-rows, inactive-rows, assignment-rows}
 use Rattle.table.proofs.LineRows.{forwardFor, forward-by, backwardFor, backward-by}
 
@@ -16,23 +17,29 @@ one-if : (b : Bool) (r : Row) → length (rowIf b r) ≡ cond b 1 0
 one-if true r = refl
 one-if false r = refl
 
+-- the operands that name a varied variable: a constant has none, and a sum, a difference and a product have two
+abbrev pub operandsOf : (kind : ℕ) (first second : Bool) → ℕ
+operandsOf kind first second = cond (not (eqb kind 2) && first) 1 0 + cond ((leb 3 kind && leb kind 5) && second) 1 0
+
 module _ (v : ℕ) (r : Row) (mark : ℕ) where
-  pub constant-count : r .kind ≡ 2 → length (partRows v r mark) ≡ 0
-  constant-count e = ap length (constant-rows v r mark e)
-
-  module _ {first : Bool} (varied-a : first ≡ knownBy mark .variedA) where
-    pub copy-count : r .kind ≡ 1 → length (partRows v r mark) ≡ cond first 1 0
-    copy-count e = ap length (copy-rows v r mark varied-a refl e) ∙ one-if first _
-
-    pub negation-count : r .kind ≡ 6 → length (partRows v r mark) ≡ cond first 1 0
-    negation-count e = ap length (negation-rows v r mark varied-a refl e) ∙ one-if first _
-
-    module _ {second : Bool} (varied-b : second ≡ knownBy mark .variedB) where
-      pub product-count : r .kind ≡ 5 → length (partRows v r mark) ≡ 2 * cond first 1 0 + 2 * cond second 1 0
-      product-count e = ap length (product-rows v r mark varied-a varied-b e) ∙ simp (length-append, one-if) (omega arith)
-
-      pub two-count : (3 ≤ r .kind) × (r .kind ≤ 4) → length (partRows v r mark) ≡ cond first 1 0 + cond second 1 0
-      two-count h = ap length (two-rows v r mark varied-a varied-b refl h) ∙ simp (length-append, one-if)
+  -- each has one row of the parts, and in a product two
+  pub parts-counted : {first second : Bool} → first ≡ knownBy mark .variedA → second ≡ knownBy mark .variedB → Assigns (r .kind)
+      → length (partRows v r mark) ≡ cond (eqb (r .kind) 5) (2 * operandsOf (r .kind) first second) (operandsOf (r .kind) first second)
+  parts-counted {first} {second} a-is b-is assigns = by (r .kind) refl (assigns .some) (assigns .most)
+    where
+      by : (kind : ℕ) → r .kind ≡ kind → 1 ≤ kind → kind ≤ 6
+          → length (partRows v r mark) ≡ cond (eqb kind 5) (2 * operandsOf kind first second) (operandsOf kind first second)
+      by zero e l h = absurd (omega arith)
+      by (suc zero) e l h = ap length (copy-rows v r mark a-is refl e) ∙ one-if first _ ∙ omega arith
+      by (suc (suc zero)) e l h = ap length (constant-rows v r mark e)
+      by (suc (suc (suc zero))) e l h =
+          ap length (two-rows v r mark a-is b-is refl (omega arith, omega arith)) ∙ simp (length-append, one-if)
+      by (suc (suc (suc (suc zero)))) e l h =
+          ap length (two-rows v r mark a-is b-is refl (omega arith, omega arith)) ∙ simp (length-append, one-if)
+      by (suc (suc (suc (suc (suc zero))))) e l h =
+          ap length (product-rows v r mark a-is b-is e) ∙ simp (length-append, one-if) (omega arith)
+      by (suc (suc (suc (suc (suc (suc zero)))))) e l h = ap length (negation-rows v r mark a-is refl e) ∙ one-if first _ ∙ omega arith
+      by (suc (suc (suc (suc (suc (suc (suc k))))))) e l h = absurd (omega arith)
 
   -- an assignment's rows backward: the take back if it is saved, two more where it is active
   module _ {saved : Bool} (is-saved : saved ≡ savedBy mark) where

@@ -19,6 +19,7 @@ pub mod kinds;
 mod needs;
 mod partners;
 mod rows;
+mod sizes;
 mod sweep;
 
 // "Hence R is at most": for each of a sheet's rows these forward and backward, the parts among the latter, and row 17.
@@ -66,7 +67,7 @@ pub enum Planned {
     Made(Plan),
 }
 
-// The plan of an accepted sheet, from its rows' marks and its block rows' partners.
+// The plan of an accepted sheet, from its rows' marks. The partners are there for what the plan says of them.
 fn plan_of(
     words: &[u16],
     shape: sheet::Shape,
@@ -78,14 +79,13 @@ fn plan_of(
         ∗ ⌜ ((sheet : Sheet) → read (now words) ≡ given sheet → SheetNoted sheet (now marks) (now came) (now goes)) ⌝ }
     ensures { λ r. ⌜ PlanMade (now (words .entry)) r (now (marks .entry)) (now (came .entry)) (now (goes .entry)) ⌝ }
 {
-    let count = count::table_rows(words, shape, marks);
-    let values = needs::needed(needs::Stack::Values, words, shape, marks, came, goes);
-    let turns = needs::needed(needs::Stack::Turns, words, shape, marks, came, goes);
+    let sizes = sizes::sizes_of(words, shape, marks);
+    let need = sizes.need;
     Plan {
         shape,
-        rows: count,
-        values,
-        turns,
+        rows: sizes.rows,
+        values: need.values,
+        turns: need.turns,
     }
 }
 

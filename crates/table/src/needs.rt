@@ -1,157 +1,103 @@
-// S and T: what a sheet's rows need of the value stack or of the turn stack.
+// What rows need of the two stacks, and what is kept of the blocks that are open around them.
 ghost use mathlib.Core.Path.{_≡_};
-ghost use Prim.Native.Nat.{_≤_, _<_, max};
-ghost use lib.ListN.{length};
-ghost use Rattle.sheet.specs.inner.RowLines.{lineOfRow};
-ghost use Rattle.sheet.specs.Answers.{rowSaid};
-ghost use Rattle.table.specs.inner.MarkedRows.{SaysPart, Readable, savedBy};
-ghost use Rattle.table.specs.inner.Needs.{capped, ofSaved, ofBranch, needOfLine, blockEnd, LooksUp, needOver};
+ghost use Prim.Native.Nat.{max};
+ghost use Rattle.table.specs.inner.MarkedRows.{savedBy};
+ghost use Rattle.table.specs.inner.Needs.{Few, withSaved, opened, split, afterIf, afterRepeat};
 use super::count;
-use super::partners;
 use super::rows;
-use sheet::RowNumber;
-use sheet::RowWords;
-use sheet::kinds;
-use sheet::kinds::Part;
 
-// Which stack's need is counted.
-pub enum Stack {
-    Values,
-    Turns,
+// Of the value stack and of the turn stack: S and T of the rows.
+pub struct Need {
+    pub values: usize,
+    pub turns: usize,
 }
 
-const GREATEST_WORD: usize = 65535;
+pub const NOTHING: Need = Need {
+    values: 0,
+    turns: 0,
+};
 
-// A sum as a word: the greatest stands for all above it, and no accepted sheet comes near it.
-fn capped(sum: usize) -> u16
-    ensures { λ r. ⌜ r ≡ capped sum ⌝ }
-{
-    if GREATEST_WORD < sum {
-        return GREATEST_WORD as u16;
-    }
-    sum as u16
+// A block that is open: what the rows before it need, what its first branch needs once that is known, and how often a repeat's body is run.
+pub struct Level {
+    pub before: Need,
+    pub first: Need,
+    pub times: usize,
 }
 
-// What an assignment needs.
-fn of_saved(stack: Stack, mark: u8) -> usize
-    ensures { λ r. ⌜ (r ≡ ofSaved stack (savedBy mark)) × (r ≤ 1) ⌝ }
-{
-    match stack {
-        Stack::Values => {
-            let saved = rows::bit(mark, sets::SAVED);
-            count::one_if(saved)
-        }
-        Stack::Turns => 0,
-    }
-}
+pub const NO_LEVEL: Level = Level {
+    before: NOTHING,
+    first: NOTHING,
+    times: 0,
+};
 
-// What an if block needs besides its branches.
-fn of_branch(stack: Stack) -> usize
-    ensures { λ r. ⌜ (r ≡ ofBranch stack) × (r ≤ 1) ⌝ }
+// After an assignment.
+pub fn with_saved(need: Need, mark: u8) -> Need
+    requires { ⌜ Few (withSaved (savedBy mark) need) ⌝ }
+    ensures { λ r. ⌜ r ≡ withSaved (savedBy mark) need ⌝ }
 {
-    match stack {
-        Stack::Values => 0,
-        Stack::Turns => 1,
+    let saved = rows::bit(mark, sets::SAVED);
+    let more = count::one_if(saved);
+    let turns = need.turns;
+    Need {
+        values: need.values + more,
+        turns,
     }
 }
 
-// What an if block's branches need: one of them is run.
-fn of_branches(first: u16, second: u16) -> usize
+// "if" and "repeat": the block begins with nothing needed in it.
+pub fn opened(need: Need, times: usize) -> Level
+    ensures { λ r. ⌜ r ≡ opened times need ⌝ }
+{
+    Level {
+        before: need,
+        first: NOTHING,
+        times,
+    }
+}
+
+// "else": the second branch begins.
+pub fn split(level: Level, first: Need) -> Level
+    ensures { λ r. ⌜ r ≡ split level first ⌝ }
+{
+    let before = level.before;
+    let times = level.times;
+    Level {
+        before,
+        first,
+        times,
+    }
+}
+
+fn larger(first: usize, second: usize) -> usize
     ensures { λ r. ⌜ r ≡ max first second ⌝ }
 {
-    if first < second {
-        return second as usize;
-    }
-    first as usize
+    if first < second { second } else { first }
 }
 
-// What a row and the rows after it in its block need.
-fn of_row(
-    stack: Stack,
-    row: RowWords,
-    part: Part,
-    mark: u8,
-    next: u16,
-    second: u16,
-    beyond: u16,
-) -> u16
-    requires { ⌜ SaysPart (rowSaid row) part ⌝ }
-    ensures { λ r. ⌜ r ≡ capped (needOfLine stack mark (lineOfRow (rowSaid row)) next second beyond) ⌝ }
+// "end if": one of the branches is run, and the turn is saved.
+pub fn after_if(level: Level, second: Need) -> Need
+    requires { ⌜ Few (afterIf level second) ⌝ }
+    ensures { λ r. ⌜ r ≡ afterIf level second ⌝ }
 {
-    let after = beyond as usize;
-    match part {
-        Part::Assignment => {
-            let own = of_saved(stack, mark);
-            capped(own + next as usize)
-        }
-        Part::If => {
-            let own = of_branch(stack);
-            let branches = of_branches(next, second);
-            capped(own + branches + after)
-        }
-        Part::Else => 0,
-        Part::EndIf => 0,
-        Part::Repeat => {
-            let body = row.a as usize * next as usize;
-            capped(body + after)
-        }
-        Part::EndRepeat => 0,
+    let before = level.before;
+    let first = level.first;
+    let values = larger(first.values, second.values);
+    let turns = larger(first.turns, second.turns);
+    Need {
+        values: before.values + values,
+        turns: before.turns + 1 + turns,
     }
 }
 
-// The last row of the block that a row opens.
-fn block_end(came: &[u16], goes: &[u16], row: RowNumber, part: Part) -> RowNumber
-    ensures { λ r. ⌜ r .0 ≡ blockEnd (now (came .entry)) (now (goes .entry)) (row .0) part ⌝ }
+// "end repeat": the body is run so many times.
+pub fn after_repeat(level: Level, body: Need) -> Need
+    requires { ⌜ Few (afterRepeat level body) ⌝ }
+    ensures { λ r. ⌜ r ≡ afterRepeat level body ⌝ }
 {
-    if let Part::Repeat = part {
-        return partners::partner(came, row);
+    let before = level.before;
+    let times = level.times;
+    Need {
+        values: before.values + times * body.values,
+        turns: before.turns + times * body.turns,
     }
-    partners::if_end(goes, row)
-}
-
-// What the rows after a row need, as far as they come after the row in hand.
-fn after_row(sums: &[u16], rows: usize, in_hand: RowNumber, row: RowNumber) -> u16
-    requires { ⌜ rows < length (now sums) ⌝ }
-    ensures { λ r. ⌜ LooksUp (now (sums .entry)) rows (in_hand .0) (row .0) r ⌝ }
-{
-    let number = row.0;
-    if number < in_hand.0 {
-        return 0;
-    }
-    if number < rows {
-        return sums[number + 1];
-    }
-    0
-}
-
-// S or T, from the last row to the first: for each row the number that it and the rows after it in its block need.
-pub fn needed(
-    stack: Stack,
-    words: &[u16],
-    shape: sheet::Shape,
-    marks: &[u8],
-    came: &[u16],
-    goes: &[u16],
-) -> usize
-    requires { ⌜ Readable (now words) shape (now marks) ⌝ }
-    ensures { λ r. ⌜ r ≡ needOver stack (now (words .entry)) shape (now (marks .entry)) (now (came .entry)) (now (goes .entry)) ⌝ }
-{
-    let rows = shape.rows;
-    let mut sums = [0u16; sheet::MAX_ROWS + 1];
-    let mut left: usize = rows;
-    while 0 < left {
-        let q = left - 1;
-        let row = RowNumber(q);
-        let line = sheet::row_of(words, shape.first_row, row);
-        let form = kinds::form_of(line.kind);
-        let part = form.3;
-        let split = partners::partner(goes, row);
-        let end = block_end(came, goes, row, part);
-        let next = after_row(&sums, rows, row, row);
-        let second = after_row(&sums, rows, row, split);
-        let beyond = after_row(&sums, rows, row, end);
-        sums[q] = of_row(stack, line, part, marks[q], next, second, beyond);
-        left = q;
-    }
-    sums[0] as usize
 }

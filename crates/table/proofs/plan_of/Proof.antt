@@ -1,12 +1,8 @@
--- `table::plan_of` meets its contract: R, S and T are counted from what is noted.
-use Prim.Native.Nat.{ℕ, _≤_}
-use mathlib.Core.List.{List}
-use lib.ListN.{length}
+-- `table::plan_of` meets its contract: R, S and T are found from what is noted.
+use mathlib.Core.Path.{ap}
 use native.Mathlib.Omega.{arith}
-use Rattle.sheet.specs.Bounds.{limit}
 use Rattle.table.proofs.SheetLaid.{SomeSheet, accepted-lies}
-use Rattle.table.proofs.PlanLaws.{readable, rows-right, need-right}
-use Rattle.table.specs.inner.MarkedRows.{Readable}
+use Rattle.table.proofs.PlanLaws.{readable, rows-right, need-comes}
 use Rattle.table.proofs.plan_of.Statement.{statement}
 use Rattle.table.proofs.plan_of.Tie as tie
 
@@ -14,44 +10,34 @@ use Rattle.table.proofs.plan_of.Tie as tie
 sheet-found : (c : tie.Start) → let args = c .args in SomeSheet (args .words .now) (args .shape)
 sheet-found c = accepted-lies _ _ (c .pre .0)
 
-rows-readable : (c : tie.Start) (marks : List ℕ) → limit .rows ≤ length marks
-    → let args = c .args in Readable (args .words .now) (args .shape) marks
-rows-readable c marks long = let lies = sheet-found c .lies in let few = lies .fewRows in readable lies marks (omega arith)
-
-table-rows-requires : tie.Need-table-rows-requires
-table-rows-requires c κs = let start : tie.Start = search in rows-readable start _ (omega arith)
-
-needed-requires : tie.Need-needed-requires
-needed-requires c κs = let start : tie.Start = search in rows-readable start _ (omega arith)
-
-needed-requires-2 : tie.Need-needed-requires-2
-needed-requires-2 c κs = let start : tie.Start = search in rows-readable start _ (omega arith)
+sizes-of-requires : tie.Need-sizes-of-requires
+sizes-of-requires c κs =
+    let start : tie.Start = search in
+    let found = sheet-found start in
+    let lies = found .lies in
+    let few = lies .fewRows in
+    (readable lies _ (omega arith), record { total = _; comes = need-comes lies _ _ _ (start .pre .1 (found .sheet) (lies .is)) })
 
 returns : tie.Need-returns
 returns c =
     let start : tie.Start = search in
-    let counting : tie.After-table-rows = search in
-    let values : tie.After-needed = search in
+    let sizes : tie.After-sizes-of = search in
     let found = sheet-found start in
     let lies = found .lies in
     let noted = start .pre .1 (found .sheet) (lies .is) in
+    let said = sizes .sizes-of .ensures in
+    let needs = said .need _ (need-comes lies _ _ _ noted) in
     record {
       sheet = found .sheet;
       accepted = lies .is;
       planned = record {
         shape = lies .shapeIs;
-        rows = rows-right lies _ _ _ noted _ (counting .table-rows .ensures);
-        values = need-right lies _ _ _ noted _ _ (values .needed .ensures);
-        turns = need-right lies _ _ _ noted _ _ (c .needed2 .ensures);
+        rows = rows-right lies _ _ _ noted _ (said .rows);
+        values = ap (λ need. need .values) needs;
+        turns = ap (λ need. need .turns) needs;
         noted = noted;
       };
     }
 
 pub plan-of-spec : {M : Type 1} → statement M
-plan-of-spec =
-    tie.close
-    (tie.spec
-    table-rows-requires
-    needed-requires
-    needed-requires-2
-    returns)
+plan-of-spec = tie.close (tie.spec sizes-of-requires returns)

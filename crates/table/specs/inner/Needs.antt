@@ -1,82 +1,81 @@
--- S and T row by row, from the last row to the first: what each row and the rows after it in its block need of a stack.
-use Prim.Native.Nat.{ℕ, zero, suc, _+_, _*_, _-_, _<_, min, max}
+-- S and T in one pass over the rows: what the block at hand needs so far, and what is kept of the blocks that are open around it.
+use Prim.Native.Nat.{ℕ, zero, suc, _+_, _*_, _≤_, _<_, max}
 use mathlib.Core.Path.{_≡_}
 use mathlib.Core.Bool.{Bool, cond}
 use mathlib.Core.List.{List, [], _∷_}
 use lib.ListN.{length, getD}
-use lib.Dec.{ltb}
-use Rattle.sheet.specs.Bounds.{greatestWord}
-use Rattle.sheet.specs.Tree.{basic, ifLine, elseLine, endIf, repeat, endRepeat}
-use Rattle.sheet.specs.Rows.{SheetLine}
-use Rattle.sheet.specs.inner.RowLines.{lineOfRow}
+use Rattle.sheet.specs.Bounds.{limit}
 use Rattle.sheet.specs.Reading.{rowAt}
-use Rattle.sheet.specs.inner.Kinds.{partOf}
+use Rattle.sheet.specs.inner.Kinds.{formFor, partFor}
 use Rattle.sheet.specs.declared.Shape.{Shape}
 use Rattle.sheet.specs.declared.kinds.Part.{Part}
 use Rattle.sheet.specs.declared.kinds.Part.the-variants as part
-use Rattle.table.specs.inner.MarkedRows.{savedBy, rowNumbered, ifEnd}
-use Rattle.table.specs.declared.needs.Stack.{Stack}
-use Rattle.table.specs.declared.needs.Stack.the-variants as stack
+use Rattle.table.specs.inner.MarkedRows.{savedBy, rowNumbered, countAll}
+use Rattle.table.specs.declared.needs.Need.{Need}
+use Rattle.table.specs.declared.needs.Level.{Level}
+use Rattle.table.specs.declared.sizes.Sizes.{Sizes}
 
--- the greatest word stands for every sum above it
-abbrev pub capped : ℕ → ℕ
-capped sum = min sum greatestWord
+abbrev pub needing : (values turns : ℕ) → Need
+needing values turns = record { values = values; turns = turns }
 
--- "a recorded row counts 1" on the value stack, "an if block counts 1 + .." on the turn stack
-abbrev pub ofSaved : Stack → (saved : Bool) → ℕ
-ofSaved stack.Values saved = cond saved 1 0
-ofSaved stack.Turns saved = 0
+abbrev pub nothing : Need
+nothing = needing 0 0
 
-abbrev pub ofBranch : Stack → ℕ
-ofBranch stack.Values = 0
-ofBranch stack.Turns = 1
+-- no accepted sheet needs more than W of either stack
+pub record Few (need : Need) : Type 0 where
+  pub values : need .values ≤ limit .longestRun
+  pub turns : need .turns ≤ limit .longestRun
 
--- a line and what comes after it in its block, where the rows from the next one on need `next`, a second branch `second` and
--- the rows after the block that the line opens `beyond`. A line that ends a block, or its first branch, has nothing after it there.
-unfoldable pub needOfLine : Stack → (mark : ℕ) → SheetLine → (next second beyond : ℕ) → ℕ
-needOfLine stack mark (basic b) next second beyond = ofSaved stack (savedBy mark) + next
-needOfLine stack mark (ifLine f) next second beyond = ofBranch stack + max next second + beyond
-needOfLine stack mark elseLine next second beyond = 0
-needOfLine stack mark endIf next second beyond = 0
-needOfLine stack mark (repeat m) next second beyond = suc m * next + beyond
-needOfLine stack mark endRepeat next second beyond = 0
+-- "a recorded row counts 1"
+abbrev pub withSaved : Bool → Need → Need
+withSaved saved need = needing (need .values + cond saved 1 0) (need .turns)
 
--- the last row of the block that row q opens: a "repeat"'s partner, the partner of an "if"'s "else"
-unfoldable pub blockEnd : (came goes : List ℕ) (q : ℕ) → Part → ℕ
-blockEnd came goes q part.Assignment = ifEnd goes q
-blockEnd came goes q part.If = ifEnd goes q
-blockEnd came goes q part.Else = ifEnd goes q
-blockEnd came goes q part.EndIf = ifEnd goes q
-blockEnd came goes q part.Repeat = getD came q 0
-blockEnd came goes q part.EndRepeat = ifEnd goes q
+-- a block begins, so many turns of it
+abbrev pub opened : (times : ℕ) → Need → Level
+opened times need = record { before = need; first = nothing; times = times }
 
--- what the rows after `row` need, of a list that has it for the rows after q, the next one first
-unfoldable pub afterRow : (q : ℕ) (later : List ℕ) (row : ℕ) → ℕ
-afterRow q later row = cond (ltb row q) 0 (getD later (row - q) 0)
+-- and its second branch
+abbrev pub split : Level → (first : Need) → Level
+split level first = record { before = level .before; first = first; times = level .times }
 
--- a buffer holds a list from a place on
-pub record HoldsFrom (buffer : List ℕ) (place : ℕ) (list : List ℕ) : Type 0 where
-  pub each : (k : ℕ) → k < length list → getD buffer (place + k) 0 ≡ getD list k 0
+-- "an if block the larger branch", and of the turn stack "1 + the larger branch"
+abbrev pub afterIf : Level → (second : Need) → Need
+afterIf level second =
+    needing (level .before .values + max (level .first .values) (second .values))
+    (level .before .turns + 1 + max (level .first .turns) (second .turns))
 
--- what is found after `row` among the needs that are kept of the rows after q, for whichever list they are
-abbrev pub LooksUp : (sums : List ℕ) (rows q row found : ℕ) → Type 0
-LooksUp sums rows q row found = (later : List ℕ) → length later ≡ rows - q → HoldsFrom sums (suc q) later → found ≡ afterRow q later row
+-- "a repeat a times its body"
+abbrev pub afterRepeat : Level → (body : Need) → Need
+afterRepeat level body = needing (level .before .values + level .times * body .values) (level .before .turns + level .times * body .turns)
 
-module _ (stack : Stack) (words : List ℕ) (first : ℕ) (marks came goes : List ℕ) where
-  -- row q, by what the rows after it need
-  unfoldable pub needAt : (q : ℕ) (later : List ℕ) → ℕ
-  unfolding needOfLine lineOfRow rowAt afterRow blockEnd
-  needAt q later =
-      capped (needOfLine stack (getD marks q 0) (lineOfRow (rowNumbered words first q)) (afterRow q later q) (afterRow q later (getD goes q 0))
-      (afterRow q later (blockEnd came goes q (partOf (lineOfRow (rowNumbered words first q))))))
+-- What a row does to the need of the block at hand and to the blocks around it, the innermost first: the pass goes on from there, few enough
+-- of everything.
+abbrev pub Takes : Part → (times : ℕ) (saved : Bool) → Need → (around : List Level) → (GoesOn : Need → List Level → Type 0) → Type 0
+Takes part.Assignment times saved need around GoesOn = Few (withSaved saved need) × GoesOn (withSaved saved need) around
+Takes part.If times saved need around GoesOn = (length around < limit .depth) × GoesOn nothing (opened 1 need ∷ around)
+Takes part.Else times saved need [] GoesOn = ⊥
+Takes part.Else times saved need (level ∷ around) GoesOn = GoesOn nothing (split level need ∷ around)
+Takes part.EndIf times saved need [] GoesOn = ⊥
+Takes part.EndIf times saved need (level ∷ around) GoesOn = Few (afterIf level need) × GoesOn (afterIf level need) around
+Takes part.Repeat times saved need around GoesOn = (length around < limit .depth) × GoesOn nothing (opened times need ∷ around)
+Takes part.EndRepeat times saved need [] GoesOn = ⊥
+Takes part.EndRepeat times saved need (level ∷ around) GoesOn = Few (afterRepeat level need) × GoesOn (afterRepeat level need) around
 
-  -- each of so many rows from row q on, and 0 for what is after the last
-  unfoldable pub needsFrom : (q count : ℕ) → List ℕ
-  unfolding needAt
-  needsFrom q zero = 0 ∷ []
-  needsFrom q (suc n) = needAt q (needsFrom (suc q) n) ∷ needsFrom (suc q) n
+module _ (words : List ℕ) (first : ℕ) (marks : List ℕ) (total : Need) where
+  -- so many rows from row p on come to the total
+  unfoldable pub Comes : (p count : ℕ) → Need → (around : List Level) → Type 0
+  unfolding rowAt formFor
+  Comes p zero need around = need ≡ total
+  Comes p (suc n) need around =
+      let row = rowNumbered words first p in
+      Takes (partFor (row .kind)) (row .a) (savedBy (getD marks p 0)) need around (λ next outside. Comes (suc p) n next outside)
 
--- S or T of all rows
-unfoldable pub needOver : Stack → (words : List ℕ) → Shape → (marks came goes : List ℕ) → ℕ
-unfolding needsFrom
-needOver stack words shape marks came goes = getD (needsFrom stack words (shape .«first_row») marks came goes 0 (shape .rows)) 0 0
+-- all rows do, to some total
+pub record Sized (words : List ℕ) (first rows : ℕ) (marks : List ℕ) : Type 0 where
+  pub total : Need
+  pub comes : Comes words first marks total 0 rows nothing []
+
+-- R, whatever the number of variables, S and T
+pub record SizesFound (words : List ℕ) (shape : Shape) (marks : List ℕ) (found : Sizes) : Type 0 where
+  pub rows : (v : ℕ) → found .rows ≡ 1 + countAll v words shape marks
+  pub need : (total : Need) → Comes words (shape .«first_row») marks total 0 (shape .rows) nothing [] → found .need ≡ total
