@@ -6,9 +6,9 @@ use mathlib.Core.Bool.{true, false}
 use mathlib.Core.List.{List, [], _∷_, map}
 use lib.ListN.{length}
 use Rattle.sheet.specs.Bounds.{limit, wordValues}
-use Rattle.sheet.specs.Tree.{Tree, done, one, fork, again, rows, flat, elseLine, endIf, endRepeat}
+use Rattle.sheet.specs.Tree.{Tree, done, one, fork, again, rows, flat, basic, ifLine, elseLine, endIf, repeat, endRepeat}
 use Rattle.sheet.specs.Rows.{Assignment, _≔_, copy, fixed, sum, difference, product, negation, less, Test, SheetLine}
-use Rattle.sheet.specs.Rows.{rowOfAssignment, sheetRowOf, treeRows}
+use Rattle.sheet.specs.Rows.{rowOfAssignment, sheetRowOf, treeRows, kinds}
 use Rattle.sheet.specs.inner.RowLines.{lineOfRow}
 use Rattle.sheet.specs.inner.Kinds.{formFor}
 use Rattle.sheet.specs.Names.{SourcePresent, AssignmentPresent, Present}
@@ -61,6 +61,24 @@ unfolding treeRows
 lines-at words first n t e = lines-part (lineIn words first) t 0 [] (rows-say words first (flat t []) 0 n first (omega arith) e) .0
 
 -- ---- every row
+
+line-kind : (l : SheetLine) → sheetRowOf l .kind ≤ length kinds
+unfolding sheetRowOf
+line-kind (basic (d ≔ copy a)) = omega arith
+line-kind (basic (d ≔ fixed c)) = omega arith
+line-kind (basic (d ≔ sum a b)) = omega arith
+line-kind (basic (d ≔ difference a b)) = omega arith
+line-kind (basic (d ≔ product a b)) = omega arith
+line-kind (basic (d ≔ negation a)) = omega arith
+line-kind (ifLine (less a b)) = omega arith
+line-kind elseLine = omega arith
+line-kind endIf = omega arith
+line-kind (repeat m) = omega arith
+line-kind endRepeat = omega arith
+
+-- a row's kind is one of the table's
+pub kind-there : {words : List ℕ} {first p : ℕ} → Readable words first p → rowAt words (first + p * limit .rowWords) .kind ≤ length kinds
+kind-there {words} {first} {p} r = subst (λ row. row .kind ≤ length kinds) (r .says) (line-kind (lineIn words first p))
 
 -- what every one of a list's places has
 abbrev Each : {A : Type 0} → (A → Type 0) → List A → Type 0

@@ -49,7 +49,7 @@ module _ {which : Which} {given : Given} {others : List ℕ} {n v size : ℕ} (s
         inHand = rw (is, own-place which n i h) (carried .inHand);
         back = λ e.
             let near : getD others row 0 < n = subst (λ p. getD others p 0 < n) (sym is) (s .wired .back i h (rw is at e) .0) in
-            (omega (arith, carried .walk .kept .long), s .readable _ near .there);
+            (omega (arith, carried .walk .kept .long), s .readable _ near);
       }
 
   pub ended : {sets : List VariableSet} {own i : ℕ} → Carried which given others n v sets own i → n ≤ i

@@ -22,16 +22,15 @@ pub struct Operation {
     pub second: u64,
 }
 
-// A word that names no variable, such as a constant's number, never becomes one.
+// The set of the variable that a word names, without a branch: kinds follow each other in no order that a processor could foresee. A word that names
+// none, such as a constant's number, never becomes a variable.
 fn named(slot: Slot, word: u16) -> u64
     requires { ⌜ word < maskBits ⌝ }
     ensures { λ r. ⌜ r ≡ namedBy slot word ⌝ }
 {
-    if kinds::names_variable(slot) {
-        masks::single(Variable(word as usize))
-    } else {
-        0
-    }
+    let there = kinds::names_variable(slot) as u64;
+    let place = word as usize;
+    there << place
 }
 
 pub fn operation_of(line: RowWords, form: Form) -> Operation

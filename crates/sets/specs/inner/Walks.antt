@@ -19,7 +19,7 @@ use Rattle.sets.specs.Equations.{Equation, joins, pointOf, rightSide, se
 use Rattle.sets.specs.inner.ProperEquations.{Proper}
 use Rattle.sets.specs.inner.Operations.{maskBits}
 use Rattle.sets.specs.inner.RowEquations.{Given, rowIn, equationOf, equationIn, rowInTurn, ownPoint, settledPoint, splits, joinsBy}
-use Rattle.sets.specs.inner.RowEquations.{RowThere, Readable, AllReadable, Sees, Known, allEquations, seedIn}
+use Rattle.sets.specs.inner.RowEquations.{Readable, AllReadable, Sees, Known, allEquations, seedIn}
 use Rattle.sheet.specs.Bounds.{limit}
 use Rattle.sheet.specs.Reading.{rowAt}
 
@@ -114,7 +114,7 @@ pub record Looking (which : Which) (forms : List Form) (words : List ℕ) (first
   pub othersThere : row < List·length others
   pub inHand : own ≡ setAt sets (ownPoint which row)
   pub back : endsRepeat which (partFor (rowAt words (first + row * limit .rowWords) .kind)) ≡ true
-      → let near = getD others row 0 in (suc near < List·length sets) × RowThere words first near
+      → let near = getD others row 0 in (suc near < List·length sets) × Readable words first near
 
 -- what it sees
 pub record DueNow (which : Which) (words : List ℕ) (first : ℕ) (others : List ℕ) (sets : List VariableSet) (row : ℕ) (due : DueRow) : Type 0 where

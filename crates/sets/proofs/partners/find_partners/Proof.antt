@@ -24,7 +24,7 @@ look-requires : tie.Need-look-requires Inv-loop μ-loop
 look-requires c κs =
     let forms = c .before .before in
     let start = forms .before .before .before .before in
-    (forms .forms .ensures, start .pre _ (c .loop-test .taken) .there)
+    (forms .forms .ensures, start .pre _ (c .loop-test .taken))
 
 partner-step-requires : tie.Need-partner-step-requires Inv-loop μ-loop
 partner-step-requires c κs =

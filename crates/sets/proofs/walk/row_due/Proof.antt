@@ -36,7 +36,7 @@ is-end : (c : tie.After-ends-repeat) → c .ends-repeat .result ≡ true
 is-end c e = ap (endsRepeat (start c .args .which)) (sym (part-is c)) ∙ sym (c .ends-repeat .ensures) ∙ e
 
 look-requires : tie.Need-look-requires
-look-requires c κs = let pre = c .before .before .before .pre in (pre .tableIs, pre .readable .there)
+look-requires c κs = let pre = c .before .before .before .pre in (pre .tableIs, pre .readable)
 
 ends-repeat-requires : tie.Need-ends-repeat-requires
 ends-repeat-requires c κs = search needs
