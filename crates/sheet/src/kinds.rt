@@ -118,13 +118,6 @@ pub fn form_in(forms: [Form; LAST + 1], kind: u16) -> Form
     forms[number]
 }
 
-// The look-up of a single kind.
-pub fn form_of(kind: u16) -> Form
-    ensures { λ r. ⌜ r ≡ formFor kind ⌝ }
-{
-    form_in(forms(), kind)
-}
-
 pub fn names_variable(slot: Slot) -> bool
     ensures { λ r. ⌜ r ≡ namesVariable slot ⌝ }
 {

@@ -1,16 +1,18 @@
 // What a row is to the blocks, and a block's rows, found by the partners that are noted for them.
 ghost use mathlib.Core.Path.{_≡_};
 ghost use lib.ListN.{getD};
-ghost use Rattle.sheet.specs.inner.Kinds.{partFor};
+ghost use Rattle.sheet.specs.inner.Kinds.{allForms, partFor};
 ghost use Rattle.table.specs.inner.MarkedRows.{ifEnd};
 use sheet::RowNumber;
 use sheet::kinds;
+use sheet::kinds::Form;
 use sheet::kinds::Part;
 
-pub fn part_of(kind: u16) -> Part
+pub fn part_of(forms: [Form; kinds::LAST + 1], kind: u16) -> Part
+    requires { ⌜ forms ≡ allForms ⌝ }
     ensures { λ r. ⌜ r ≡ partFor kind ⌝ }
 {
-    let form = kinds::form_of(kind);
+    let form = kinds::form_in(forms, kind);
     form.3
 }
 

@@ -7,6 +7,7 @@ use super::needs;
 use super::needs::Need;
 use super::partners;
 use sheet::RowNumber;
+use sheet::kinds;
 use sheet::kinds::Part;
 
 pub struct Sizes {
@@ -20,13 +21,14 @@ pub fn sizes_of(words: &[u16], shape: sheet::Shape, marks: &[u8]) -> Sizes
     ensures { λ r. ⌜ SizesFound (now (words .entry)) shape (now (marks .entry)) r ⌝ }
 {
     let mut levels = [needs::NO_LEVEL; sheet::MAX_DEPTH + 1];
+    let forms = kinds::forms();
     let mut depth: usize = 0;
     let mut need = needs::NOTHING;
     let mut rows: usize = 1;
     let mut p: usize = 0;
     while p < shape.rows {
         let row = sheet::row_of(words, shape.first_row, RowNumber(p));
-        let part = partners::part_of(row.kind);
+        let part = partners::part_of(forms, row.kind);
         let mark = marks[p];
         rows += count::row_count(row, part, mark);
         p += 1;

@@ -37,13 +37,13 @@ fn forward_part(
         (now (table .exit)) (r .place) (noting (from .top) (now (beyond .entry))) (noting (r .top) (now (beyond .exit))) ⌝ }
 {
     let rows = shape.rows;
+    let forms = sheet::kinds::forms();
     let mut next: usize = from.place;
     let mut top: u16 = from.top;
     let mut p: usize = 0;
     while p < rows {
         let row = sheet::row_of(words, shape.first_row, RowNumber(p));
-        let form = sheet::kinds::form_of(row.kind);
-        let part = form.3;
+        let part = partners::part_of(forms, row.kind);
         next = rows::forward_row(table, next, row, part, marks[p]);
         let what = jumps::forward(part);
         top = jumps::note(what, next, top, beyond);
@@ -107,6 +107,7 @@ fn backward_part(
         (now (table .exit)) (r .place) (noting (from .top) (now (beyond .entry))) (noting (r .top) (now (beyond .exit))) ⌝ }
 {
     let variables = shape.variables as u16;
+    let forms = sheet::kinds::forms();
     let mut next: usize = from.place;
     let mut top: u16 = from.top;
     let mut end: usize = shape.rows;
@@ -114,8 +115,7 @@ fn backward_part(
     while 0 < left {
         let q = end - 1;
         let row = sheet::row_of(words, shape.first_row, RowNumber(q));
-        let form = sheet::kinds::form_of(row.kind);
-        let part = form.3;
+        let part = partners::part_of(forms, row.kind);
         let turns = turns_back(words, shape.first_row, goes, RowNumber(q), part);
         next = rows::backward_row(table, next, variables, row, part, marks[q], turns);
         let what = jumps::backward(part);

@@ -26,16 +26,16 @@ record Counting (words : List ℕ) (shape : Shape) (marks : List ℕ) (sum p : �
   whole : (v : ℕ) → sum + countRows v words (shape .«first_row») marks p (shape .rows - p) ≡ 1 + countAll v words shape marks
 
 abbrev Inv-loop : tie.InvT-loop
-Inv-loop words shape marks levels₀ depth₀ need₀ rows₀ p₀ levels depth need rows p =
+Inv-loop words shape marks forms levels₀ depth₀ need₀ rows₀ p₀ levels depth need rows p =
     Counting words shape marks rows p × Going words (shape .«first_row») (shape .rows) marks levels depth need p
 
 abbrev μ-loop : tie.MeasureT-loop
-μ-loop words shape marks levels₀ depth₀ need₀ rows₀ p₀ levels depth need rows p = shape .rows - p
+μ-loop words shape marks forms levels₀ depth₀ need₀ rows₀ p₀ levels depth need rows p = shape .rows - p
 
 -- ---- in a turn
 
 abbrev start : tie.At-loop Inv-loop μ-loop → tie.Start Inv-loop μ-loop
-start c = c .before .before .before
+start c = c .before .before .before .before
 
 -- the row that was read says a line
 said : (c : tie.After-part-of Inv-loop μ-loop) → SaysPart (rowSaid (c .before .row-of .result)) (c .part-of .result)
@@ -82,9 +82,12 @@ module _ (c : tie.After-row-count Inv-loop μ-loop) where
 
 -- ---- the needs
 
+forms-requires : tie.Need-forms-requires Inv-loop μ-loop
+forms-requires c κs = search needs
+
 loop-holds : tie.Need-loop-holds Inv-loop μ-loop
 loop-holds c =
-    let x = c .before .before .args in (
+    let x = c .before .before .before .args in (
       record {
         within = omega arith;
         few = omega arith;
@@ -264,6 +267,7 @@ sizes-of-spec =
     (tie.spec
     Inv-loop
     μ-loop
+    forms-requires
     loop-holds
     row-of-requires
     part-of-requires

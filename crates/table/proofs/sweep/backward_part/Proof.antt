@@ -1,7 +1,7 @@
 -- `table::sweep::backward_part` meets its contract. The invariant: the walk stays on the rows, and what is written and noted and what the rest of
 -- the walk gives make up the whole.
 use Prim.Native.Nat.{_<_, _-_}
-use mathlib.Core.Path.{refl, sym, ap, subst}
+use mathlib.Core.Path.{refl, sym, subst}
 use borrow.Author.Needs.{needs}
 use native.Mathlib.Omega.{arith}
 use Rattle.table.specs.inner.MarkedRows.{Says, SaysPart, Small, Handed, handed, backwardAll, backwardRows, Visited, Walks}
@@ -15,17 +15,17 @@ use Rattle.table.proofs.sweep.backward_part.Statement.{statement}
 use Rattle.table.proofs.sweep.backward_part.Tie as tie
 
 abbrev Inv-loop : tie.InvT-loop
-Inv-loop words shape marks came goes table₀ beyond₀ variables next₀ top₀ end₀ left₀ table beyond next top end left =
+Inv-loop words shape marks came goes table₀ beyond₀ variables forms next₀ top₀ end₀ left₀ table beyond next top end left =
     let given = handed words shape marks came goes in
     let rest = backwardRows given left end in
     Walks given left end × Underway table₀ next₀ (backwardAll given) rest table next
     × Jumping (backwardAll given) next₀ (noting top₀ beyond₀) rest next (noting top beyond)
 
 abbrev μ-loop : tie.MeasureT-loop
-μ-loop words shape marks came goes table₀ beyond₀ variables next₀ top₀ end₀ left₀ table beyond next top end left = left
+μ-loop words shape marks came goes table₀ beyond₀ variables forms next₀ top₀ end₀ left₀ table beyond next top end left = left
 
 abbrev start : tie.In-loop Inv-loop μ-loop → tie.Start Inv-loop μ-loop
-start c = c .before .before .before .before .before .before .before .before
+start c = c .before .before .before .before .before .before .before .before .before
 
 abbrev handedTo : tie.In-loop Inv-loop μ-loop → Handed
 handedTo c = let x = start c .args in handed (x .words .now) (x .shape) (x .marks .now) (x .came .now) (x .goes .now)
@@ -34,18 +34,21 @@ visit : (c : tie.In-loop Inv-loop μ-loop) → Visited (handedTo c) (c .before .
 visit c = visit-now (handedTo c) _ _ (c .loop-test .taken) (c .before .loop .inv .0)
 
 -- the row's line, and what that is to the blocks
-said : (c : tie.After-form-of Inv-loop μ-loop) → SaysPart (rowSaid (c .before .row-of .result)) (c .form-of .result .3)
+said : (c : tie.After-part-of Inv-loop μ-loop) → SaysPart (rowSaid (c .before .row-of .result)) (c .part-of .result)
 said c =
     let turn = c .before .before in
     let there : turn .before .loop .end - 1 < handedTo turn .rows = omega (arith, visit turn) in
-    says-part _ _ (subst Says (sym (c .before .row-of .ensures)) (start turn .pre .1 .1 .0 .says _ there)) (ap (λ form. form .3) (c .form-of .ensures))
+    says-part _ _ (subst Says (sym (c .before .row-of .ensures)) (start turn .pre .1 .1 .0 .says _ there)) (c .part-of .ensures)
 
 cast-variables : tie.Need-cast-variables Inv-loop μ-loop
 cast-variables c = record { fits = omega (arith, c .before .before .before .before .before .before .pre .1 .1 .1 .few) }
 
+forms-requires : tie.Need-forms-requires Inv-loop μ-loop
+forms-requires c κs = search needs
+
 loop-holds : tie.Need-loop-holds Inv-loop μ-loop
 loop-holds c =
-    let given = c .before .before .before .before .before .before .pre in
+    let given = c .before .before .before .before .before .before .before .pre in
     (given .1 .1 .1 .walks, underway-start _ _ refl, jumping-start _ refl (given .1 .0))
 
 sub-q : tie.Need-sub-q Inv-loop μ-loop
@@ -54,8 +57,8 @@ sub-q c = omega (arith, visit c)
 row-of-requires : tie.Need-row-of-requires Inv-loop μ-loop
 row-of-requires c κs = omega (arith, visit c, start c .pre .1 .1 .0 .there)
 
-form-of-requires : tie.Need-form-of-requires Inv-loop μ-loop
-form-of-requires c κs = search needs
+part-of-requires : tie.Need-part-of-requires Inv-loop μ-loop
+part-of-requires c κs = search needs
 
 turns-back-requires : tie.Need-turns-back-requires Inv-loop μ-loop
 turns-back-requires c κs = search needs
@@ -120,7 +123,7 @@ same-length c = underway-length (c .before .loop .inv .1)
 
 returns : tie.Need-returns Inv-loop μ-loop
 returns c =
-    let x = c .before .before .before .before .before .before .before .before .args in
+    let x = c .before .before .before .before .before .before .before .before .before .args in
     let given = handed (x .words .now) (x .shape) (x .marks .now) (x .came .now) (x .goes .now) in
     let none = backward-none given _ _ (c .loop-test .left) in
     record { wrote = underway-end (c .before .loop .inv .1) none; noted = jumping-end (c .before .loop .inv .2) none }
@@ -132,10 +135,11 @@ backward-part-spec =
     Inv-loop
     μ-loop
     cast-variables
+    forms-requires
     loop-holds
     sub-q
     row-of-requires
-    form-of-requires
+    part-of-requires
     turns-back-requires
     shared-slice-read-backward-row
     backward-row-requires

@@ -17,23 +17,22 @@ use Rattle.table.proofs.sweep.forward_part.Statement.{statement}
 use Rattle.table.proofs.sweep.forward_part.Tie as tie
 
 abbrev Inv-loop : tie.InvT-loop
-Inv-loop words shape marks table₀ beyond₀ rows next₀ top₀ p₀ table beyond next top p =
+Inv-loop words shape marks table₀ beyond₀ rows forms next₀ top₀ p₀ table beyond next top p =
     let all = forwardAll words shape marks in
     let rest = forwardRows words (shape .«first_row») marks p (shape .rows - p) in
     (p ≤ shape .rows) × Underway table₀ next₀ all rest table next × Jumping all next₀ (noting top₀ beyond₀) rest next (noting top beyond)
 
 abbrev μ-loop : tie.MeasureT-loop
-μ-loop words shape marks table₀ beyond₀ rows next₀ top₀ p₀ table beyond next top p = shape .rows - p
+μ-loop words shape marks table₀ beyond₀ rows forms next₀ top₀ p₀ table beyond next top p = shape .rows - p
 
 abbrev start : tie.In-loop Inv-loop μ-loop → tie.Start Inv-loop μ-loop
-start c = c .before .before .before .before .before
+start c = c .before .before .before .before .before .before
 
 -- the row's line, and what that is to the blocks
-said : (c : tie.After-form-of Inv-loop μ-loop) → SaysPart (rowSaid (c .before .row-of .result)) (c .form-of .result .3)
+said : (c : tie.After-part-of Inv-loop μ-loop) → SaysPart (rowSaid (c .before .row-of .result)) (c .part-of .result)
 said c =
     let turn = c .before .before in
-    says-part _ _ (subst Says (sym (c .before .row-of .ensures)) (start turn .pre .1 .1 .says _ (turn .loop-test .taken)))
-    (ap (λ form. form .3) (c .form-of .ensures))
+    says-part _ _ (subst Says (sym (c .before .row-of .ensures)) (start turn .pre .1 .1 .says _ (turn .loop-test .taken))) (c .part-of .ensures)
 
 -- the row's rows before those of the rest
 left : (c : tie.After-row-of Inv-loop μ-loop) → let x = start (c .before) .args in let p = c .before .before .loop .p in
@@ -43,9 +42,12 @@ left c =
     let x = start (c .before) .args in
     forward-next (x .words .now) (x .shape .«first_row») (x .marks .now) _ (x .shape .rows) (c .before .loop-test .taken) (c .row-of .ensures)
 
+forms-requires : tie.Need-forms-requires Inv-loop μ-loop
+forms-requires c κs = search needs
+
 loop-holds : tie.Need-loop-holds Inv-loop μ-loop
 loop-holds c =
-    let given = c .before .before .before in
+    let given = c .before .before .before .before in
     let x = given .args in
     let whole : x .shape .rows - 0 ≡ x .shape .rows = omega arith in
     let all = ap (forwardRows (x .words .now) (x .shape .«first_row») (x .marks .now) 0) whole in
@@ -54,8 +56,8 @@ loop-holds c =
 row-of-requires : tie.Need-row-of-requires Inv-loop μ-loop
 row-of-requires c κs = omega (arith, start c .pre .1 .1 .there, c .loop-test .taken)
 
-form-of-requires : tie.Need-form-of-requires Inv-loop μ-loop
-form-of-requires c κs = search needs
+part-of-requires : tie.Need-part-of-requires Inv-loop μ-loop
+part-of-requires c κs = search needs
 
 shared-slice-read-forward-row : tie.Need-shared-slice-read-forward-row Inv-loop μ-loop
 shared-slice-read-forward-row c =
@@ -104,7 +106,7 @@ same-length c = underway-length (c .before .loop .inv .1)
 
 returns : tie.Need-returns Inv-loop μ-loop
 returns c =
-    let x = c .before .before .before .before .before .args in
+    let x = c .before .before .before .before .before .before .args in
     let none = forward-none (x .words .now) (x .shape .«first_row») (x .marks .now) _ (x .shape .rows) (c .loop-test .left) in
     record { wrote = underway-end (c .before .loop .inv .1) none; noted = jumping-end (c .before .loop .inv .2) none }
 
@@ -114,9 +116,10 @@ forward-part-spec =
     (tie.spec
     Inv-loop
     μ-loop
+    forms-requires
     loop-holds
     row-of-requires
-    form-of-requires
+    part-of-requires
     shared-slice-read-forward-row
     forward-row-requires
     forward-requires
