@@ -6,6 +6,7 @@ use mathlib.Core.Path.{_≡_, refl, sym, ap, _∙_}
 use mathlib.Core.Bool.{Bool, true, false, cond}
 use mathlib.Core.List.{List}
 use lib.Bits.{or-comm}
+use lib.ListN.{set}
 use Rattle.sheet.specs.Tree.{basic, ifLine, elseLine, endIf, repeat, endRepeat}
 use Rattle.sheet.specs.Rows.{Assignment, SheetLine, Row, sheetRowOf}
 use Rattle.sheet.specs.inner.Kinds.{assigns, partOf, partFor}
@@ -18,7 +19,7 @@ use Rattle.sets.specs.Equations.{setAt, rightSide, pointOf}
 use Rattle.sets.specs.inner.Operations.{Gives, PerformsRow}
 use Rattle.sets.specs.inner.RowEquations.{equationOf, forwardOf, backwardOf, turnOf, ownPoint, settledPoint, splits, joinsBy}
 use Rattle.sets.specs.inner.RowEquations.{RightSide, Given, equationIn, startOf}
-use Rattle.sets.specs.inner.Walks.{asksPartner}
+use Rattle.sets.specs.inner.Walks.{asksPartner, Stored}
 use Rattle.sets.proofs.Truths.{T-of, of-T, or-right}
 use Rattle.sheet.proofs.LinesByPart.{row-part}
 
@@ -157,6 +158,13 @@ unfolding equationOf settledPoint
 settled-of Varied active l p c = sym (forward-point _ l p c)
 settled-of Useful active l p c = sym (backward-point _ l p c)
 settled-of Required active l p c = sym (forward-point _ l p c)
+
+-- what the code found, partner, right side and point, put together: the row's equation is stored
+pub stored-as : (which : Which) (active : Bool) (l : SheetLine) (p : ℕ) (before : List VariableSet) {c c′ right point : ℕ} {after : List VariableSet}
+    → c′ ≡ c → right ≡ rightSide (equationOf which active l p c′) (setAt before) → point ≡ settledPoint which p
+    → after ≡ set before point (setAt before point ∪ right) → Stored (equationOf which active l p c) before after
+stored-as which active l p before {c} {c′} same side place is =
+    rw (sym same, sym side, sym (place ∙ settled-of which active l p c′)) is
 
 pub settled-in : (which : Which) (given : Given) (p : ℕ) → settledPoint which p ≡ pointOf (equationIn which given p)
 unfolding equationIn

@@ -1,7 +1,8 @@
 -- `sets::walk::step` meets its contract: the right side and the point are those of the row's equation.
 use borrow.Author.Needs.{needs}
-use mathlib.Core.Path.{sym, _∙_}
-use Rattle.sets.proofs.RightSides.{own-below, settled-below, settled-of}
+use mathlib.Core.Path.{sym}
+use denote.Ref.{now}
+use Rattle.sets.proofs.RightSides.{own-below, settled-below, stored-as}
 use Rattle.sets.proofs.walk.step.Statement.{statement}
 use Rattle.sets.proofs.walk.step.Tie as tie
 
@@ -35,11 +36,10 @@ returns c =
     let found = settled .before .before in
     let partner = found .before .before in
     let args = start partner .args in
-    let p = args .due .seen .row .0 in
     record {
       stored = λ l e.
-          let point = settled .settled-point .ensures ∙ settled-of (args .which) (args .active) l p (partner .partner-there .result .0) in
-          rw (sym (partner .partner-there .ensures .0), sym (found .right-side .ensures l e), sym point) (grown .grow .ensures .stored);
+          stored-as (args .which) (args .active) l (args .due .seen .row .0) (now (args .sets)) (partner .partner-there .ensures .0)
+          (found .right-side .ensures l e) (settled .settled-point .ensures) (grown .grow .ensures .stored);
       stands = rw (sym (settled .settled-point .ensures)) (grown .grow .ensures .stands);
     }
 
