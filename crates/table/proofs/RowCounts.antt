@@ -1,10 +1,10 @@
 -- How many rows a sheet's row has in the table's two parts, and how many all of them have.
 use Prim.Native.Nat.{ℕ, zero, suc, _+_, _*_, _-_, _≤_, _<_}
 use mathlib.Core.Path.{_≡_, refl, ap, _∙_}
-use mathlib.Core.Bool.{Bool, true, false, cond, not, _&&_}
+use mathlib.Core.Bool.{Bool, true, false, cond, not, _&&_, _||_}
 use mathlib.Core.List.{List, [], _∷_, _++_}
 use lib.ListN.{length, length-append, getD}
-use lib.Dec.{eqb, leb}
+use lib.Dec.{eqb}
 use native.Mathlib.Omega.{arith}
 use Rattle.sheet.specs.Rows.{Row}
 use Rattle.sheet.specs.inner.RowLines.{lineOfRow}
@@ -19,7 +19,7 @@ one-if false r = refl
 
 -- the operands that name a varied variable: a constant has none, and a sum, a difference and a product have two
 abbrev pub operandsOf : (kind : ℕ) (first second : Bool) → ℕ
-operandsOf kind first second = cond (not (eqb kind 2) && first) 1 0 + cond ((leb 3 kind && leb kind 5) && second) 1 0
+operandsOf kind first second = cond (not (eqb kind 2) && first) 1 0 + cond (((eqb kind 3 || eqb kind 4) || eqb kind 5) && second) 1 0
 
 module _ (v : ℕ) (r : Row) (mark : ℕ) where
   -- each has one row of the parts, and in a product two

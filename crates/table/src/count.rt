@@ -26,7 +26,9 @@ fn parts_count(row: RowWords, mark: u8) -> usize
     ensures { λ r. ⌜ Counted mostParts r (λ v. partRows v (rowSaid row) mark) ⌝ }
 {
     let has_a = row.kind != kinds::CONSTANT;
-    let has_b = (kinds::SUM <= row.kind) & (row.kind <= kinds::PRODUCT);
+    let has_b = (row.kind == kinds::SUM)
+        | (row.kind == kinds::DIFFERENCE)
+        | (row.kind == kinds::PRODUCT);
     let first = has_a & rows::bit(mark, sets::VARIED_A);
     let second = has_b & rows::bit(mark, sets::VARIED_B);
     let operands = one_if(first) + one_if(second);

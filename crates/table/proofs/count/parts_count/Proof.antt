@@ -16,7 +16,7 @@ use Rattle.table.proofs.count.parts_count.Tie as tie
 -- the sum of both operands, once they are counted
 module _ (c : tie.After-one-if2) where
   abbrev start : tie.Start
-  start = c .before .before .before .before .before .before .before
+  start = c .before .before .before .before .before .before .before .before
 
   abbrev operands : ℕ
   operands = operandsOf (start .args .row .kind) (c .before .before .before .bit .result) (c .before .before .bit2 .result)
@@ -56,7 +56,7 @@ returns c =
     let at = c .before .before in
     record {
       within = omega (arith, few at);
-      is = λ v. omega (arith, both at, rw (eq-eqb _ 5 (c .if1 .taken)) at (counted at v));
+      is = λ v. let product = eq-eqb _ 5 (c .if1 .taken) in omega (arith, rw product at (both at), rw product at (counted at v));
     }
 
 returns-2 : tie.Need-returns-2
@@ -64,7 +64,7 @@ returns-2 c =
     let at = c .before .before in
     record {
       within = omega (arith, few at);
-      is = λ v. omega (arith, both at, rw (ne-eqb _ 5 (c .if1 .left)) at (counted at v));
+      is = λ v. let other = ne-eqb _ 5 (c .if1 .left) in omega (arith, rw other at (both at), rw other at (counted at v));
     }
 
 pub parts-count-spec : {M : Type 1} → statement M
