@@ -1,5 +1,4 @@
 // R, S and T, in one pass over the sheet's rows.
-ghost use mathlib.Core.Path.{_≡_};
 ghost use Rattle.table.specs.inner.MarkedRows.{Readable};
 ghost use Rattle.table.specs.inner.Needs.{Sized, SizesFound};
 use super::count;

@@ -1,16 +1,13 @@
 -- `table::sizes::sizes_of` meets its contract. The invariant: what is counted and what the rows from p on still count make up the whole, and the
 -- levels stand for the blocks from which these rows come to what all rows come to.
 use Prim.Native.Nat.{ℕ, _+_, _*_, _-_, _≤_, _<_}
-use mathlib.Core.Path.{_≡_, refl, ap, sym, _∙_, subst}
+use mathlib.Core.Path.{_≡_, refl, ap, sym, subst}
 use mathlib.Core.List.{List}
 use borrow.Author.Needs.{needs}
 use native.Mathlib.Omega.{arith}
-use lib.ListN.{getD}
 use Rattle.sheet.specs.declared.Shape.{Shape}
-use Rattle.sheet.specs.Rows.{Row}
 use Rattle.sheet.specs.Answers.{rowSaid}
 use Rattle.sheet.specs.inner.Kinds.{partFor}
-use Rattle.sheet.specs.declared.kinds.Part.{Part}
 use Rattle.table.specs.Sizes.{mostRowsEach}
 use Rattle.table.specs.inner.MarkedRows.{Says, SaysPart, rowNumbered, countRows, countAll}
 use Rattle.table.specs.inner.Needs.{Sized}
