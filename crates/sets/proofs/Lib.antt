@@ -7,6 +7,7 @@ pub mod OperationLaws
 pub mod RightSides
 pub mod PartnerPass
 pub mod RowByRow
+pub mod KeptPlaces
 pub mod PartnersRight
 pub mod SheetRows
 pub mod MarkByteLaws

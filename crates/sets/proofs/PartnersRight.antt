@@ -11,32 +11,7 @@ use Rattle.sheet.specs.Rows.{Assignment, Test, SheetLine}
 use Rattle.sets.specs.Partners.{CameFrom, GoesTo, cameBy, goesBy}
 use Rattle.sets.specs.inner.PartnerPass.{Found, foundAt, foundOver}
 use Rattle.sets.proofs.RowByRow.{LinesAt}
-
--- ---- lists that differ from place lo up to hi at most
-
-pub record Keeps (lo hi : ℕ) (xs ys : List ℕ) : Type 0 where
-  pub long : length ys ≡ length xs
-  pub at : (i : ℕ) → (i < lo) ⊎ (hi ≤ i) → getD ys i 0 ≡ getD xs i 0
-
-keeps-all : {lo hi : ℕ} (xs : List ℕ) → Keeps lo hi xs xs
-keeps-all xs = record { long = refl; at = λ i h. refl }
-
-wider : {lo hi lo′ hi′ : ℕ} {xs ys : List ℕ} → Keeps lo hi xs ys → lo′ ≤ lo → hi ≤ hi′ → Keeps lo′ hi′ xs ys
-wider {lo} {hi} {lo′} {hi′} k l h = record { long = k .long; at = λ i o. k .at i (go i o) }
-  where
-    go : (i : ℕ) → (i < lo′) ⊎ (hi′ ≤ i) → (i < lo) ⊎ (hi ≤ i)
-    go i (inl x) = inl (omega arith)
-    go i (inr x) = inr (omega arith)
-
-keeps-then : {lo hi : ℕ} {xs ys zs : List ℕ} → Keeps lo hi xs ys → Keeps lo hi ys zs → Keeps lo hi xs zs
-keeps-then k l = record { long = l .long ∙ k .long; at = λ i o. l .at i o ∙ k .at i o }
-
-store-keeps : (xs : List ℕ) (j v : ℕ) → Keeps j (suc j) xs (set xs j v)
-store-keeps xs j v = record { long = length-set xs j v; at = λ i o. getD-set-other xs j i v 0 (λ e. go i o e) }
-  where
-    go : (i : ℕ) → (i < j) ⊎ (suc j ≤ i) → i ≡ j → ⊥
-    go i (inl x) e = omega arith
-    go i (inr x) e = omega arith
+use Rattle.sets.proofs.KeptPlaces.{Keeps, keeps-all, wider, keeps-then, store-keeps, GoesFork, goes-fork}
 
 -- ---- partners where they were, if nothing changed there
 
@@ -128,7 +103,7 @@ pub record Passed (t : Tree Assignment Test) (p : ℕ) (s s′ : Found) : Type 0
   pub goesIs : s′ .goes ≡ goesBy (s .top) t p (s .goes)
 
 -- Each part's store and pass changes only its own places; x to z are the sizes of the parts, q and r the rows of "else" and "end if",
--- e the place after all. First of the list of where rows came from.
+-- e the place after all. Of the list of where rows came from.
 record CameFork (p q r e top₂ top₄ : ℕ) (c c₂ c₄ c₆ : List ℕ) : Type 0 where
   whole : Keeps p e c c₆
   afterFirst : Keeps q e c₂ c₆
@@ -156,50 +131,6 @@ came-fork p x y z c c₂ c₄ c₆ top₂ top₄ l k₁ k₃ k₅ =
       atEnd = k₅ .at r (inl (omega arith)) ∙ getD-set-same c₄ r top₄ 0 (omega (arith, k₁ .long, k₂ .long, k₃ .long));
     }
 
--- and of the list of where rows go to
-record GoesFork (p q r e top : ℕ) (g g₂ g₄ g₆ : List ℕ) : Type 0 where
-  inner : getD g₂ p 0 ≡ top
-  outer : getD g₄ q 0 ≡ top
-  whole : Keeps p e g g₆
-  first : (i : ℕ) → suc p ≤ i → i < q → getD g₆ i 0 ≡ getD g₂ i 0
-  second : (i : ℕ) → suc q ≤ i → i < r → getD g₆ i 0 ≡ getD g₄ i 0
-  atIf : getD g₆ p 0 ≡ q
-  atElse : getD g₆ q 0 ≡ r
-
-goes-fork : (p x y z top : ℕ) (g g₂ g₄ g₆ : List ℕ) → let q = suc p + x in let r = suc q + y in let e = suc r + z in suc r ≤ length g
-    → Keeps (suc p) q (set g p top) g₂ → Keeps (suc q) r (set (set g₂ p q) q (getD g₂ p 0)) g₄ → Keeps (suc r) e (set g₄ q r) g₆
-    → GoesFork p q r e top g g₂ g₄ g₆
-goes-fork p x y z top g g₂ g₄ g₆ l k₁ k₃ k₅ =
-    let q = suc p + x in
-    let r = suc q + y in
-    let e = suc r + z in
-    let k₀ = store-keeps g p top in
-    let k₂ = store-keeps g₂ p q in
-    let k₂′ = store-keeps (set g₂ p q) q (getD g₂ p 0) in
-    let k₄ = store-keeps g₄ q r in
-    let long₂ : length g₂ ≡ length g = k₁ .long ∙ k₀ .long in
-    let long₃ : length (set g₂ p q) ≡ length g = k₂ .long ∙ long₂ in
-    let long₄ : length g₄ ≡ length g = k₃ .long ∙ k₂′ .long ∙ long₃ in
-    let kept : getD g₂ p 0 ≡ top = k₁ .at p (inl (omega arith)) ∙ getD-set-same g p top 0 (omega arith) in
-    record {
-      inner = kept;
-      outer = k₃ .at q (inl (omega arith)) ∙ getD-set-same (set g₂ p q) q _ 0 (omega arith) ∙ kept;
-      whole =
-          keeps-then (wider k₀ (omega arith) (omega arith))
-          (keeps-then (wider k₁ (omega arith) (omega arith))
-          (keeps-then (wider k₂ (omega arith) (omega arith))
-          (keeps-then (wider k₂′ (omega arith) (omega arith))
-          (keeps-then (wider k₃ (omega arith) (omega arith))
-          (keeps-then (wider k₄ (omega arith) (omega arith)) (wider k₅ (omega arith) (omega arith)))))));
-      first =
-          λ i lo hi. k₅ .at i (inl (omega arith)) ∙ k₄ .at i (inl hi) ∙ k₃ .at i (inl (omega arith)) ∙ k₂′ .at i (inl hi) ∙ k₂ .at i (inr lo);
-      second = λ i lo hi. k₅ .at i (inl (omega arith)) ∙ k₄ .at i (inr lo);
-      atIf =
-          k₅ .at p (inl (omega arith)) ∙ k₄ .at p (inl (omega arith)) ∙ k₃ .at p (inl (omega arith)) ∙ k₂′ .at p (inl (omega arith))
-          ∙ getD-set-same g₂ p q 0 (omega arith);
-      atElse = k₅ .at q (inl (omega arith)) ∙ getD-set-same g₄ q r 0 (omega arith);
-    }
-
 module _ (f : Test) (a b k : Tree Assignment Test) (p : ℕ) (s s₂ s₄ s₆ : Found) where
   after-fork : let q = suc p + rows a in let r = suc q + rows b in suc r ≤ length (s .came) → suc r ≤ length (s .goes)
       → Passed a (suc p) (foundAt (ifLine f) p s) s₂ → Passed b (suc q) (foundAt elseLine q s₂) s₄ → Passed k (suc r) (foundAt endIf r s₄) s₆
@@ -213,8 +144,8 @@ module _ (f : Test) (a b k : Tree Assignment Test) (p : ℕ) (s s₂ s₄ s₆ :
       let C = came-fork p (rows a) (rows b) (rows k) _ _ _ _ _ _ lc (A .cameKept) (B .cameKept) (K .cameKept) in
       let k₃ = subst (λ j. Keeps (suc q) r (set (set (s₂ .goes) j q) q (getD (s₂ .goes) j 0)) (s₄ .goes)) (A .top) (B .goesKept) in
       let k₅ = subst (λ j. Keeps (suc r) e (set (s₄ .goes) j r) (s₆ .goes)) (B .top) (K .goesKept) in
-      let G : GoesFork p q r e (s .top) (s .goes) (s₂ .goes) (s₄ .goes) (s₆ .goes) =
-      goes-fork p (rows a) (rows b) (rows k) (s .top) (s .goes) (s₂ .goes) (s₄ .goes) (s₆ .goes) lg (A .goesKept) k₃ k₅ in
+      let G : GoesFork p q r e (s .top) q r (s .goes) (s₂ .goes) (s₄ .goes) (s₆ .goes) =
+      goes-fork p (rows a) (rows b) (rows k) (s .top) q r (s .goes) (s₂ .goes) (s₄ .goes) (s₆ .goes) lg (A .goesKept) k₃ k₅ in
       let outer : getD (s₄ .goes) (s₄ .top) 0 ≡ s .top = ap (λ j. getD (s₄ .goes) j 0) (B .top) ∙ G .outer in
       let around : getD (s₂ .goes) (s₂ .top) 0 ≡ s .top = ap (λ j. getD (s₂ .goes) j 0) (A .top) ∙ G .inner in
       record {
