@@ -1,202 +1,200 @@
--- One pass over a table's lines, from the last to the first, notes at each "if" and at each "else" the row that it goes on to.
+-- What the table's writer notes, row by row, is where each "if" and each "else" goes on to.
 use Prim.Native.Nat.{ℕ, zero, suc, _+_, _≤_, _<_}
 use mathlib.Core.Path.{_≡_, refl, sym, ap, subst, _∙_}
-use mathlib.Core.Bool.{Bool, true, false, cond}
-use mathlib.Core.List.{List, [], _∷_}
-use lib.ListN.{length, getD, set, drop, length-set, length-drop}
-use lib.Seq.{getD-set-same, getD-set-other}
-use native.Mathlib.Nat.{zero-add, add-zero}
+use mathlib.Core.List.{List, [], _∷_, map}
+use mathlib.Core.Logic.{inl, inr}
+use lib.ListN.{length, getD, drop, length-set, set}
+use lib.Seq.{drop-nil}
 use native.Mathlib.Omega.{arith}
-use Rattle.sheet.specs.Tree.{done, one, fork, again, rows, flat, basic, ifLine, elseLine, endIf, endRepeat}
-use Rattle.sheet.specs.Rows.{_≔_, copy, fixed, sum, difference, product, negation, less}
-use Rattle.sheet.proofs.RowsCounted.{flat-length, lines-counted}
-use Rattle.table.specs.TableRows.{Action, assign, save, takeBack, saveTurn, clear, turnRound, TableTest, whether, onTurn}
-use Rattle.table.specs.TableRows.{Origin, TableRow, Table, TableLine, tableRowOf, linesOf}
+use Rattle.sheet.specs.Tree.{done, one, fork, again, rows, flat, basic, ifLine, elseLine, endIf, repeat, endRepeat}
+use Rattle.sheet.specs.Rows.{less, rowOf, rowOfTest}
+use Rattle.sets.proofs.KeptPlaces.{Keeps, keeps-all, wider, keeps-then, GoesFork, goes-fork}
+use Rattle.table.specs.TableRows.{TableTest, whether, onTurn, Table, TableLine, tableRowOf, rowOfTableTest, linesOf}
+use Rattle.table.specs.declared.jumps.Branching.the-variants as branching
+use Rattle.table.specs.inner.MarkedRows.{rowsIn}
+use Rattle.table.specs.inner.JumpsNoted.{Noting, noting, notedBy, branchingOf, notedOver, JumpsNoted}
+use Rattle.table.proofs.JumpLaws.{action-passes}
 use Rattle.machine.specs.Machine.{itsElse, itsEnd, oneMore, seek}
 use Rattle.machine.specs.inner.Runnable.{Reached, Jumps}
-use Rattle.machine.specs.inner.JumpsFound.{Found, endsBranch, opensBranch, notedBefore, foundAt, foundOver}
-use Rattle.machine.proofs.LinesStand.{Branch, stands-at}
-use Rattle.machine.proofs.LinesPassed.{past-flat, seek-else, seek-end}
+use Rattle.machine.proofs.LinesPassed.{seek-else, seek-end}
 
--- ---- what a line of each kind does
+-- ---- where the "if"s and "else"s of a tree go on to, whose first row is p
 
-basic-passes : (b : TableRow) (p : ℕ) (s : Found) → foundAt (tableRowOf (basic b) .kind) p s ≡ s
-unfolding foundAt tableRowOf
-basic-passes b p s = by-action (b .origin) (b .action)
-  where
-    by-action : (o : Origin) (a : Action) → foundAt (tableRowOf (basic (record { origin = o; action = a })) .kind) p s ≡ s
-    by-action o (assign (d ≔ copy x)) = refl
-    by-action o (assign (d ≔ fixed x)) = refl
-    by-action o (assign (d ≔ sum x y)) = refl
-    by-action o (assign (d ≔ difference x y)) = refl
-    by-action o (assign (d ≔ product x y)) = refl
-    by-action o (assign (d ≔ negation x)) = refl
-    by-action o (save d) = refl
-    by-action o (takeBack d) = refl
-    by-action o (saveTurn first) = refl
-    by-action o (clear d) = refl
-    by-action o turnRound = refl
+unfoldable GoesOn : List ℕ → Table → (p : ℕ) → Type 0
+unfolding rows
+GoesOn xs done p = Unit {0}
+GoesOn xs (one b k) p = GoesOn xs k (suc p)
+GoesOn xs (fork f a b k) p =
+    let split = suc p + rows a in
+    let end = suc split + rows b in
+    (getD xs p 0 ≡ suc split) × GoesOn xs a (suc p) × (getD xs split 0 ≡ suc end) × GoesOn xs b (suc split) × GoesOn xs k (suc end)
+GoesOn xs (again m a k) p = GoesOn xs a (suc p) × GoesOn xs k (suc (suc p + rows a))
 
-abbrev passedIf : ℕ → Found → Found
-passedIf p s =
-    let noted = set (s .beyond) p (s .end) in
-    record { end = notedBefore (notedBefore (s .end) noted) noted; beyond = noted }
+-- as before, if nothing changed there
+goes-on-stays : (t : Table) (p : ℕ) (xs ys : List ℕ) → ((i : ℕ) → p ≤ i → i < p + rows t → getD ys i 0 ≡ getD xs i 0) → GoesOn xs t p → GoesOn ys t p
+unfolding GoesOn rows
+goes-on-stays done p xs ys s g = tt
+goes-on-stays (one b k) p xs ys s g = goes-on-stays k (suc p) xs ys (λ i l h. s i (omega arith) (omega arith)) g
+goes-on-stays (fork f a b k) p xs ys s g = (
+  s p (omega arith) (omega arith) ∙ g .0,
+  goes-on-stays a _ xs ys (λ i l h. s i (omega arith) (omega arith)) (g .1),
+  s _ (omega arith) (omega arith) ∙ g .2,
+  goes-on-stays b _ xs ys (λ i l h. s i (omega arith) (omega arith)) (g .3),
+  goes-on-stays k _ xs ys (λ i l h. s i (omega arith) (omega arith)) (g .4),
+)
+goes-on-stays (again m a k) p xs ys s g = (
+  goes-on-stays a _ xs ys (λ i l h. s i (omega arith) (omega arith)) (g .0),
+  goes-on-stays k _ xs ys (λ i l h. s i (omega arith) (omega arith)) (g .1),
+)
 
-if-passes : (f : TableTest) (p : ℕ) (s : Found) → foundAt (tableRowOf (ifLine f) .kind) p s ≡ passedIf p s
-unfolding foundAt tableRowOf
-if-passes (whether (less a b)) p s = refl
-if-passes onTurn p s = refl
+-- ---- the writer's notes over a tree
 
--- ---- a row once noted stays
+abbrev overLines : List TableLine → (p : ℕ) → Noting → Noting
+overLines lines p s = notedOver (map tableRowOf lines) p s
 
--- what a row notes stands at its own place
-record OnlyAt (p : ℕ) (s s′ : Found) : Type 0 where
-  long : length (s′ .beyond) ≡ length (s .beyond)
-  others : (q : ℕ) → p < q → getD (s′ .beyond) q 0 ≡ getD (s .beyond) q 0
+-- what has been noted past the tree, whatever is behind it: the branch at hand is the same, and only the tree's rows have changed
+record Over (t : Table) (p : ℕ) (s : Noting) : Type 0 where
+  after : Noting
+  on : (rest : List TableLine) → overLines (flat t rest) p s ≡ overLines rest (p + rows t) after
+  top : after .top ≡ s .top
+  kept : Keeps p (p + rows t) (s .beyond) (after .beyond)
+  right : GoesOn (after .beyond) t p
 
-only-none : (p : ℕ) (s : Found) → OnlyAt p s s
-only-none p s = record { long = refl; others = λ q h. refl }
+if-opens : (f : TableTest) (p : ℕ) (s : Noting) → notedBy (branchingOf (tableRowOf (ifLine f) .kind)) p s ≡ notedBy branching.Opens p s
+unfolding tableRowOf rowOf rowOfTableTest rowOfTest
+if-opens (whether (less a b)) p s = refl
+if-opens onTurn p s = refl
 
-only-set : (p e : ℕ) (s : Found) → OnlyAt p s (record { end = e; beyond = set (s .beyond) p (s .end) })
-only-set p e s =
+split-long : (p : ℕ) (s : Noting) → length (notedBy branching.Splits p s .beyond) ≡ length (s .beyond)
+unfolding notedBy
+split-long p s = length-set (set (s .beyond) (s .top) (suc p)) p (getD (s .beyond) (s .top) 0) ∙ length-set (s .beyond) (s .top) (suc p)
+
+module _ (f : TableTest) (a b k : Table) (p : ℕ) (s : Noting) where
+  over-fork : let q = suc p + rows a in let r = suc q + rows b in suc r ≤ length (s .beyond)
+      → (A : Over a (suc p) (notedBy branching.Opens p s)) (B : Over b (suc q) (notedBy branching.Splits q (A .after)))
+      → Over k (suc r) (notedBy branching.Closes r (B .after)) → Over (fork f a b k) p s
+  unfolding notedOver notedBy GoesOn rows flat tableRowOf rowOf
+  over-fork room A B K =
+      let q = suc p + rows a in
+      let r = suc q + rows b in
+      let e = suc r + rows k in
+      let s₂ = A .after in
+      let s₄ = B .after in
+      let upto : e ≡ p + (3 + (rows a + rows b + rows k)) = omega arith in
+      let k₃ = subst (λ j. Keeps (suc q) r (set (set (s₂ .beyond) j (suc q)) q (getD (s₂ .beyond) j 0)) (s₄ .beyond)) (A .top) (B .kept) in
+      let k₅ = subst (λ j. Keeps (suc r) e (set (s₄ .beyond) j (suc r)) (K .after .beyond)) (B .top) (K .kept) in
+      let G : GoesFork p q r e (s .top) (suc q) (suc r) (s .beyond) (s₂ .beyond) (s₄ .beyond) (K .after .beyond) =
+      goes-fork p (rows a) (rows b) (rows k) (s .top) (suc q) (suc r) (s .beyond) (s₂ .beyond) (s₄ .beyond) (K .after .beyond) room (A .kept) k₃ k₅ in
+      record {
+        after = K .after;
+        on =
+            λ rest.
+            ap (overLines (flat a (elseLine ∷ flat b (endIf ∷ flat k rest))) (suc p)) (if-opens f p s)
+            ∙ A .on (elseLine ∷ flat b (endIf ∷ flat k rest)) ∙ B .on (endIf ∷ flat k rest) ∙ K .on rest
+            ∙ ap (λ n. overLines rest n (K .after)) upto;
+        top = K .top ∙ ap (λ j. getD (s₄ .beyond) j 0) (B .top) ∙ G .outer;
+        kept = wider (G .whole) (omega arith) (omega arith);
+        right = (
+          G .atIf,
+          goes-on-stays a (suc p) (s₂ .beyond) (K .after .beyond) (G .first) (A .right),
+          G .atElse,
+          goes-on-stays b (suc q) (s₄ .beyond) (K .after .beyond) (G .second) (B .right),
+          K .right,
+        );
+      }
+
+over-tree : (t : Table) (p : ℕ) (s : Noting) → p + rows t ≤ length (s .beyond) → Over t p s
+unfolding notedOver notedBy GoesOn rows flat tableRowOf rowOf
+over-tree done p s h =
+    let here : p ≡ p + 0 = omega arith in
+    record { after = s; on = λ rest. ap (λ n. overLines rest n s) here; top = refl; kept = keeps-all (s .beyond); right = tt }
+over-tree (one b k) p s h =
+    let K = over-tree k (suc p) s (omega arith) in
+    let upto : suc p + rows k ≡ p + (1 + rows k) = omega arith in
     record {
-      long = length-set (s .beyond) p (s .end);
-      others = λ q h. getD-set-other (s .beyond) p q (s .end) 0 (λ e. absurd (omega arith));
+      after = K .after;
+      on =
+          λ rest.
+          ap (overLines (flat k rest) (suc p)) (action-passes (b .action) p s) ∙ K .on rest ∙ ap (λ n. overLines rest n (K .after)) upto;
+      top = K .top;
+      kept = wider (K .kept) (omega arith) (omega arith);
+      right = K .right;
+    }
+over-tree (fork f a b k) p s h =
+    let q = suc p + rows a in
+    let r = suc q + rows b in
+    let A = over-tree a (suc p) (notedBy branching.Opens p s) (omega (arith, length-set (s .beyond) p (s .top))) in
+    let long : length (A .after .beyond) ≡ length (s .beyond) = A .kept .long ∙ length-set (s .beyond) p (s .top) in
+    let B = over-tree b (suc q) (notedBy branching.Splits q (A .after)) (omega (arith, split-long q (A .after))) in
+    let long₄ : length (B .after .beyond) ≡ length (s .beyond) = B .kept .long ∙ split-long q (A .after) ∙ long in
+    over-fork f a b k p s (omega arith) A B
+    (over-tree k (suc r) (notedBy branching.Closes r (B .after)) (omega (arith, length-set (B .after .beyond) (B .after .top) (suc r))))
+over-tree (again m a k) p s h =
+    let q = suc p + rows a in
+    let A = over-tree a (suc p) s (omega arith) in
+    let K = over-tree k (suc q) (A .after) (omega (arith, A .kept .long)) in
+    let upto : suc q + rows k ≡ p + (2 + (rows a + rows k)) = omega arith in
+    record {
+      after = K .after;
+      on = λ rest. A .on (endRepeat ∷ flat k rest) ∙ K .on rest ∙ ap (λ n. overLines rest n (K .after)) upto;
+      top = K .top ∙ A .top;
+      kept = keeps-then (wider (A .kept) (omega arith) (omega arith)) (wider (K .kept) (omega arith) (omega arith));
+      right = (goes-on-stays a (suc p) (A .after .beyond) (K .after .beyond) (λ i l g. K .kept .at i (inl (omega arith))) (A .right), K .right);
     }
 
-only-at : (kind p : ℕ) (s : Found) → OnlyAt p s (foundAt kind p s)
-unfolding foundAt
-only-at kind p s = by-tests (endsBranch kind) (opensBranch kind)
-  where
-    by-tests : (x y : Bool) → OnlyAt p s (cond x (record { end = suc p; beyond = set (s .beyond) p (s .end) }) (cond y (passedIf p s) s))
-    by-tests true y = only-set p _ s
-    by-tests false true = only-set p _ s
-    by-tests false false = only-none p s
+-- ---- and so line by line
 
--- past an "if", from what its "else" and its "end if" have noted
-fork-end : (p split end : ℕ) (noted : List ℕ) (n : ℕ) → p < split → p < end → n ≡ suc split → getD noted split 0 ≡ suc end
-    → notedBefore (notedBefore n (set noted p n)) (set noted p n) ≡ getD noted end 0
-fork-end p split end noted n h g at-split at-else =
-    ap (λ row. notedBefore (notedBefore row (set noted p n)) (set noted p n)) at-split
-    ∙ ap (λ row. notedBefore row (set noted p n)) (getD-set-other noted p split n 0 (λ e. absurd (omega arith)) ∙ at-else)
-    ∙ getD-set-other noted p end n 0 (λ e. absurd (omega arith))
+module _ (xs : List ℕ) where
+  -- the line at row p, before what is behind it
+  abbrev JumpsAt : (p : ℕ) → List TableLine → Type 0
+  JumpsAt p [] = Unit {0}
+  JumpsAt p (basic b ∷ rest) = Unit {0}
+  JumpsAt p (ifLine f ∷ rest) = Reached (oneMore (seek itsElse 0 rest)) p (getD xs p 0)
+  JumpsAt p (elseLine ∷ rest) = Reached (oneMore (seek itsEnd 0 rest)) p (getD xs p 0)
+  JumpsAt p (endIf ∷ rest) = Unit {0}
+  JumpsAt p (repeat m ∷ rest) = Unit {0}
+  JumpsAt p (endRepeat ∷ rest) = Unit {0}
 
-module _ (start : Found) where
-  abbrev from : List TableLine → ℕ → Found
-  from lines p = foundOver lines p start
+  abbrev AllJump : (p : ℕ) → List TableLine → Type 0
+  AllJump p lines = (i : ℕ) → JumpsAt (p + i) (drop i lines)
 
-  over-long : (lines : List TableLine) (p : ℕ) → length (foundOver lines p start .beyond) ≡ length (start .beyond)
-  unfolding foundOver
-  over-long [] p = refl
-  over-long (line ∷ lines) p = only-at (tableRowOf line .kind) p (from lines (suc p)) .long ∙ over-long lines (suc p)
+  all-jump : (p : ℕ) (line : TableLine) (rest : List TableLine) → JumpsAt p (line ∷ rest) → AllJump (suc p) rest → AllJump p (line ∷ rest)
+  all-jump p line rest here later zero = let e : p + 0 ≡ p = omega arith in rw e here
+  all-jump p line rest here later (suc i) = let e : p + suc i ≡ suc p + i = omega arith in rw e (later i)
 
-  noted-stays : (n : ℕ) (lines : List TableLine) (p q : ℕ) → p + n ≤ q
-      → getD (foundOver lines p start .beyond) q 0 ≡ getD (foundOver (drop n lines) (p + n) start .beyond) q 0
-  unfolding foundOver
-  noted-stays zero lines p q h = let e : p + 0 ≡ p = omega arith in rw e
-  noted-stays (suc n) [] p q h = refl
-  noted-stays (suc n) (line ∷ lines) p q h =
-      let e : suc p + n ≡ p + suc n = omega arith in
-      only-at (tableRowOf line .kind) p (from lines (suc p)) .others q (omega arith)
-      ∙ subst (λ i. getD (from lines (suc p) .beyond) q 0 ≡ getD (foundOver (drop n lines) i start .beyond) q 0) e
-      (noted-stays n lines (suc p) q (omega arith))
-
-  -- past a tree's lines, what was noted behind them stays
-  tree-stays : (t : Table) (rest : List TableLine) (p q : ℕ) → p + rows t ≤ q
-      → getD (foundOver (flat t rest) p start .beyond) q 0 ≡ getD (foundOver rest (p + rows t) start .beyond) q 0
-  tree-stays t rest p q h =
-      noted-stays (rows t) (flat t rest) p q h
-      ∙ ap (λ lines. getD (foundOver lines (p + rows t) start .beyond) q 0)
-      (ap (λ n. drop n (flat t rest)) (sym (add-zero (rows t))) ∙ past-flat t rest 0)
-
-  -- what an "else" and an "end if" have noted: where the branch at hand ends behind them
-  noted-here : (lines : List TableLine) (p q : ℕ) → q < length (start .beyond)
-      → getD (set (foundOver lines p start .beyond) q (foundOver lines p start .end)) q 0 ≡ foundOver lines p start .end
-  noted-here lines p q h = getD-set-same (from lines p .beyond) q _ 0 (omega (arith, over-long lines p))
-
-  at-row : (lines : List TableLine) {p q : ℕ} → p ≡ q → foundOver lines p start .end ≡ foundOver lines q start .end
-  at-row lines e = ap (λ p. from lines p .end) e
-
-  -- ---- over a tree the branch at hand ends where it did
-
-  tree-ends : (t : Table) (rest : List TableLine) (p : ℕ) → p + rows t ≤ length (start .beyond)
-      → foundOver (flat t rest) p start .end ≡ foundOver rest (p + rows t) start .end
-  unfolding foundOver flat rows foundAt
-  tree-ends done rest p h = at-row rest (sym (add-zero p))
-  tree-ends (one b k) rest p h =
-      ap (λ s. s .end) (basic-passes b p (from (flat k rest) (suc p))) ∙ tree-ends k rest (suc p) (omega arith) ∙ at-row rest (omega arith)
-  tree-ends (fork f a b k) rest p h =
+  tree-jumps : (t : Table) (p : ℕ) (rest : List TableLine) → GoesOn xs t p → (q : ℕ) → q ≡ p + rows t → AllJump q rest → AllJump p (flat t rest)
+  unfolding GoesOn rows flat
+  tree-jumps done p rest g q is later = let e : q ≡ p = omega arith in rw e at later
+  tree-jumps (one b k) p rest g q is later = all-jump p (basic b) _ tt (tree-jumps k (suc p) rest g q (omega arith) later)
+  tree-jumps (fork f a b k) p rest g q is later =
       let split = suc p + rows a in
       let end = suc split + rows b in
-      let linesK = flat k rest in
-      let linesB = flat b (endIf ∷ linesK) in
-      let inA = from (flat a (elseLine ∷ linesB)) (suc p) in
-      let at-else : getD (inA .beyond) split 0 ≡ suc end =
-      tree-stays a (elseLine ∷ linesB) (suc p) split (omega arith) ∙ noted-here linesB (suc split) split (omega arith)
-      ∙ tree-ends b (endIf ∷ linesK) (suc split) (omega arith) in
-      let at-end-if : getD (inA .beyond) end 0 ≡ from linesK (suc end) .end =
-      tree-stays a (elseLine ∷ linesB) (suc p) end (omega arith)
-      ∙ getD-set-other (from linesB (suc split) .beyond) split end (from linesB (suc split) .end) 0 (λ e. absurd (omega arith))
-      ∙ tree-stays b (endIf ∷ linesK) (suc split) end (omega arith) ∙ noted-here linesK (suc end) end (omega arith) in
-      ap (λ s. s .end) (if-passes f p inA)
-      ∙ fork-end p split end (inA .beyond) (inA .end) (omega arith) (omega arith) (tree-ends a (elseLine ∷ linesB) (suc p) (omega arith)) at-else
-      ∙ at-end-if ∙ tree-ends k rest (suc end) (omega arith) ∙ at-row rest (omega arith)
-  tree-ends (again m a k) rest p h =
-      tree-ends a (endRepeat ∷ flat k rest) (suc p) (omega arith) ∙ tree-ends k rest (suc (suc p + rows a)) (omega arith) ∙ at-row rest (omega arith)
+      let linesB = flat b (endIf ∷ flat k rest) in
+      let behind = all-jump end endIf _ tt (tree-jumps k (suc end) rest (g .4) q (omega arith) later) in
+      let second = all-jump split elseLine _
+      (record { far = suc (rows b + 1); finds = ap oneMore (seek-end b (flat k rest)); arrives = g .2 ∙ omega arith })
+      (tree-jumps b (suc split) _ (g .3) end (omega arith) behind) in
+      all-jump p (ifLine f) _ (record { far = suc (rows a + 1); finds = ap oneMore (seek-else a linesB); arrives = g .0 ∙ omega arith })
+      (tree-jumps a (suc p) _ (g .1) split (omega arith) second)
+  tree-jumps (again m a k) p rest g q is later =
+      let end = suc p + rows a in
+      all-jump p (repeat m) _ tt
+      (tree-jumps a (suc p) _ (g .0) end (omega arith) (all-jump end endRepeat _ tt (tree-jumps k (suc end) rest (g .1) q (omega arith) later)))
+
+  no-lines : (p : ℕ) → AllJump p []
+  no-lines p i = rw (drop-nil i) tt
 
 -- ---- a whole table
 
-module _ (t : Table) (start : Found) (room : rows t ≤ length (start .beyond)) where
-  -- where a line stands in the table there is room for what it notes, and for what the lines behind it do
-  within : (p : ℕ) (line : TableLine) (rest : List TableLine) → drop p (linesOf t) ≡ line ∷ rest → suc p + length rest ≤ length (start .beyond)
-  unfolding linesOf
-  within p line rest e = omega (arith, lines-counted t, length-drop p (flat t []), ap length e)
-
-  -- an "if" and an "else" have noted where the branch at hand ends behind them
-  noted-at : (p : ℕ) (line : TableLine) (rest : List TableLine) → drop p (linesOf t) ≡ line ∷ rest
-      → foundAt (tableRowOf line .kind) p (foundOver rest (suc p) start) .beyond
-      ≡ set (foundOver rest (suc p) start .beyond) p (foundOver rest (suc p) start .end)
-      → getD (foundOver (linesOf t) 0 start .beyond) p 0 ≡ foundOver rest (suc p) start .end
-  unfolding foundOver
-  noted-at p line rest e notes =
-      noted-stays start p (linesOf t) 0 p (omega arith)
-      ∙ ap (λ q. getD (foundOver (drop p (linesOf t)) q start .beyond) p 0) (zero-add p)
-      ∙ ap (λ lines. getD (foundOver lines p start .beyond) p 0) e ∙ ap (λ noted. getD noted p 0) notes
-      ∙ noted-here start rest (suc p) p (omega (arith, within p line rest e))
-
-  -- so the branch that begins there ends at the mark behind its tree
-  ends-at : (p : ℕ) (line : TableLine) (rest : List TableLine) → drop p (linesOf t) ≡ line ∷ rest → (mark : TableLine) (branch : Branch mark rest)
-      → foundOver rest (suc p) start .end ≡ foundOver (mark ∷ branch .behind) (suc p + rows (branch .tree)) start .end
-  ends-at p line rest e mark branch =
-      ap (λ lines. foundOver lines (suc p) start .end) (branch .is)
-      ∙ tree-ends start (branch .tree) (mark ∷ branch .behind) (suc p)
-      (omega (arith, within p line rest e, ap length (branch .is), flat-length (branch .tree) (mark ∷ branch .behind)))
-
-  if-jumps : (p : ℕ) (test : TableTest) (rest : List TableLine) → drop p (linesOf t) ≡ ifLine test ∷ rest → Branch elseLine rest
-      → Reached (oneMore (seek itsElse 0 rest)) p (getD (foundOver (linesOf t) 0 start .beyond) p 0)
-  unfolding foundOver foundAt tableRowOf
-  if-jumps p test rest e first =
-      record {
-        far = suc (rows (first .tree) + 1);
-        finds = ap (λ lines. oneMore (seek itsElse 0 lines)) (first .is) ∙ ap oneMore (seek-else (first .tree) (first .behind));
-        arrives =
-            noted-at p (ifLine test) rest e (ap (λ s. s .beyond) (if-passes test p (foundOver rest (suc p) start)))
-            ∙ ends-at p (ifLine test) rest e elseLine first ∙ omega arith;
-      }
-
-  else-jumps : (p : ℕ) (rest : List TableLine) → drop p (linesOf t) ≡ elseLine ∷ rest → Branch endIf rest
-      → Reached (oneMore (seek itsEnd 0 rest)) p (getD (foundOver (linesOf t) 0 start .beyond) p 0)
-  unfolding foundOver foundAt tableRowOf
-  else-jumps p rest e second =
-      record {
-        far = suc (rows (second .tree) + 1);
-        finds = ap (λ lines. oneMore (seek itsEnd 0 lines)) (second .is) ∙ ap oneMore (seek-end (second .tree) (second .behind));
-        arrives = noted-at p elseLine rest e refl ∙ ends-at p elseLine rest e endIf second ∙ omega arith;
-      }
-
-  pub jumps-right : Jumps (linesOf t) (foundOver (linesOf t) 0 start .beyond)
-  jumps-right =
-      record {
-        fromIf = λ p test rest e. if-jumps p test rest e (stands-at t p (ifLine test ∷ rest) e);
-        fromElse = λ p rest e. else-jumps p rest e (stands-at t p (elseLine ∷ rest) e);
-      }
+pub jumps-right : (t : Table) (before after : List ℕ) → rows t ≤ length before → JumpsNoted t before after → Jumps (linesOf t) after
+unfolding rowsIn linesOf notedOver
+jumps-right t before after room noted =
+    let O = over-tree t 0 (noting 0 before) (omega arith) in
+    let is : after ≡ O .after .beyond = noted ∙ ap (λ s. s .beyond) (O .on []) in
+    let all : AllJump after 0 (flat t []) =
+    tree-jumps after t 0 [] (subst (λ xs. GoesOn xs t 0) (sym is) (O .right)) (rows t) (omega arith) (no-lines after (rows t)) in
+    let at : (p : ℕ) → JumpsAt after p (drop p (flat t [])) = λ p. let e : 0 + p ≡ p = omega arith in rw e at (all p) in
+    record {
+      fromIf = λ p test rest e. subst (JumpsAt after p) e (at p);
+      fromElse = λ p rest e. subst (JumpsAt after p) e (at p);
+    }

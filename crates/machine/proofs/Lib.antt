@@ -17,4 +17,3 @@ pub mod RunPinned
 pub mod LinesPassed
 pub mod LinesStand
 pub mod JumpsRight
-pub mod JumpPass

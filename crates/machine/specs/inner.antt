@@ -5,6 +5,5 @@ pub mod RowAnswers
 pub mod Buffers
 pub mod RowWords
 pub mod Runnable
-pub mod JumpsFound
 pub mod RowSteps
 pub mod RunsRows

@@ -3,7 +3,6 @@
 // No row's contract asks that a place be there: where it isn't, the answer is Stuck.
 mod blocks;
 pub mod doubles;
-pub mod jumps;
 mod places;
 pub mod residues;
 mod rows;

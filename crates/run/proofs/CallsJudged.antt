@@ -2,7 +2,7 @@
 use Prim.Native.Nat.{ℕ}
 use mathlib.Core.Path.{_≡_, sym, ap, _∙_}
 use mathlib.Core.List.{List, _++_}
-use lib.ListN.{length}
+use lib.ListN.{length, replicate}
 use lib.Dec.{eqb}
 use borrow.Author.Tests.{leb-true, eqb-true}
 use Rattle.number.specs.Arithmetic.{Arithmetic}
@@ -12,9 +12,9 @@ use Rattle.sheet.specs.Answers.{shapeOf}
 use Rattle.sheet.specs.declared.Shape.{Shape}
 use Rattle.sheet.proofs.Judgements.{bind-assoc}
 use Rattle.sheet.proofs.ReadingParts.{bound, passed}
-use Rattle.table.specs.TableRows.{tableWords}
-use Rattle.table.specs.Adjoint.{tableOf}
-use Rattle.table.specs.Calls.{readFor, overwritten}
+use Rattle.table.specs.Sizes.{mostTableRows}
+use Rattle.table.specs.Calls.{readFor}
+use Rattle.table.specs.inner.JumpsNoted.{TableNoted}
 use Rattle.table.specs.inner.Plans.{PlanMade}
 use Rattle.table.specs.declared.Answer as answered
 use Rattle.table.specs.declared.Plan.{Plan}
@@ -23,6 +23,7 @@ use Rattle.run.specs.declared.Rooms.{Rooms}
 use Rattle.run.specs.declared.Fit.{Fit}
 use Rattle.run.specs.inner.CallSteps.{tableFits, stacksFit, roomsFit, fitSaid, readWithRoom, Answers, NoRoom, HasRoom}
 use Rattle.run.specs.inner.CallAnswers.{Written, RanTo}
+use Rattle.run.proofs.SectionLaws.{written-planned}
 
 -- what a judgement comes to, by the code's answer
 pub said : {judgement : Answer (Unit {0})} {fit answer : Fit} → fitSaid fit ≡ judgement → fit ≡ answer → judgement ≡ fitSaid answer
@@ -92,16 +93,13 @@ module _ (A : Arithmetic) (words : List ℕ) (starts seeds : List (A .Carrier)) 
     unfolding run ranOn
     numbers-refuse e answers = rw (numbers-last, room .is, e, answers .number, answers .place)
 
-    pub accepted-run : allAdmitted A (starts ++ seeds) 0 ≡ given tt → {table : List ℕ}
-        → ((sheet : Sheet) → read words ≡ given sheet → table ≡ overwritten (tableWords (tableOf sheet)) (lent .table))
+    pub accepted-run : allAdmitted A (starts ++ seeds) 0 ≡ given tt → {table beyond : List ℕ}
+        → ((sheet : Sheet) → read words ≡ given sheet → TableNoted sheet (lent .table) table (replicate mostTableRows 0) beyond)
         → {answer : answered.Answer} {values : List (A .Carrier)} {turns : List ℕ} {result : List (A .Carrier)}
-        → ((sheet : Sheet) (buffer : List ℕ) → Written words plan table sheet buffer
+        → ((sheet : Sheet) (buffer : List ℕ) → Written words plan table beyond sheet buffer
         → RanTo A sheet buffer starts seeds (lent .values) (lent .turns) (lent .result) answer values turns result)
         → ranOf A answer (lentOf A table values turns result) ≡ run A words starts seeds lent
     unfolding run ranOn
     accepted-run admitted writes runs =
-        let made = room .made in
-        let is = writes (made .sheet) (made .accepted) in
-        let written : Written words plan _ (made .sheet) (lent .table) =
-        record { accepted = made .accepted; shape = made .planned .shape; rows = made .planned .rows; written = is } in
-        rw (is, numbers-last, room .is, admitted) (runs (made .sheet) (lent .table) written)
+        let written = written-planned room writes in
+        rw (written .written, numbers-last, room .is, admitted) (runs (room .made .sheet) (lent .table) written)

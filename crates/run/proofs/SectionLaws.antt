@@ -15,14 +15,14 @@ use Rattle.sheet.specs.declared.Shape.{Shape}
 use Rattle.sheet.proofs.RowsCounted.{lines-counted}
 use Rattle.sheet.proofs.ReadingParts.{accepted}
 use Rattle.sheet.proofs.NamesPresent.{counts, count-judged}
-use Rattle.table.specs.TableRows.{linesOf, tableVariables, tableWords}
+use Rattle.table.specs.TableRows.{linesOf, tableVariables}
 use Rattle.table.specs.Adjoint.{tableOf}
-use Rattle.table.specs.Sizes.{tableRows}
-use Rattle.table.specs.Calls.{overwritten}
+use Rattle.table.specs.Sizes.{tableRows, mostTableRows}
+use Rattle.table.specs.inner.JumpsNoted.{TableNoted}
 use Rattle.table.specs.declared.Plan.{Plan}
 use Rattle.table.proofs.PlanLaws.{planned-few}
 use Rattle.machine.specs.inner.Runnable.{Holds, Indexed}
-use Rattle.machine.specs.inner.JumpsFound.{JumpsOf}
+use Rattle.machine.proofs.JumpsRight.{jumps-right}
 use Rattle.run.specs.declared.Rooms.{Rooms}
 use Rattle.run.specs.inner.CallSteps.{HasRoom}
 use Rattle.run.specs.inner.CallAnswers.{Written, SheetRoom, Ready, RunRoom}
@@ -132,46 +132,52 @@ module _ (words : List ℕ) (plan : Plan) where
       ∙ length-take-le (shape .constants) (drop first words) (omega (arith, length-drop first words, room .first)) in
       rw (store, constants) indexed
 
-  pub written-indexed : {table : List ℕ} {sheet : Sheet} {buffer : List ℕ} → Written words plan table sheet buffer
+  pub written-indexed : {table beyond : List ℕ} {sheet : Sheet} {buffer : List ℕ} → Written words plan table beyond sheet buffer
       → Indexed table (plan .rows) (tableVariables (shape .variables)) (shape .constants)
   unfolding tableRows linesOf tableOf shapeOf
-  written-indexed {table} {sheet} {buffer} written =
+  written-indexed {table} {sheet = sheet} {buffer} written =
       let holds : Holds table (linesOf (tableOf sheet)) = rw (written .written) (table-holds (tableOf sheet) buffer) in
       let counted : length (linesOf (tableOf sheet)) ≡ plan .rows = lines-counted (tableOf sheet) ∙ sym (written .rows) in
       rw (sym counted, written .shape) (table-indexed words sheet (written .accepted) table holds)
 
-  pub ready-to-run : {table beyond : List ℕ} {sheet : Sheet} {buffer : List ℕ} → Written words plan table sheet buffer
-      → JumpsOf table (plan .rows) beyond → Ready sheet rolesPart constantsPart table (plan .rows) beyond
+  pub ready-to-run : {table beyond : List ℕ} {sheet : Sheet} {buffer : List ℕ} → Written words plan table beyond sheet buffer
+      → Ready sheet rolesPart constantsPart table (plan .rows) beyond
   unfolding tableRows linesOf tableOf
-  ready-to-run {table} {sheet} {buffer} written found =
+  ready-to-run {table} {sheet = sheet} {buffer} written =
       let parts = sections words shape sheet (written .accepted) (written .shape) in
       let first = shape .«first_constant» in
       let roles : 1 + shape .variables - 1 ≡ shape .variables = omega arith in
       let constants : first + shape .constants - first ≡ shape .constants = omega arith in
-      let counted : rows (tableOf sheet) ≡ plan .rows = sym (written .rows) in
-      let holds : Holds table (linesOf (tableOf sheet)) = rw (written .written) (table-holds (tableOf sheet) buffer) in
       record {
         words = words;
         accepted = written .accepted;
         rolesAre = ap (λ n. take n (drop 1 words)) roles ∙ parts .rolesAre;
         constantsAre =
             ap (λ n. take n (drop first words)) constants ∙ ap (λ n. take (shape .constants) (drop n words)) (parts .first) ∙ parts .constantsAre;
-        holds = holds;
-        counted = lines-counted (tableOf sheet) ∙ counted;
-        jumps = found (tableOf sheet) counted holds;
+        holds = rw (written .written) (table-holds (tableOf sheet) buffer);
+        counted = lines-counted (tableOf sheet) ∙ sym (written .rows);
+        jumps = written .jumps;
       }
 
--- of a planned sheet whose table has been written over a buffer
-pub room-indexed : {words : List ℕ} {rooms : Rooms} {marks came goes : List ℕ} {plan : Plan} {table : List ℕ} (buffer : List ℕ)
-    → HasRoom words rooms marks came goes plan
-    → ((sheet : Sheet) → read words ≡ given sheet → table ≡ overwritten (tableWords (tableOf sheet)) buffer)
-    → Indexed table (plan .rows) (tableVariables (plan .shape .variables)) (plan .shape .constants)
-room-indexed {words} {plan = plan} buffer room writes =
-    let made = room .made in
-    written-indexed words plan
-    (record {
-      accepted = made .accepted;
-      shape = made .planned .shape;
-      rows = made .planned .rows;
-      written = writes (made .sheet) (made .accepted);
-    })
+-- of a planned sheet whose table has been written over a buffer, and its jumps over zeros
+module _ {words : List ℕ} {rooms : Rooms} {marks came goes : List ℕ} {plan : Plan} (room : HasRoom words rooms marks came goes plan)
+    {buffer table beyond : List ℕ}
+    (writes : (sheet : Sheet) → read words ≡ given sheet → TableNoted sheet buffer table (replicate mostTableRows 0) beyond) where
+  pub written-planned : Written words plan table beyond (room .made .sheet) buffer
+  unfolding tableRows tableOf
+  written-planned =
+      let made = room .made in
+      let noted = writes (made .sheet) (made .accepted) in
+      let zeros : List ℕ = replicate mostTableRows 0 in
+      let few : rows (tableOf (made .sheet)) ≤ length zeros =
+      omega (arith, planned-few made, made .planned .rows, length-replicate {A = ℕ} mostTableRows 0) in
+      record {
+        accepted = made .accepted;
+        shape = made .planned .shape;
+        rows = made .planned .rows;
+        written = noted .words;
+        jumps = jumps-right (tableOf (made .sheet)) zeros beyond few (noted .jumps);
+      }
+
+  pub room-indexed : Indexed table (plan .rows) (tableVariables (plan .shape .variables)) (plan .shape .constants)
+  room-indexed = written-indexed words plan written-planned

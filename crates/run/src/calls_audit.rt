@@ -15,7 +15,6 @@ use super::Rooms;
 use super::buffers;
 use super::refusals;
 use machine::Ended;
-use machine::jumps;
 use machine::residues;
 use sheet::MAX_DEPTH;
 use sheet::MAX_ROWS;
@@ -91,11 +90,12 @@ fn run_in(
     refusals::answer_end(end)
 }
 
-// The run of a sheet whose table has been written.
+// The run of a sheet whose table has been written, with the table's jumps.
 fn run_written(
     words: &[u16],
     plan: Plan,
     table: &[u16],
+    beyond: &[u16; MAX_TABLE_ROWS],
     values: &mut [u32],
     turns: &mut [u16],
     starts: &[u32],
@@ -103,7 +103,7 @@ fn run_written(
     result: &mut [u32],
 ) -> Answer
     requires { ⌜ Indexed (now table) (plan .rows) (tableVariables (plan .shape .variables)) (plan .shape .constants) ⌝ ∗ ⌜ SheetRoom (now words) plan (now starts) (now seeds) (now result) ⌝ }
-    ensures { λ r. ⌜ ((sheet : Sheet) (buffer : List ℕ) → Written (now (words .entry)) plan (now (table .entry)) sheet buffer
+    ensures { λ r. ⌜ ((sheet : Sheet) (buffer : List ℕ) → Written (now (words .entry)) plan (now (table .entry)) (now (beyond .entry)) sheet buffer
         → RanTo residues sheet buffer (now (starts .entry)) (now (seeds .entry)) (now (values .entry)) (now (turns .entry)) (now (result .entry))
         r (now (values .exit)) (now (turns .exit)) (now (result .exit))) ⌝ }
 {
@@ -114,16 +114,14 @@ fn run_written(
     let first_constant = shape.first_constant;
     let constants_end = first_constant + shape.constants;
     let size = 2 * variables + 2;
-    let mut beyond = [0u16; MAX_TABLE_ROWS];
     let mut store = [0u32; buffers::STORE];
     let mut copied = [0u32; MAX_VARIABLES];
-    jumps::find_jumps(table, rows, &mut beyond);
     run_in(
         &words[1..roles_end],
         &words[first_constant..constants_end],
         table,
         rows,
-        &beyond,
+        beyond,
         values,
         turns,
         starts,
@@ -162,8 +160,19 @@ pub fn run_audit(
     match refusals::judge(words, rooms, &mut marks, &mut came, &mut goes) {
         Judged::No(answer) => answer,
         Judged::HasRoom(plan) => {
-            table::write_planned(words, plan, &marks, &came, &goes, table);
-            run_written(words, plan, table, values, turns, starts, seeds, result)
+            let mut beyond = [0u16; MAX_TABLE_ROWS];
+            table::write_planned(words, plan, &marks, &came, &goes, table, &mut beyond);
+            run_written(
+                words,
+                plan,
+                table,
+                &beyond,
+                values,
+                turns,
+                starts,
+                seeds,
+                result,
+            )
         }
     }
 }

@@ -17,7 +17,6 @@ use super::buffers;
 use super::refusals;
 use machine::Ended;
 use machine::doubles;
-use machine::jumps;
 use sheet::MAX_DEPTH;
 use sheet::MAX_ROWS;
 use sheet::MAX_VARIABLES;
@@ -92,11 +91,12 @@ fn run_in(
     refusals::answer_end(end)
 }
 
-// The run of a sheet whose table has been written.
+// The run of a sheet whose table has been written, with the table's jumps.
 fn run_written(
     words: &[u16],
     plan: Plan,
     table: &[u16],
+    beyond: &[u16; MAX_TABLE_ROWS],
     values: &mut [f64],
     turns: &mut [u16],
     starts: &[f64],
@@ -104,7 +104,7 @@ fn run_written(
     result: &mut [f64],
 ) -> Answer
     requires { ⌜ Indexed (now table) (plan .rows) (tableVariables (plan .shape .variables)) (plan .shape .constants) ⌝ ∗ ⌜ SheetRoom (now words) plan (now starts) (now seeds) (now result) ⌝ }
-    ensures { λ r. ⌜ ((sheet : Sheet) (buffer : List ℕ) → Written (now (words .entry)) plan (now (table .entry)) sheet buffer
+    ensures { λ r. ⌜ ((sheet : Sheet) (buffer : List ℕ) → Written (now (words .entry)) plan (now (table .entry)) (now (beyond .entry)) sheet buffer
         → RanTo doubles sheet buffer (now (starts .entry)) (now (seeds .entry)) (now (values .entry)) (now (turns .entry)) (now (result .entry))
         r (now (values .exit)) (now (turns .exit)) (now (result .exit))) ⌝ }
 {
@@ -115,16 +115,14 @@ fn run_written(
     let first_constant = shape.first_constant;
     let constants_end = first_constant + shape.constants;
     let size = 2 * variables + 2;
-    let mut beyond = [0u16; MAX_TABLE_ROWS];
     let mut store = [0.0; buffers::STORE];
     let mut copied = [0.0; MAX_VARIABLES];
-    jumps::find_jumps(table, rows, &mut beyond);
     run_in(
         &words[1..roles_end],
         &words[first_constant..constants_end],
         table,
         rows,
-        &beyond,
+        beyond,
         values,
         turns,
         starts,
@@ -166,8 +164,19 @@ pub fn run_double(
             if let Fit::No(why) = refusals::all_finite(starts, seeds) {
                 return refusals::answer_no(why);
             }
-            table::write_planned(words, plan, &marks, &came, &goes, table);
-            run_written(words, plan, table, values, turns, starts, seeds, result)
+            let mut beyond = [0u16; MAX_TABLE_ROWS];
+            table::write_planned(words, plan, &marks, &came, &goes, table, &mut beyond);
+            run_written(
+                words,
+                plan,
+                table,
+                &beyond,
+                values,
+                turns,
+                starts,
+                seeds,
+                result,
+            )
         }
     }
 }

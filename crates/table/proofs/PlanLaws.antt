@@ -16,7 +16,7 @@ use Rattle.table.specs.Adjoint.{adjointTable, tableOf}
 use Rattle.table.specs.Sizes.{mostTableRows, tableRows, valuesNeeded, turnsNeeded}
 use Rattle.table.specs.Calls.{tableRoom, overwritten}
 use Rattle.table.specs.inner.MarkedRows.{rowsIn, Readable, Handed, handed, Walkable, Room, Wrote, wholeRows, countAll}
-use Rattle.table.specs.inner.JumpsNoted.{noting, notedOver, Numbered, JumpsNoted}
+use Rattle.table.specs.inner.JumpsNoted.{noting, notedOver, Numbered, WroteNoted, TableNoted}
 use Rattle.table.specs.declared.needs.Need.{Need}
 use Rattle.table.specs.inner.Needs.{needing, nothing, Comes}
 use Rattle.table.specs.inner.Plans.{SheetNoted, PlanMade}
@@ -79,7 +79,7 @@ module _ {words : List ℕ} {sheet : Sheet} {shape : Shape} (lies : Lies words s
     room-right count buffer right long =
         record { fits = omega (arith, ap length whole-right, table-rows-counted (tableOf sheet), counts-rows) }
 
-    pub table-written : (count : ℕ) (buffer after : List ℕ) (next : ℕ) → count ≡ tableRows (variablesOf sheet) (marked sheet)
+    table-written : (count : ℕ) (buffer after : List ℕ) (next : ℕ) → count ≡ tableRows (variablesOf sheet) (marked sheet)
         → tableRoom count ≤ length buffer → Wrote (set buffer 0 count) 1 (wholeRows given) after next
         → after ≡ overwritten (tableWords (tableOf sheet)) buffer
     table-written count buffer after next right long wrote =
@@ -91,9 +91,15 @@ module _ {words : List ℕ} {sheet : Sheet} {shape : Shape} (lies : Lies words s
     rows-numbered count right few =
         record { begins = refl; few = omega (arith, ap length whole-right, table-rows-counted (tableOf sheet), counts-rows) }
 
-    pub jumps-noted : (before after : List ℕ) (top : ℕ) → noting top after ≡ notedOver (wholeRows given) 0 (noting 0 before)
-        → JumpsNoted (tableOf sheet) before after
-    jumps-noted before after top noted = ap (λ s. s .beyond) noted ∙ ap (λ rs. notedOver rs 0 (noting 0 before) .beyond) whole-right
+    -- the rows are the table's, and what they note is its jumps
+    pub table-noted : (count : ℕ) {buffer after beyond beyond′ : List ℕ} {next top : ℕ} → count ≡ tableRows (variablesOf sheet) (marked sheet)
+        → tableRoom count ≤ length buffer → WroteNoted (set buffer 0 count) 1 (wholeRows given) after next (noting 0 beyond) (noting top beyond′)
+        → TableNoted sheet buffer after beyond beyond′
+    table-noted count {buffer} {after} {beyond} {next = next} right long did =
+        record {
+          words = table-written count buffer after next right long (did .wrote);
+          jumps = ap (λ s. s .beyond) (did .noted) ∙ ap (λ rs. notedOver rs 0 (noting 0 beyond) .beyond) whole-right;
+        }
 
 -- a plan that was made says where its sheet lies
 pub planned-lies : {words : List ℕ} {plan : Plan} {marks came goes : List ℕ} (made : PlanMade words plan marks came goes)

@@ -7,10 +7,8 @@ ghost use Rattle.sheet.specs.Refusals.{given};
 ghost use Rattle.sheet.specs.Reading.{Sheet, read};
 ghost use Rattle.sheet.specs.Answers.{shapeRead};
 ghost use Rattle.sets.specs.Calls.{lent, MarksSaid};
-ghost use Rattle.table.specs.TableRows.{tableWords};
-ghost use Rattle.table.specs.Adjoint.{tableOf};
-ghost use Rattle.table.specs.Calls.{tableRoom, overwritten, checkedSaid, check, writtenOf, write};
-ghost use Rattle.table.specs.inner.JumpsNoted.{JumpsNoted};
+ghost use Rattle.table.specs.Calls.{tableRoom, checkedSaid, check, writtenOf, write};
+ghost use Rattle.table.specs.inner.JumpsNoted.{TableNoted};
 ghost use Rattle.table.specs.inner.Plans.{SheetNoted, PlanMade, PlanSays};
 
 mod count;
@@ -118,8 +116,7 @@ pub fn write_planned(
 )
     requires { ⌜ PlanSays (now words) (now marks) (now came) (now goes) (Planned.Made plan) ⌝ ∗ ⌜ tableRoom (plan .rows) ≤ length (now table) ⌝ }
     ensures { λ r. ⌜ ((sheet : Sheet) → read (now (words .entry)) ≡ given sheet
-        → (now (table .exit) ≡ overwritten (tableWords (tableOf sheet)) (now (table .entry)))
-        × JumpsNoted (tableOf sheet) (now (beyond .entry)) (now (beyond .exit))) ⌝ }
+        → TableNoted sheet (now (table .entry)) (now (table .exit)) (now (beyond .entry)) (now (beyond .exit))) ⌝ }
 {
     sweep::write_table(words, plan, marks, came, goes, table, beyond);
 }

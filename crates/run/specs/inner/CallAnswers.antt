@@ -20,12 +20,13 @@ use Rattle.run.specs.Calls.{sheetRun, ranTo, lentOf, ranOf}
 
 -- ---- a sheet whose table has been written
 
--- the sheet that was planned, and its table over a buffer
-pub record Written (words : List ℕ) (plan : Plan) (table : List ℕ) (sheet : Sheet) (buffer : List ℕ) : Type 0 where
+-- the sheet that was planned, its table over a buffer, and the table's jumps
+pub record Written (words : List ℕ) (plan : Plan) (table beyond : List ℕ) (sheet : Sheet) (buffer : List ℕ) : Type 0 where
   pub accepted : read words ≡ given sheet
   pub shape : plan .shape ≡ shapeOf sheet
   pub rows : plan .rows ≡ tableRows (variablesOf sheet) (marked sheet)
   pub written : table ≡ overwritten (tableWords (tableOf sheet)) buffer
+  pub jumps : Jumps (linesOf (tableOf sheet)) beyond
 
 -- the sections and lists of a planned sheet are as long as its plan says, and it has no more rows than any sheet
 pub record SheetRoom {X : Type 0} (words : List ℕ) (plan : Plan) (starts seeds result : List X) : Type 0 where

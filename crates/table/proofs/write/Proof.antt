@@ -60,7 +60,7 @@ returns-3 c =
     let wrote = c .before .before in
     let tested = wrote .before .before .before .before .before .before in
     let fits = sym (tested .before .has-room .ensures) ∙ not-false _ (tested .if1 .left) in
-    write-made _ _ (plan-made (tested .before .before .before)) _ fits (λ sheet e. wrote .write-planned .ensures sheet e .0)
+    write-made _ _ (plan-made (tested .before .before .before)) _ fits (λ sheet e. wrote .write-planned .ensures sheet e .words)
 
 pub write-spec : {M : Type 1} → statement M
 write-spec =

@@ -1,13 +1,9 @@
 -- `table::write_planned` meets its contract: the plan's sheet is the words', so the rows that are written are its table's.
-use mathlib.Core.Path.{sym, ap, subst, _∙_}
+use mathlib.Core.Path.{sym, _∙_}
 use native.Mathlib.Omega.{arith}
 use borrow.Author.Needs.{needs}
 use Rattle.sheet.proofs.ReadingParts.{same-given}
-use Rattle.table.specs.TableRows.{tableWords}
-use Rattle.table.specs.Adjoint.{tableOf}
-use Rattle.table.specs.Calls.{overwritten}
-use Rattle.table.specs.inner.JumpsNoted.{JumpsNoted}
-use Rattle.table.proofs.PlanLaws.{readable, walkable, room-right, table-written, rows-numbered, jumps-noted, planned-lies, planned-few}
+use Rattle.table.proofs.PlanLaws.{readable, walkable, room-right, rows-numbered, table-noted, planned-lies, planned-few}
 use Rattle.table.proofs.write_planned.Statement.{statement}
 use Rattle.table.proofs.write_planned.Tie as tie
 
@@ -32,18 +28,9 @@ returns c =
     let wrote = c .before .before in
     let start = wrote .before .before .before .before .before .before .before .before in
     let made = start .pre .0 in
-    let buffer = start .args .table .now in
-    let before = start .args .beyond .now in
-    let lies = planned-lies made in
-    let did = wrote .write-table .ensures in
-    let words =
-    table-written lies _ _ _ (made .planned .noted) _ buffer _ _ (made .planned .rows) (start .pre .1) (did .wrote) in
-    let jumps = jumps-noted lies _ _ _ (made .planned .noted) before _ _ (did .noted) in
-    λ sheet e.
-    let same = same-given (sym (made .accepted) ∙ e) in (
-      words ∙ ap (λ s. overwritten (tableWords (tableOf s)) buffer) same,
-      subst (λ s. JumpsNoted (tableOf s) before (wrote .write-table .last .1 .1 .1 .1 .1 .1 .0)) same jumps,
-    )
+    let noted =
+    table-noted (planned-lies made) _ _ _ (made .planned .noted) _ (made .planned .rows) (start .pre .1) (wrote .write-table .ensures) in
+    λ sheet e. rw (sym (same-given (sym (made .accepted) ∙ e))) noted
 
 pub write-planned-spec : {M : Type 1} → statement M
 write-planned-spec =

@@ -7,10 +7,13 @@ use lib.ListN.{length, getD, set}
 use lib.Dec.{eqb}
 use Rattle.sheet.specs.Bounds.{limit}
 use Rattle.sheet.specs.Rows.{Row}
+use Rattle.sheet.specs.Reading.{Sheet}
 use Rattle.sheet.specs.declared.kinds.Part.{Part}
 use Rattle.sheet.specs.declared.kinds.Part.the-variants as part
-use Rattle.table.specs.TableRows.{Table}
+use Rattle.table.specs.TableRows.{Table, tableWords}
+use Rattle.table.specs.Adjoint.{tableOf}
 use Rattle.table.specs.Sizes.{mostTableRows}
+use Rattle.table.specs.Calls.{overwritten}
 use Rattle.table.specs.declared.jumps.Branching.{Branching}
 use Rattle.table.specs.declared.jumps.Branching.the-variants as branching
 use Rattle.table.specs.inner.MarkedRows.{rowsIn, Wrote}
@@ -84,3 +87,8 @@ pub record WroteNoted (before : List ℕ) (place : ℕ) (rs : List Row) (after :
 -- the jumps of a whole table, over whatever was there
 abbrev pub JumpsNoted : Table → (before after : List ℕ) → Type 0
 JumpsNoted table before after = after ≡ notedOver (rowsIn table) 0 (noting 0 before) .beyond
+
+-- a sheet's table over a buffer, with its jumps
+pub record TableNoted (sheet : Sheet) (before after beyond beyond′ : List ℕ) : Type 0 where
+  pub words : after ≡ overwritten (tableWords (tableOf sheet)) before
+  pub jumps : JumpsNoted (tableOf sheet) beyond beyond′

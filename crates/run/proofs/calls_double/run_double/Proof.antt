@@ -38,16 +38,16 @@ enum-told c = search needs
 
 write-planned-requires : tie.Need-write-planned-requires
 write-planned-requires c κs =
-    let planned = c .before .before .before .before .before .before .before .before in
+    let planned = c .before .before .before .before .before .before .before .before .before in
     let room = subst (JudgedAs _ _ _ _ _) (planned .plan .given .1) (planned .before .before .judge .ensures) in
     (room .made, room .tableFits)
 
 run-written-requires : tie.Need-run-written-requires
 run-written-requires c κs =
-    let wrote = c .before .before .before .before .before .before in
-    let planned = wrote .before .before .before .before .before .before .before .before .before in
+    let wrote = c .before .before .before .before .before .before .before in
+    let planned = wrote .before .before .before .before .before .before .before .before .before .before in
     let room = subst (JudgedAs _ _ _ _ _) (planned .plan .given .1) (planned .before .before .judge .ensures) in
-    (room-indexed _ room (wrote .write-planned .ensures), sheet-room _ _ _ room)
+    (room-indexed room (wrote .write-planned .ensures), sheet-room _ _ _ room)
 
 returns-2 : tie.Need-returns-2
 returns-2 c =
@@ -68,8 +68,8 @@ same-length-4 c = search needs
 returns-3 : tie.Need-returns-3
 returns-3 c =
     let ran = c .before .before .before .before .before .before in
-    let wrote = ran .before .before .before .before .before .before .before in
-    let told = wrote .before .before .before .before .before in
+    let wrote = ran .before .before .before .before .before .before .before .before in
+    let told = wrote .before .before .before .before .before .before in
     let judged = told .before .before in
     let planned = judged .before .before in
     accepted-run doubles _ _ _ _ (subst (JudgedAs _ _ _ _ _) (planned .plan .given .1) (planned .before .before .judge .ensures))

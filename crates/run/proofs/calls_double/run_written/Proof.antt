@@ -21,9 +21,6 @@ mul-size c = search needs
 add-size : tie.Need-add-size
 add-size c = search needs
 
-find-jumps-requires : tie.Need-find-jumps-requires
-find-jumps-requires c κs = search needs
-
 sub-run-in : tie.Need-sub-run-in
 sub-run-in c = search needs
 
@@ -60,8 +57,7 @@ slice-aggregate-run-in-2 c = sym (length-take-le _ _ (omega arith))
 run-in-requires : tie.Need-run-in-requires
 unfolding ofBits
 run-in-requires c κs =
-    let found = c .before .before .before .before .before .before .before .before in
-    let start = found .before .before .before .before .before .before .before .before .before .before .before in
+    let start = c .before .before .before .before .before .before .before .before .before .before .before .before .before .before .before .before in
     (part-indexed _ _ doubles (start .pre .1) (start .pre .0), run-room _ _ doubles (start .pre .1))
 
 same-length : tie.Need-same-length
@@ -74,10 +70,7 @@ same-length-3 : tie.Need-same-length-3
 same-length-3 c = search needs
 
 returns : tie.Need-returns
-returns c =
-    let ran = c .before .before .before .before .before .before .before .before in
-    let found = ran .before .before .before .before .before .before .before .before .before in
-    λ sheet buffer written. ran .run-in .ensures sheet buffer (ready-to-run _ _ written (found .find-jumps .ensures))
+returns c = λ sheet buffer written. c .before .before .before .before .before .before .before .before .run-in .ensures sheet buffer (ready-to-run _ _ written)
 
 pub run-written-spec : {M : Type 1} → statement M
 run-written-spec =
@@ -87,7 +80,6 @@ run-written-spec =
     add-constants-end
     mul-size
     add-size
-    find-jumps-requires
     sub-run-in
     part-run-in-start
     part-run-in-end
