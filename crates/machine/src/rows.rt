@@ -11,23 +11,17 @@ use super::Ended;
 use super::Met;
 use super::Place;
 use super::places::following;
-use sheet::ROW_WORDS;
 use sheet::RowNumber;
 use sheet::RowWords;
 use sheet::Variable;
 use sheet::kinds;
 
-// The words of one of a table's rows.
+// The words of one of a table's rows: they start after the row count.
 pub fn row_of(table: &[u16], row: RowNumber) -> RowWords
     requires { ⌜ placeOfRow (suc (row .0)) ≤ length (now table) ⌝ }
     ensures { λ r. ⌜ rowSaid r ≡ rowAt (now (table .entry)) (1 + row .0 * limit .rowWords) ⌝ }
 {
-    let first = 1 + row.0 * ROW_WORDS;
-    let kind = table[first];
-    let d = table[first + 1];
-    let a = table[first + 2];
-    let b = table[first + 3];
-    RowWords { kind, d, a, b }
+    sheet::row_of(table, 1, row)
 }
 
 // The row of a block at a place, or the end.
