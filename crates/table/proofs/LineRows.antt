@@ -1,11 +1,12 @@
 -- What the code learns of a sheet row from what it is to the blocks: the line that it says, and that line's rows in both parts of the table.
-use Prim.Native.Nat.{ℕ}
+use Prim.Native.Nat.{ℕ, _≤_}
 use mathlib.Core.Path.{_≡_, refl, sym, ap, _∙_, subst}
 use mathlib.Core.Bool.{Bool}
 use mathlib.Core.List.{List, [], _∷_, _++_}
+use lib.ListN.{length}
 use native.Mathlib.Omega.{arith}
 use Rattle.sheet.specs.Tree.{basic, ifLine, elseLine, endIf, repeat, endRepeat}
-use Rattle.sheet.specs.Rows.{Assignment, Source, copy, fixed, sum, difference, product, negation, Row, SheetLine, rowOf, rowOfAssignment, sheetRowOf, _≔_}
+use Rattle.sheet.specs.Rows.{Assignment, Source, copy, fixed, sum, difference, product, negation, less, Row, SheetLine, kinds, rowOf, rowOfAssignment, rowOfTest, sheetRowOf, _≔_}
 use Rattle.sheet.specs.inner.RowLines.{lineOfRow}
 use Rattle.sheet.specs.inner.Kinds.{partOf, partFor}
 use Rattle.sheet.specs.declared.kinds.Part.{Part}
@@ -39,6 +40,19 @@ assigned-kind (d ≔ sum a b) = record { some = omega arith; most = omega arith 
 assigned-kind (d ≔ difference a b) = record { some = omega arith; most = omega arith }
 assigned-kind (d ≔ product a b) = record { some = omega arith; most = omega arith }
 assigned-kind (d ≔ negation a) = record { some = omega arith; most = omega arith }
+
+line-kind : (l : SheetLine) → sheetRowOf l .kind ≤ length kinds
+unfolding sheetRowOf rowOf rowOfTest
+line-kind (basic b) = omega (arith, assigned-kind b .most)
+line-kind (ifLine (less a b)) = omega arith
+line-kind elseLine = omega arith
+line-kind endIf = omega arith
+line-kind (repeat m) = omega arith
+line-kind endRepeat = omega arith
+
+-- the table of kinds has the kind of a row that says a line
+pub says-kind : {read there : Row} → read ≡ there → Says there → read .kind ≤ length kinds
+says-kind {there = there} e says = rw e (subst (λ r. r .kind ≤ length kinds) (says .back) (line-kind (lineOfRow there)))
 
 module _ {r : Row} {p : Part} (s : SaysPart r p) where
   row-again : (l : SheetLine) → lineOfRow r ≡ l → sheetRowOf l ≡ r

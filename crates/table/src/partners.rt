@@ -1,6 +1,8 @@
 // What a row is to the blocks, and a block's rows, found by the partners that are noted for them.
 ghost use mathlib.Core.Path.{_≡_};
-ghost use lib.ListN.{getD};
+ghost use Prim.Native.Nat.{_≤_};
+ghost use lib.ListN.{length, getD};
+ghost use Rattle.sheet.specs.Rows.{kinds};
 ghost use Rattle.sheet.specs.inner.Kinds.{allForms, partFor};
 ghost use Rattle.table.specs.inner.MarkedRows.{ifEnd};
 use sheet::RowNumber;
@@ -8,11 +10,13 @@ use sheet::kinds;
 use sheet::kinds::Form;
 use sheet::kinds::Part;
 
+// `forms` is the table of kinds, which a pass takes once. A sheet's rows are all of kinds that it has.
 pub fn part_of(forms: [Form; kinds::LAST + 1], kind: u16) -> Part
-    requires { ⌜ forms ≡ allForms ⌝ }
+    requires { ⌜ (forms ≡ allForms) × (kind ≤ length kinds) ⌝ }
     ensures { λ r. ⌜ r ≡ partFor kind ⌝ }
 {
-    let form = kinds::form_in(forms, kind);
+    let number = sheet::wide(kind);
+    let form = forms[number];
     form.3
 }
 

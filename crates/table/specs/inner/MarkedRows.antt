@@ -283,9 +283,8 @@ module _ (marks came goes : List ℕ) (mark : ℕ → Assignment → Marked) whe
     pub elseCame : getD came split 0 ≡ start
     pub endCame : getD came end 0 ≡ split
 
-  -- the partners of a "repeat" and its "end repeat"
+  -- the partner of an "end repeat"
   pub record RepeatNoted (start end : ℕ) : Type 0 where
-    pub repeatCame : getD came start 0 ≡ end
     pub endGoes : getD goes end 0 ≡ start
 
   -- of the rows of a tree from row p on: each assignment's marks and each block row's partners

@@ -11,7 +11,7 @@ use Rattle.sheet.specs.inner.Kinds.{partFor}
 use Rattle.table.specs.Sizes.{mostRowsEach}
 use Rattle.table.specs.inner.MarkedRows.{Says, SaysPart, rowNumbered, countRows, countAll}
 use Rattle.table.specs.inner.Needs.{Sized}
-use Rattle.table.proofs.LineRows.{says-part}
+use Rattle.table.proofs.LineRows.{says-kind, says-part}
 use Rattle.table.proofs.RowCounts.{count-more, count-done}
 use Rattle.table.proofs.SizesPass.{Going, going-starts, going-ends, saved-few, goes-saved, if-fits, goes-into-if, repeat-fits, goes-into-repeat, goes-to-second, if-few, if-inside, goes-past-if, repeat-few, repeat-inside, goes-past-repeat}
 use Rattle.table.proofs.sizes.sizes_of.Statement.{statement}
@@ -97,7 +97,9 @@ row-of-requires : tie.Need-row-of-requires Inv-loop μ-loop
 row-of-requires c κs = omega (arith, start (c .before .before) .pre .0 .there, c .if1 .taken)
 
 part-of-requires : tie.Need-part-of-requires Inv-loop μ-loop
-part-of-requires c κs = search needs
+part-of-requires c κs =
+    let head = c .before .before .before in
+    (head .before .forms .ensures, says-kind (c .row-of .ensures) (start head .pre .0 .says _ (c .before .if1 .taken)))
 
 shared-slice-read-mark : tie.Need-shared-slice-read-mark Inv-loop μ-loop
 shared-slice-read-mark c =

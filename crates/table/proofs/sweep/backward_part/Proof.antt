@@ -9,7 +9,7 @@ use Rattle.table.specs.inner.JumpsNoted.{noting}
 use Rattle.table.proofs.WritingLaws.{Underway, underway-start, underway-room, underway-next, underway-end, underway-length, room-first}
 use Rattle.table.proofs.JumpLaws.{Jumping, jumping-start, backward-ends, row-ends, jumping-next, jumping-end}
 use Rattle.sheet.specs.Answers.{rowSaid}
-use Rattle.table.proofs.LineRows.{says-part}
+use Rattle.table.proofs.LineRows.{says-kind, says-part}
 use Rattle.table.proofs.BackwardOver.{backward-next, backward-none, visit-now, walk-on}
 use Rattle.table.proofs.sweep.backward_part.Statement.{statement}
 use Rattle.table.proofs.sweep.backward_part.Tie as tie
@@ -33,12 +33,14 @@ handedTo c = let x = start c .args in handed (x .words .now) (x .shape) (x .mark
 visit : (c : tie.In-loop Inv-loop μ-loop) → Visited (handedTo c) (c .before .loop .end)
 visit c = visit-now (handedTo c) _ _ (c .loop-test .taken) (c .before .loop .inv .0)
 
+there : (c : tie.In-loop Inv-loop μ-loop) → c .before .loop .end - 1 < handedTo c .rows
+there c = omega (arith, visit c)
+
 -- the row's line, and what that is to the blocks
 said : (c : tie.After-part-of Inv-loop μ-loop) → SaysPart (rowSaid (c .before .row-of .result)) (c .part-of .result)
 said c =
     let turn = c .before .before in
-    let there : turn .before .loop .end - 1 < handedTo turn .rows = omega (arith, visit turn) in
-    says-part _ _ (subst Says (sym (c .before .row-of .ensures)) (start turn .pre .1 .1 .0 .says _ there)) (c .part-of .ensures)
+    says-part _ _ (subst Says (sym (c .before .row-of .ensures)) (start turn .pre .1 .1 .0 .says _ (there turn))) (c .part-of .ensures)
 
 cast-variables : tie.Need-cast-variables Inv-loop μ-loop
 cast-variables c = record { fits = omega (arith, c .before .before .before .before .before .before .pre .1 .1 .1 .few) }
@@ -58,7 +60,9 @@ row-of-requires : tie.Need-row-of-requires Inv-loop μ-loop
 row-of-requires c κs = omega (arith, visit c, start c .pre .1 .1 .0 .there)
 
 part-of-requires : tie.Need-part-of-requires Inv-loop μ-loop
-part-of-requires c κs = search needs
+part-of-requires c κs =
+    let turn = c .before in
+    (turn .before .before .forms .ensures, says-kind (c .row-of .ensures) (start turn .pre .1 .1 .0 .says _ (there turn)))
 
 turns-back-requires : tie.Need-turns-back-requires Inv-loop μ-loop
 turns-back-requires c κs = search needs
@@ -74,10 +78,9 @@ backward-row-requires c κs =
     let turn = row .before .before in
     let is = row .before .row-of .ensures in
     let given = start turn .pre in
-    let left = backward-next (handedTo turn) _ _ (turn .loop-test .taken) is (said row .is) (c .before .before .turns-back .ensures) refl in
-    let there : turn .before .loop .end - 1 < handedTo turn .rows = omega (arith, visit turn) in (
+    let left = backward-next (handedTo turn) _ _ (turn .loop-test .taken) is (said row .is) (c .before .before .turns-back .ensures) refl in (
       room-first _ _ (rw left at (underway-room (turn .before .loop .inv .1) (given .0))),
-      (said row, subst (Small (handedTo turn .variables)) (sym is) (given .1 .1 .1 .small _ there)),
+      (said row, subst (Small (handedTo turn .variables)) (sym is) (given .1 .1 .1 .small _ (there turn))),
     )
 
 backward-requires : tie.Need-backward-requires Inv-loop μ-loop

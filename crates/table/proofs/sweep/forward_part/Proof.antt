@@ -11,7 +11,7 @@ use Rattle.table.specs.inner.MarkedRows.{Says, SaysPart, forwardOfLine, 
 use Rattle.table.specs.inner.JumpsNoted.{noting}
 use Rattle.table.proofs.WritingLaws.{Underway, underway-start, underway-room, underway-next, underway-end, underway-length, room-first}
 use Rattle.table.proofs.JumpLaws.{Jumping, jumping-start, forward-ends, row-ends, jumping-next, jumping-end}
-use Rattle.table.proofs.LineRows.{says-part}
+use Rattle.table.proofs.LineRows.{says-kind, says-part}
 use Rattle.table.proofs.ForwardOver.{forward-next, forward-none}
 use Rattle.table.proofs.sweep.forward_part.Statement.{statement}
 use Rattle.table.proofs.sweep.forward_part.Tie as tie
@@ -57,7 +57,9 @@ row-of-requires : tie.Need-row-of-requires Inv-loop μ-loop
 row-of-requires c κs = omega (arith, start c .pre .1 .1 .there, c .loop-test .taken)
 
 part-of-requires : tie.Need-part-of-requires Inv-loop μ-loop
-part-of-requires c κs = search needs
+part-of-requires c κs =
+    let turn = c .before in
+    (turn .before .before .forms .ensures, says-kind (c .row-of .ensures) (start turn .pre .1 .1 .says _ (turn .loop-test .taken)))
 
 shared-slice-read-forward-row : tie.Need-shared-slice-read-forward-row Inv-loop μ-loop
 shared-slice-read-forward-row c =
