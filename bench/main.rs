@@ -125,23 +125,21 @@ fn call(r: &mut Ready, which: usize) {
     }
 }
 
-/// For each of them the median, over rounds in which all sheets take turns, of the microseconds that one sheet takes.
-fn medians(sheets: &mut [Ready]) -> [f64; TIMED] {
-    let mut rounds: [Vec<f64>; TIMED] = Default::default();
+/// For each of them the least, over rounds in which all sheets take turns, of the microseconds that one sheet takes: what else the machine does
+/// only ever adds.
+fn least(sheets: &mut [Ready]) -> [f64; TIMED] {
+    let mut least = [f64::MAX; TIMED];
     for _ in 0..ROUNDS {
-        for (which, times) in rounds.iter_mut().enumerate() {
+        for (which, best) in least.iter_mut().enumerate() {
             let start = Instant::now();
             sheets.iter_mut().for_each(|r| call(r, which));
-            times.push(start.elapsed().as_secs_f64() * 1e6 / sheets.len() as f64);
+            *best = best.min(start.elapsed().as_secs_f64() * 1e6 / sheets.len() as f64);
         }
     }
-    rounds.map(|mut times| {
-        times.sort_by(f64::total_cmp);
-        times[ROUNDS / 2]
-    })
+    least
 }
 
-const ROUNDS: usize = 1001;
+const ROUNDS: usize = 2000;
 
 fn main() {
     let kinds: [(&str, fn(&mut Random) -> Sheet); 7] = [
@@ -153,7 +151,7 @@ fn main() {
         ("ten repeats in a row", sheets::chains),
         ("eight nested repeats", sheets::nested),
     ];
-    println!("microseconds a sheet: eight sheets of a kind take turns, median of {ROUNDS} rounds; both stacks are cleared inside our call");
+    println!("microseconds a sheet: eight sheets of a kind take turns, least of {ROUNDS} rounds; both stacks are cleared inside our call");
     println!("{:22} {:>6} {:>6} {:>7} {:>7} {:>6}   reading  sets  sizes  writing  running", "", "W", "R", "ours", "theirs", "ratio");
     for (name, make) in kinds {
         let mut some: Vec<Ready> = (1..9).map(|seed| ready(make(&mut Random::new(seed)))).collect();
@@ -162,7 +160,7 @@ fn main() {
             let other = theirs(r);
             assert!(r.result.iter().zip(&other).all(|(x, y)| x.to_bits() == y.to_bits()), "{name}: results differ");
         }
-        let t = medians(&mut some);
+        let t = least(&mut some);
         let (longest, rows) = (some[0].longest, some[0].rows);
         println!(
             "{name:22} {longest:6} {rows:6} {:7.1} {:7.1} {:6.2}   {:7.1} {:5.1} {:6.1} {:8.1} {:8.1}",
