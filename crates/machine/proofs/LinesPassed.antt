@@ -36,7 +36,7 @@ further-fork i j k none = refl
 further-fork i j k (some m) = ap {B = Option ℕ} some (omega arith)
 
 module _ {B F : Type 0} where
-  pub past-flat : (t : Tree B F) (rest : List (Line B F)) (n : ℕ) → drop (rows t + n) (flat t rest) ≡ drop n rest
+  past-flat : (t : Tree B F) (rest : List (Line B F)) (n : ℕ) → drop (rows t + n) (flat t rest) ≡ drop n rest
   unfolding rows flat
   past-flat done rest n = rw zero-add
   past-flat (one b k) rest n =

@@ -14,12 +14,11 @@ use Rattle.sheet.proofs.Depth.{deep}
 use Rattle.sets.specs.Transfers.{Activity}
 use Rattle.sets.specs.Marks.{Marked}
 use Rattle.table.specs.TableRows.{Action, assign, save, takeBack, saveTurn, clear, turnRound, Table, linesOf, tableRowOf, rowOfAction, rowOfTableTest}
-use Rattle.table.specs.Adjoint.{put, forwardRow, derivativeRows, backwardOf}
+use Rattle.table.specs.Adjoint.{forwardRow, derivativeRows, backwardOf}
 use Rattle.table.specs.declared.jumps.Branching.{Branching}
 use Rattle.table.specs.declared.jumps.Branching.the-variants as branching
 use Rattle.table.specs.inner.MarkedRows.{rowWith, Wrote, rowsIn, knownBy, savedBy, anyRow, SaysPart, forwardOfLine, backwardOfLine}
 use Rattle.table.specs.inner.JumpsNoted.{Noting, noting, notedBy, branchingOf, notedOver, forwardBranching, backwardBranching, rowsBefore, RowEnds, Numbered, WroteNoted}
-use Rattle.table.proofs.AssignmentRows.{rows-of-put, rows-of-put-if}
 use Rattle.table.proofs.TableBounds.{row-flat, backward-row, forward-row}
 use Rattle.table.proofs.WritingLaws.{wrote-then}
 use Rattle.table.proofs.TreeRows.{rows-of-one}
