@@ -1,7 +1,7 @@
 // Where each "if" and each "else" of the table goes on to, noted while the rows are written.
 ghost use mathlib.Core.Path.{_≡_};
 ghost use Prim.Native.Nat.{_-_};
-ghost use lib.ListN.{set};
+ghost use lib.ListN.{getD, set};
 ghost use Rattle.table.specs.inner.JumpsNoted.{noting, notedBy, forwardBranching, backwardBranching, rowsBefore, RowEnds};
 use super::MAX_TABLE_ROWS;
 use sheet::kinds::Part;
@@ -51,6 +51,15 @@ fn put(beyond: &mut [u16], row: u16, to: u16)
     }
 }
 
+// The innermost open branch ends, and its row goes on to another. Answers the row of the branch around it.
+fn end_branch(top: u16, to: u16, beyond: &mut [u16]) -> u16
+    ensures { λ r. ⌜ (r ≡ getD (now (beyond .entry)) top 0) × (now (beyond .exit) ≡ set (now (beyond .entry)) top to) ⌝ }
+{
+    let outer = sheet::word_at(beyond, top as usize);
+    put(beyond, top, to);
+    outer
+}
+
 fn rows_before(place: usize) -> u16
     requires { ⌜ RowEnds place ⌝ }
     ensures { λ r. ⌜ r ≡ rowsBefore place ⌝ }
@@ -71,16 +80,11 @@ pub fn note(what: Branching, place: usize, top: u16, beyond: &mut [u16; MAX_TABL
             row
         }
         Branching::Splits => {
-            let outer = sheet::word_at(beyond, top as usize);
-            put(beyond, top, behind);
+            let outer = end_branch(top, behind, beyond);
             put(beyond, row, outer);
             row
         }
-        Branching::Closes => {
-            let outer = sheet::word_at(beyond, top as usize);
-            put(beyond, top, behind);
-            outer
-        }
+        Branching::Closes => end_branch(top, behind, beyond),
         Branching::Passes => top,
     }
 }

@@ -19,23 +19,17 @@ put-requires c κs = search needs
 enum-told-2 : tie.Need-enum-told-2
 enum-told-2 c = search needs
 
-word-at-requires : tie.Need-word-at-requires
-word-at-requires c κs = search needs
+end-branch-requires : tie.Need-end-branch-requires
+end-branch-requires c κs = search needs
 
 put-requires-2 : tie.Need-put-requires-2
 put-requires-2 c κs = search needs
 
-put-requires-3 : tie.Need-put-requires-3
-put-requires-3 c κs = search needs
-
 enum-told-3 : tie.Need-enum-told-3
 enum-told-3 c = search needs
 
-word-at-requires-2 : tie.Need-word-at-requires-2
-word-at-requires-2 c κs = search needs
-
-put-requires-4 : tie.Need-put-requires-4
-put-requires-4 c κs = search needs
+end-branch-requires-2 : tie.Need-end-branch-requires-2
+end-branch-requires-2 c κs = search needs
 
 enum-told-4 : tie.Need-enum-told-4
 enum-told-4 c = search needs
@@ -47,19 +41,18 @@ returns c =
 
 returns-2 : tie.Need-returns-2
 returns-2 c =
-    let closed = c .before .before in
-    let read = closed .before .before in
-    let told = read .before .before .before in
+    let ended = c .before .before in
+    let told = ended .before .before in
     let counted = told .before .before in
-    branch-splits _ _ _ _ (counted .rows-before .ensures) (counted .before .pre) (read .word-at .ensures) (told .enum-told2 .given .1) (closed .put2 .ensures)
-    (c .put3 .ensures)
+    branch-splits _ _ _ _ (counted .rows-before .ensures) (counted .before .pre) (ended .end-branch .ensures .0) (told .enum-told2 .given .1)
+    (ended .end-branch .ensures .1) (c .put2 .ensures)
 
 returns-3 : tie.Need-returns-3
 returns-3 c =
-    let read = c .before .before in
-    let told = read .before .before .before in
+    let told = c .before .before in
     let counted = told .before .before in
-    branch-closes _ _ _ _ (counted .rows-before .ensures) (counted .before .pre) (read .word-at2 .ensures) (told .enum-told3 .given .1) (c .put4 .ensures)
+    branch-closes _ _ _ _ (counted .rows-before .ensures) (counted .before .pre) (c .end-branch2 .ensures .0) (told .enum-told3 .given .1)
+    (c .end-branch2 .ensures .1)
 
 returns-4 : tie.Need-returns-4
 returns-4 c = branch-passes (c .enum-told4 .given .1) _ _
@@ -73,12 +66,10 @@ note-spec =
     enum-told
     put-requires
     enum-told-2
-    word-at-requires
+    end-branch-requires
     put-requires-2
-    put-requires-3
     enum-told-3
-    word-at-requires-2
-    put-requires-4
+    end-branch-requires-2
     enum-told-4
     returns
     returns-2
