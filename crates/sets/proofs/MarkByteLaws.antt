@@ -10,19 +10,19 @@ use lib.ListN.{length, getD, set, take, drop, length-set}
 use lib.Dec.{eqb}
 use lib.Seq.{getD-set-same, getD-set-other, set-comm, set-set, set-getD}
 use Rattle.sheet.specs.Tree.{basic, ifLine, elseLine, endIf, repeat, endRepeat}
-use Rattle.sheet.specs.Rows.{SheetLine, Row, sheetRowOf}
-use Rattle.sheet.specs.inner.Kinds.{assigns, partOf, partFor}
-use Rattle.sheet.specs.declared.kinds.Part.{Part}
+use Rattle.sheet.specs.Rows.{SheetLine}
+use Rattle.sheet.specs.inner.Kinds.{assigns, partOf}
 use Rattle.sets.specs.declared.transfers.Operation.{Operation}
 use Rattle.sets.specs.VariableSets.{VariableSet}
 use Rattle.sets.specs.Equations.{setAt}
-use Rattle.sets.specs.inner.Operations.{Gives, PerformsRow}
+use Rattle.sets.specs.inner.Operations.{Gives}
 use Rattle.sets.specs.Transfers.{Activity}
 use Rattle.sets.specs.Marks.{markBy, activityAt}
 use Rattle.sets.specs.MarkBytes.{weight, weightIf, byteBy, bitOf}
 use Rattle.sets.specs.inner.RowEquations.{activeLine}
 use Rattle.sets.specs.inner.RowBytes.{byteAt, byteFor, bytesOf, written}
-use Rattle.sheet.proofs.LinesByPart.{row-part}
+use Rattle.sets.proofs.Truths.{never}
+use Rattle.sets.proofs.OperationLaws.{AssignedBy}
 
 -- ---- the marks read back
 
@@ -61,32 +61,20 @@ read-back known recorded =
 
 -- ---- by the cases that the code tells apart
 
-module _ (varied useful required : List VariableSet) (p : ℕ) (row : Row) (part : Part) (is-part : part ≡ partFor (row .kind)) where
-  pub no-byte : (l : SheetLine) → sheetRowOf l ≡ row → assigns part ≡ false → 0 ≡ byteAt varied useful required p l
+module _ (varied useful required : List VariableSet) (p : ℕ) where
+  pub no-byte : (l : SheetLine) → assigns (partOf l) ≡ false → 0 ≡ byteAt varied useful required p l
   unfolding byteAt
-  no-byte l e h = go l (ap assigns (row-part l row e ∙ sym is-part) ∙ h)
-    where
-      go : (l : SheetLine) → assigns (partOf l) ≡ false → 0 ≡ byteAt varied useful required p l
-      go (basic b) h = let z : _≡_ {A = ℕ} 0 1 = cc in absurd (omega arith)
-      go (ifLine f) h = refl
-      go elseLine h = refl
-      go endIf h = refl
-      go (repeat m) h = refl
-      go endRepeat h = refl
+  no-byte (basic b) h = never (sym h)
+  no-byte (ifLine f) h = refl
+  no-byte elseLine h = refl
+  no-byte endIf h = refl
+  no-byte (repeat m) h = refl
+  no-byte endRepeat h = refl
 
-  -- an assignment's, by the three sets that were read
-  pub some-byte : (r v u s : ℕ) (operation : Operation) (l : SheetLine) → sheetRowOf l ≡ row → assigns part ≡ true → PerformsRow operation row → v ≡ setAt varied p
-      → u ≡ setAt useful (p + 1) → s ≡ setAt required p → Gives operation r (byteFor v u s) → r ≡ byteAt varied useful required p l
-  unfolding sheetRowOf byteAt markBy
-  some-byte r v u s operation l e h performs before after needed gives = go l e (ap assigns (row-part l row e ∙ sym is-part) ∙ h)
-    where
-      go : (l : SheetLine) → sheetRowOf l ≡ row → assigns (partOf l) ≡ true → r ≡ byteAt varied useful required p l
-      go (basic b) e h = gives b (performs b e) ∙ rw (before, after, needed, add-one p)
-      go (ifLine f) e h = let z : _≡_ {A = ℕ} 0 1 = cc in absurd (omega arith)
-      go elseLine e h = let z : _≡_ {A = ℕ} 0 1 = cc in absurd (omega arith)
-      go endIf e h = let z : _≡_ {A = ℕ} 0 1 = cc in absurd (omega arith)
-      go (repeat m) e h = let z : _≡_ {A = ℕ} 0 1 = cc in absurd (omega arith)
-      go endRepeat e h = let z : _≡_ {A = ℕ} 0 1 = cc in absurd (omega arith)
+  pub assigned-byte : {operation : Operation} {l : SheetLine} {r needed : ℕ} → AssignedBy operation l → needed ≡ setAt required p
+      → Gives operation r (byteFor (setAt varied p) (setAt useful (p + 1)) needed) → r ≡ byteAt varied useful required p l
+  unfolding byteAt markBy
+  assigned-byte a is gives = rw (a .is) (gives (a .assignment) (a .performs) ∙ rw (is, add-one p))
 
 -- ---- what a row's byte asks of the required sets, and whether it says that the row is active
 
@@ -170,21 +158,20 @@ module _ (line : ℕ → SheetLine) (varied useful : List VariableSet) (n : ℕ)
   pub marking-starts : (sets : List VariableSet) → Marking line varied useful n before sets before 0
   marking-starts sets = record { long = refl; over = λ f. refl; passed = λ k h. absurd (omega arith) }
 
-  pub marking-on : (sets next : List VariableSet) (marks : List ℕ) (i p : ℕ) (byte : ℕ) → Marking line varied useful n before sets marks i → p ≤ i → p < n
-      → n ≤ length before → byte ≡ byteAt varied useful sets p (line p) → ((k : ℕ) → k ≤ p → setAt next k ≡ setAt sets k)
-      → Marking line varied useful n before next (set marks p byte) (p + 1)
+  -- row i was marked, and the walk goes on after row p
+  pub marking-on : (sets next : List VariableSet) (marks : List ℕ) (i p byte : ℕ) → Marking line varied useful n before sets marks i → p ≤ i → i < n
+      → n ≤ length before → byte ≡ byteAt varied useful sets i (line i) → ((k : ℕ) → k ≤ p → setAt next k ≡ setAt sets k)
+      → Marking line varied useful n before next (set marks i byte) (p + 1)
   marking-on sets next marks i p byte m le h room is same =
       record {
-        long = length-set marks p byte ∙ m .long;
-        over = λ f. written-into f n marks p byte h ∙ m .over f;
-        passed = λ k l. go k l (ℕ-discrete k p);
+        long = length-set marks i byte ∙ m .long;
+        over = λ f. written-into f n marks i byte h ∙ m .over f;
+        passed = λ k l. go k (ℕ-discrete k i) l ∙ sym (byte-same varied useful k next sets (same k (omega arith)) (line k));
       }
     where
-      go : (k : ℕ) → k < p + 1 → Dec (k ≡ p) → getD (set marks p byte) k 0 ≡ byteAt varied useful next k (line k)
-      go k l (yes e) =
-          rw e (getD-set-same marks p byte 0 (omega (arith, m .long)) ∙ is ∙ sym (byte-same varied useful p next sets (same p (omega arith)) (line p)))
-      go k l (no e) =
-          getD-set-other marks p k byte 0 e ∙ m .passed k (omega arith) ∙ sym (byte-same varied useful k next sets (same k (omega arith)) (line k))
+      go : (k : ℕ) → Dec (k ≡ i) → k < p + 1 → getD (set marks i byte) k 0 ≡ byteAt varied useful sets k (line k)
+      go k (yes e) l = rw e (getD-set-same marks i byte 0 (omega (arith, m .long)) ∙ is)
+      go k (no e) l = getD-set-other marks i k byte 0 e ∙ m .passed k (omega arith)
 
   pub marking-ends : (sets : List VariableSet) (marks : List ℕ) (i : ℕ) → Marking line varied useful n before sets marks i → n ≤ i
       → marks ≡ written (bytesOf varied useful sets line) n before

@@ -4,13 +4,15 @@ use mathlib.Core.Bool.{Bool, true, false, _&&_, _||_, cond}
 use mathlib.Core.Option.{Option, none, some}
 use Prim.Native.Nat.{ℕ}
 use lib.Dec.{eqb}
-use Rattle.sheet.specs.Rows.{Assignment, copy, fixed, sum, difference, product, negation, _≔_, Row, rowOfAssignment}
-use Rattle.sheet.specs.inner.Kinds.{formFor}
+use Rattle.sheet.specs.Tree.{basic, ifLine, elseLine, endIf, repeat, endRepeat}
+use Rattle.sheet.specs.Rows.{Assignment, copy, fixed, sum, difference, product, negation, _≔_, Row, rowOfAssignment, SheetLine, sheetRowOf}
+use Rattle.sheet.specs.inner.Kinds.{assigns, formFor, partOf}
 use Rattle.sets.specs.declared.transfers.Operation.{Operation}
 use Rattle.sets.specs.VariableSets.{VariableSet, empty, has, _∪_, single, without, hasSome, singleSome}
 use Rattle.sets.specs.Transfers.{anyRead, firstRead, secondRead, reads, variedAfter, usefulBefore}
 use Rattle.sets.specs.Transfers.{Activity, activityOf, adjointUse, recordedBy, requiredAfter}
 use Rattle.sets.specs.inner.Operations.{namedBy, meets, sourceOf, Performs, PerformsRow}
+use Rattle.sets.proofs.Truths.{never}
 use Rattle.sets.proofs.VariableSetLaws.{meets-none, meets-single}
 
 -- ---- from the words of a row
@@ -31,6 +33,22 @@ row-performed operation row kind target first second b said =
     each (d ≔ difference a b) k t f g = record { kind = k; target = t; first = f; second = g }
     each (d ≔ product a b) k t f g = record { kind = k; target = t; first = f; second = g }
     each (d ≔ negation a) k t f g = record { kind = k; target = t; first = f; second = g }
+
+-- a line that is an assignment, and the operation is its
+pub record AssignedBy (operation : Operation) (l : SheetLine) : Type 0 where
+  pub assignment : Assignment
+  pub is : l ≡ basic assignment
+  pub performs : Performs operation assignment
+
+pub assigned-by : {operation : Operation} {row : Row} → PerformsRow operation row → (l : SheetLine) → sheetRowOf l ≡ row → assigns (partOf l) ≡ true
+    → AssignedBy operation l
+unfolding sheetRowOf
+assigned-by performs (basic b) e h = record { assignment = b; is = refl; performs = performs b e }
+assigned-by performs (ifLine f) e h = never h
+assigned-by performs elseLine e h = never h
+assigned-by performs endIf e h = never h
+assigned-by performs (repeat m) e h = never h
+assigned-by performs endRepeat e h = never h
 
 -- ---- the definitions, by the operation
 

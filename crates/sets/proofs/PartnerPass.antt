@@ -1,15 +1,14 @@
 -- The pass that finds the partners, row by row.
-use Prim.Native.Nat.{ℕ, suc, _+_, _*_, _-_, _≤_, _<_}
+use Prim.Native.Nat.{ℕ, suc, _+_, _-_, _≤_, _<_}
 use native.Mathlib.Omega.{arith}
 use mathlib.Core.Path.{_≡_, refl, sym, ap, _∙_}
 use mathlib.Core.List.{List}
 use lib.ListN.{length}
-use Rattle.sheet.specs.Bounds.{limit, wordValues}
+use Rattle.sheet.specs.Bounds.{wordValues}
 use Rattle.sheet.specs.Answers.{rowSaid}
 use Rattle.sheet.specs.Rows.{SheetLine}
 use Rattle.sheet.specs.inner.Kinds.{partOf}
 use Rattle.sheet.specs.declared.kinds.Part.{Part}
-use Rattle.sheet.specs.Reading.{rowAt}
 use Rattle.sets.specs.declared.rows.Seen.{Seen}
 use Rattle.sets.specs.inner.PartnerPass.{Found, found, foundBy, foundAt, foundOver, PartnersFound}
 use Rattle.sets.specs.inner.RowEquations.{lineIn, Readable, Sees}
@@ -64,8 +63,7 @@ module _ (line : ℕ → SheetLine) (n : ℕ) (came₀ goes₀ : List ℕ) where
       (ap (λ s. s .came) (found-none row here ∙ same), ap (λ s. s .goes) (found-none row here ∙ same))
 
 -- what a row is to the blocks, as the code reads it, is what its line is
-pub part-read : (words : List ℕ) (first row : ℕ) (seen : Seen) → Readable words first row → (seen .row .0 ≡ row) × Sees words first seen
+pub part-read : (words : List ℕ) (first row : ℕ) (seen : Seen) → Readable words first row → Sees words first row seen
     → seen .form .3 ≡ partOf (lineIn words first row)
 part-read words first row seen r s =
-    let said = r .says ∙ ap (λ p. rowAt words (first + p * limit .rowWords)) (sym (s .0)) ∙ sym (s .1 .says) in
-    ap (λ form. form .3) (s .1 .formed) ∙ sym (row-part (lineIn words first row) (rowSaid (seen .line)) said)
+    ap (λ form. form .3) (s .formed) ∙ sym (row-part (lineIn words first row) (rowSaid (seen .line)) (r .says ∙ sym (s .says)))

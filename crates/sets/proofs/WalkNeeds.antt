@@ -1,137 +1,213 @@
 -- What a walk's code needs at each of its rows, and what it comes to.
-use Prim.Native.Nat.{ℕ, suc, _+_, _*_, _≤_, _<_}
+use Prim.Native.Nat.{ℕ, suc, _+_, _≤_, _<_}
 use native.Mathlib.Numerals.{add-one}
 use native.Mathlib.Omega.{arith}
-use mathlib.Core.Path.{_≡_, sym, ap, subst, _∙_}
-use mathlib.Core.Bool.{Bool}
+use mathlib.Core.Path.{_≡_, refl, sym, ap, subst, _∙_}
+use mathlib.Core.Bool.{Bool, true, false}
 use mathlib.Core.List.{List}
-use lib.ListN.{getD, replicate}
+use lib.ListN.{length, getD, set, replicate}
 use lib.Seq.{getD-set-other}
-use Rattle.sheet.specs.Bounds.{limit}
-use Rattle.sheet.specs.Reading.{rowAt}
+use Rattle.sheet.specs.Bounds.{wordValues}
 use Rattle.sheet.specs.Answers.{rowSaid}
-use Rattle.sheet.specs.Rows.{sheetRowOf}
-use Rattle.sheet.specs.inner.Kinds.{allForms, partFor}
-use Rattle.sheet.specs.declared.kinds.Form.{Form}
+use Rattle.sheet.specs.Rows.{Assignment, SheetLine}
+use Rattle.sheet.specs.inner.Kinds.{assigns, formFor, partOf, partFor}
 use Rattle.sheet.specs.declared.kinds.Part.{Part}
-use Rattle.sets.specs.declared.walk.DueRow.{DueRow}
+use Rattle.sheet.specs.declared.kinds.Part.the-variants as part
+use Rattle.sets.specs.declared.rows.Seen.{Seen}
+use Rattle.sets.specs.declared.transfers.Operation.{Operation}
+use Rattle.sets.specs.declared.walk.Reached.{Reached}
 use Rattle.sets.specs.declared.Which.{Which}
-use Rattle.sets.specs.declared.Which.the-variants.{Required}
+use Rattle.sets.specs.declared.Which.the-variants.{Varied, Useful, Required}
 use Rattle.sets.specs.VariableSets.{VariableSet, empty}
-use Rattle.sets.specs.Equations.{setAt, least}
-use Rattle.sets.specs.inner.RowEquations.{Given, lineIn, equationIn, rowInTurn, settledPoint, startOf, allEquations, seedIn, Small, Known}
-use Rattle.sets.specs.inner.Walks.{placeInTurn, asksPartner, Due, onward, backward, Grown, Looking, DueNow, Stepping, Stepped, Settles}
-use Rattle.sets.proofs.RightSides.{settled-of}
-use Rattle.sets.proofs.Walking.{turn-below, own-place, start-place, settled-next, Walk, leftOf, walk-starts, walked, walk-ends}
+use Rattle.sets.specs.Equations.{setAt, rightSide, least}
+use Rattle.sets.specs.inner.Operations.{InMask, Performs, PerformsRow}
+use Rattle.sets.specs.inner.RowBytes.{byteAt}
+use Rattle.sets.specs.inner.RowEquations.{Given, lineIn, equationIn, turnOf, rowInTurn, ownPoint, settledPoint, startOf, allEquations, seedIn, Readable, Sees}
+use Rattle.sets.specs.inner.Walks.{placeInTurn, endsRepeat, asksPartner, partIn, Due, onward, backward, Grown, Went, AtBlock, ownSide, Settles}
+use Rattle.sets.proofs.Truths.{never}
+use Rattle.sets.proofs.OperationLaws.{AssignedBy, assigned-by}
+use Rattle.sets.proofs.PartnerPass.{part-read}
+use Rattle.sets.proofs.RightSides.{assigned-side, block-side}
+use Rattle.sets.proofs.MarkByteLaws.{Marking, marking-on}
+use Rattle.sets.proofs.Walking.{turn-below, turn-back, own-place, start-place, Walk, leftOf, walk-starts, walked, walk-ends}
 
--- what holds before the i-th row in turn: besides the walk, that the set at its place is in hand
-pub record Carried (which : Which) (given : Given) (others : List ℕ) (n v : ℕ) (sets : List VariableSet) (own : VariableSet) (i : ℕ) : Type 0 where
-  pub walk : Walk which given others n v (seedIn which (given .words) v) sets i
-  pub inHand : own ≡ setAt sets (placeInTurn which n i)
+-- what holds before a row: besides the walk, that the set at its place is in hand
+pub record Carried (which : Which) (given : Given) (others : List ℕ) (n v : ℕ) (sets : List VariableSet) (reached : Reached) : Type 0 where
+  pub walk : Walk which given others n v (seedIn which (given .words) v) sets (reached .turn)
+  pub inHand : reached .own ≡ setAt sets (placeInTurn which n (reached .turn))
 
 module _ {which : Which} {given : Given} {others : List ℕ} {n v size : ℕ} (s : Settles which given others n v size) where
-  pub begun : {long own : ℕ} {next : List VariableSet} → long ≡ suc n
-      → Grown (replicate long empty) (startOf which n) (seedIn which (given .words) v) next own → Carried which given others n v next own 0
-  begun {long} {own} {next} is grown =
+  pub begun : {long : ℕ} {reached : Reached} {next : List VariableSet} → long ≡ suc n
+      → (reached .turn ≡ 0) × Grown (replicate long empty) (startOf which n) (seedIn which (given .words) v) next (reached .own)
+      → Carried which given others n v next reached
+  begun {long} {reached} {next} is begins =
       record {
-        walk = walk-starts which given others n v _ (s .proper) (s .wired) (replicate long empty) next (ap (λ m. replicate m empty) is) (grown .stored);
-        inHand = grown .stands ∙ ap (setAt next) (start-place which n);
+        walk =
+            rw (begins .0)
+            (walk-starts which given others n v _ (s .proper) (s .wired) (replicate long empty) next (ap (λ m. replicate m empty) is) (begins .1 .stored));
+        inHand = begins .1 .stands ∙ ap (setAt next) (start-place which n ∙ ap (placeInTurn which n) (sym (begins .0)));
       }
 
-  pub looking : {forms : List Form} {sets : List VariableSet} {own i row : ℕ} → forms ≡ allForms → Carried which given others n v sets own i → i < n → row ≡ rowInTurn which n i
-      → Looking which forms (given .words) (given .first) others sets own row
-  looking {forms} {sets} {own} {i} {row} table carried h is =
-      let below : row < n = rw is (turn-below which n i h) in
-      record {
-        tableIs = table;
-        readable = s .readable row below;
-        othersThere = omega (arith, s .othersThere);
-        inHand = rw (is, own-place which n i h) (carried .inHand);
-        back = λ e.
-            let near : getD others row 0 < n = subst (λ p. getD others p 0 < n) (sym is) (s .wired .back i h (rw is at e) .0) in
-            (omega (arith, carried .walk .kept .long), s .readable _ near);
-      }
+  pub row-there : {i row : ℕ} → i < n → row ≡ rowInTurn which n i → Readable (given .words) (given .first) row
+  row-there {i} h is = s .readable _ (rw is (turn-below which n i h))
 
-  pub ended : {sets : List VariableSet} {own i : ℕ} → Carried which given others n v sets own i → n ≤ i
+  pub ended : {sets : List VariableSet} {reached : Reached} → Carried which given others n v sets reached → n ≤ reached .turn
       → sets ≡ least v (suc n) (allEquations which given n (seedIn which (given .words) v))
-  ended {sets} {own} {i} carried h = walk-ends which given others n v _ (s .proper) (s .wired) sets i (carried .walk) h
+  ended {sets} {reached} carried h = walk-ends which given others n v _ (s .proper) (s .wired) sets (reached .turn) (carried .walk) h
 
--- ---- the walk at a row, with the row whose equation is due
+-- ---- the walk at a row
 
-pub record AtRow (which : Which) (given : Given) (others : List ℕ) (n v size : ℕ) (sets : List VariableSet) (own i row : ℕ) (due : DueRow) : Type 0 where
+-- an assignment ends no repeat
+ends-none : {A : Type 0} (which : Which) (part : Part) → assigns part ≡ true → endsRepeat which part ≡ true → A
+unfolding endsRepeat
+ends-none Varied part.Assignment h e = never e
+ends-none Useful part.Assignment h e = never e
+ends-none Required part.Assignment h e = never e
+ends-none which part.If h e = never h
+ends-none which part.Else h e = never h
+ends-none which part.EndIf h e = never h
+ends-none which part.Repeat h e = never h
+ends-none which part.EndRepeat h e = never h
+
+pub record AtRow (which : Which) (given : Given) (others : List ℕ) (n v size : ℕ) (sets : List VariableSet) (reached : Reached) (row : ℕ) (seen : Seen) : Type 0 where
   pub settles : Settles which given others n v size
-  pub carried : Carried which given others n v sets own i
-  pub below : i < n
-  pub inTurn : row ≡ rowInTurn which n i
-  pub dueNow : DueNow which (given .words) (given .first) others sets row due
+  pub carried : Carried which given others n v sets reached
+  pub below : reached .turn < n
+  pub inTurn : row ≡ rowInTurn which n (reached .turn)
+  pub sees : Sees (given .words) (given .first) row seen
 
-module _ {which : Which} {given : Given} {others : List ℕ} {n v size : ℕ} {sets : List VariableSet} {own i row : ℕ} {due : DueRow}
-    (at : AtRow which given others n v size sets own i row due) where
-  abbrev partAt : ℕ → Part
-  partAt p = partFor (rowAt (given .words) (given .first + p * limit .rowWords) .kind)
+-- the row was passed by the right side of its equation
+pub record Passes (which : Which) (given : Given) (others : List ℕ) (n row : ℕ) (part : Part) (before after : List VariableSet) (reached : Reached) : Type 0 where
+  side : VariableSet
+  sideIs : side ≡ rightSide (equationIn which given row) (setAt before)
+  went : Went which part side n row others before after reached
 
-  abbrev p : ℕ
-  p = due .seen .row .0
+module _ {which : Which} {given : Given} {others : List ℕ} {n v size : ℕ} {sets : List VariableSet} {reached : Reached} {row : ℕ} {seen : Seen}
+    (at : AtRow which given others n v size sets reached row seen) where
+  abbrev line : SheetLine
+  line = lineIn (given .words) (given .first) row
 
-  pub due-below : p < n
-  due-below = go (at .dueNow .isDue)
-    where
-      go : Due which (partAt row) others sets row p → p < n
-      go (onward e brought) = rw (e, at .inTurn) (turn-below which n i (at .below))
-      go (backward e ends more) = rw (e, at .inTurn) (at .settles .wired .back i (at .below) (rw (at .inTurn) at ends) .0)
+  pub row-below : row < n
+  row-below = rw (at .inTurn) (turn-below which n (reached .turn) (at .below))
 
-  pub turned-below : rowInTurn which n p < n
-  turned-below = turn-below which n p due-below
+  readable : Readable (given .words) (given .first) row
+  readable = at .settles .readable row row-below
 
-  -- the row that is due is there, and its words say its line
-  pub known : Known (due .seen)
-  known =
-      let r = at .settles .readable p due-below in
-      record { formed = at .dueNow .sees .formed; small = subst Small (sym (at .dueNow .sees .says)) (r .small); numbered = r .numbered }
+  pub line-part : seen .form .3 ≡ partOf line
+  line-part = part-read _ _ _ _ readable (at .sees)
 
-  pub line-said : sheetRowOf (lineIn (given .words) (given .first) p) ≡ rowSaid (due .seen .line)
-  line-said = at .settles .readable p due-below .says ∙ sym (at .dueNow .sees .says)
+  part-is : seen .form .3 ≡ partIn given row
+  part-is = ap (λ form. form .3) (at .sees .formed) ∙ ap (λ r. partFor (r .kind)) (at .sees .says)
 
-  pub stepping : Stepping which due (given .partners) sets
-  stepping =
-      let below = due-below in
+  turns : reached .turn ≡ rowInTurn which n row
+  turns = sym (turn-back which n (reached .turn) (at .below)) ∙ ap (rowInTurn which n) (sym (at .inTurn))
+
+  pub in-hand : reached .own ≡ setAt sets (ownPoint which row)
+  in-hand =
+      at .carried .inHand ∙ ap (setAt sets) (sym (own-place which n (reached .turn) (at .below)) ∙ ap (ownPoint which) (sym (at .inTurn)))
+
+  -- ---- an assignment
+
+  pub operation-there : assigns (seen .form .3) ≡ true → (seen .form ≡ formFor (seen .line .kind)) × InMask (rowSaid (seen .line))
+  operation-there h = (at .sees .formed, subst InMask (sym (at .sees .says)) (readable .small (ap assigns (sym part-is) ∙ h)))
+
+  pub assignment-there : {Small : Type 0} → Small → Small × (row < wordValues) × (suc row < length sets) × (reached .turn < wordValues)
+  assignment-there small =
+      (small, readable .numbered, omega (arith, row-below, at .carried .walk .kept .long), at .settles .readable (reached .turn) (at .below) .numbered)
+
+  pub assigned : {operation : Operation} → assigns (seen .form .3) ≡ true → PerformsRow operation (rowSaid (seen .line)) → AssignedBy operation line
+  assigned h performs = assigned-by performs line (readable .says ∙ sym (at .sees .says)) (ap assigns (sym line-part) ∙ h)
+
+  pub assignment-passed : {operation : Operation} {acts : Bool} {next : List VariableSet} {after : Reached} → assigns (seen .form .3) ≡ true
+      → PerformsRow operation (rowSaid (seen .line)) → acts ≡ given .active row
+      → (after .turn ≡ reached .turn + 1)
+      × ((b : Assignment) → Performs operation b → Grown sets (settledPoint which row) (turnOf which acts b (reached .own)) next (after .own))
+      → Passes which given others n row (seen .form .3) sets next after
+  unfolding equationIn
+  assignment-passed {operation} {acts} {next} {after} h performs active passed =
+      let a = assigned h performs in
+      record {
+        side = turnOf which acts (a .assignment) (reached .own);
+        sideIs =
+            ap (turnOf which acts (a .assignment)) in-hand
+            ∙ rw (active, a .is) (assigned-side which (given .active row) sets row (getD (given .partners) row 0) (a .assignment));
+        went = record {
+          due = row;
+          more = turnOf which acts (a .assignment) (reached .own);
+          isDue = onward refl refl (ends-none which (seen .form .3) h);
+          grown = passed .1 (a .assignment) (a .performs);
+          turns = passed .0 ∙ ap (λ t. t + 1) turns;
+        };
+      }
+
+  -- ---- a row of a block
+
+  pub at-block : AtBlock which (seen .form .3) n row (given .partners) others sets reached
+  at-block =
+      let below = row-below in
       let long = at .carried .walk .kept .long in
       record {
-        known = known;
-        inHand = at .dueNow .inHand;
+        judging = record {
+          othersThere = omega (arith, at .settles .othersThere);
+          inHand = in-hand;
+          back = λ e.
+              let near : getD others row 0 < n =
+              subst (λ p. getD others p 0 < n) (sym (at .inTurn))
+              (at .settles .wired .back (reached .turn) (at .below) (rw (at .inTurn) at (ap (endsRepeat which) (sym part-is) ∙ e)) .0) in
+              omega arith;
+        };
+        turns = turns;
+        below = below;
+        numbered = readable .numbered;
+        long = long;
         partnered = omega (arith, at .settles .partnered);
-        within = omega arith;
-        taken = λ e. omega (arith, at .settles .wired .taken p below (ap (λ r. asksPartner which (partFor (r .kind))) (sym (at .dueNow .sees .says)) ∙ e));
+        taken = λ e. at .settles .wired .taken row below (ap (asksPartner which) (sym part-is) ∙ e);
       }
 
-  pub gone-on : {acts : Bool} {next : List VariableSet} {stands done : ℕ} → Stepped which due acts (given .partners) sets next stands
-      → acts ≡ given .active p → done ≡ rowInTurn which n p
-      → Carried which given others n v next stands (done + 1) × (leftOf v n next (done + 1) < leftOf v n sets i)
+  pub block-passed : {next : List VariableSet} {after : Reached} → assigns (seen .form .3) ≡ false
+      → Went which (seen .form .3) (ownSide which (seen .form .3) row (given .partners) sets) n row others sets next after
+      → Passes which given others n row (seen .form .3) sets next after
   unfolding equationIn
-  gone-on {acts} {next} {stands} {done} stepped active turns =
-      let on = walked which given others n v _ (at .settles .proper) (at .settles .wired) sets i (at .below) (at .carried .walk) (partAt row) p (ap partAt (at .inTurn))
-      (subst (λ q. Due which (partAt row) others sets q p) (at .inTurn) (at .dueNow .isDue)) next (rw active at (stepped .stored _ line-said)) in
-      rw (turns, add-one (rowInTurn which n p))
-      (record { walk = on .0; inHand = stepped .stands ∙ ap (setAt next) (settled-next which n p due-below) }, on .1)
+  block-passed h went =
+      record {
+        side = ownSide which (seen .form .3) row (given .partners) sets;
+        sideIs =
+            rw line-part
+            (block-side which (given .active row) sets row (getD (given .partners) row 0) line (ap assigns (sym line-part) ∙ h));
+        went = went;
+      }
+
+  -- ---- and on
+
+  pub gone-on : {next : List VariableSet} {after : Reached} → Passes which given others n row (seen .form .3) sets next after
+      → Carried which given others n v next after × (leftOf v n next (after .turn) < leftOf v n sets (reached .turn))
+  gone-on {next} {after} passes =
+      let w = subst (λ q. Went which (seen .form .3) (passes .side) n q others sets next after) (at .inTurn) (passes .went) in
+      let on = walked which given others n v _ (at .settles .proper) (at .settles .wired) sets (reached .turn) (at .below) (at .carried .walk)
+      (part-is ∙ ap (partIn given) (at .inTurn)) (passes .sideIs ∙ ap (λ q. rightSide (equationIn which given q) (setAt sets)) (at .inTurn)) (w .isDue) (w .grown) in
+      let next-turn = w .turns ∙ add-one (rowInTurn which n (w .due)) in
+      (record { walk = rw next-turn (on .on); inHand = w .grown .stands ∙ ap (setAt next) (on .place ∙ ap (placeInTurn which n) (sym next-turn)) }, rw next-turn (on .less))
 
 -- ---- of the required variables, whose walk marks the rows
 
-module _ {given : Given} {others : List ℕ} {n v size : ℕ} {sets : List VariableSet} {own i row : ℕ} {due : DueRow}
-    (at : AtRow Required given others n v size sets own i row due) where
-  pub due-upto : due .seen .row .0 ≤ i
-  unfolding rowInTurn
-  due-upto = go (at .dueNow .isDue)
+module _ {given : Given} {others : List ℕ} {n v size : ℕ} {sets : List VariableSet} {reached : Reached} {row : ℕ} {seen : Seen}
+    (at : AtRow Required given others n v size sets reached row seen) where
+  pub marked-on : {next : List VariableSet} {after : Reached} (varied useful : List VariableSet) {before marks : List ℕ} {byte : ℕ}
+      → Passes Required given others n row (seen .form .3) sets next after
+      → Marking (lineIn (given .words) (given .first)) varied useful n before sets marks (reached .turn) → n ≤ length before
+      → byte ≡ byteAt varied useful sets row (line at) → Marking (lineIn (given .words) (given .first)) varied useful n before next (set marks row byte) (after .turn)
+  unfolding rowInTurn settledPoint
+  marked-on {next} {after} varied useful {before} {marks} {byte} passes marking room is =
+      rw (w .turns)
+      (marking-on (lineIn (given .words) (given .first)) varied useful n before sets next marks row (w .due) byte (rw (sym (at .inTurn)) at marking) (upto (w .isDue))
+      (row-below at) room is
+      (λ k h. rw (w .grown .stored) (getD-set-other sets _ k _ empty (λ e. omega arith))))
     where
-      go : Due Required (partAt at row) others sets row (due .seen .row .0) → due .seen .row .0 ≤ i
-      go (onward e brought) = omega (arith, at .inTurn)
-      go (backward e ends more) =
-          let near = at .settles .wired .back i (at .below) (rw (at .inTurn) at ends) in
-          omega (arith, near .1, ap (λ q. getD others q 0) (at .inTurn))
+      w : Went Required (seen .form .3) (passes .side) n row others sets next after
+      w = passes .went
 
-  -- the sets up to the row's own point are as they were
-  pub same-behind : {acts : Bool} {next : List VariableSet} {stands : ℕ} → Stepped Required due acts (given .partners) sets next stands
-      → (k : ℕ) → k ≤ due .seen .row .0 → setAt next k ≡ setAt sets k
-  unfolding settledPoint
-  same-behind {acts} stepped k h =
-      let point = settled-of Required acts (lineIn (given .words) (given .first) (due .seen .row .0)) (due .seen .row .0) (getD (given .partners) (due .seen .row .0) 0) in
-      rw (stepped .stored _ (line-said at)) (getD-set-other sets _ k _ empty (λ e. omega (arith, point)))
+      upto : Due Required (seen .form .3) (passes .side) row others sets (w .due) (w .more) → w .due ≤ row
+      upto (onward e f brought) = omega arith
+      upto (backward e f ends more) =
+          let near = at .settles .wired .back (reached .turn) (at .below) (rw (at .inTurn) at (ap (endsRepeat Required) (sym (part-is at)) ∙ ends)) in
+          omega (arith, near .1, ap (λ q. getD others q 0) (at .inTurn), at .inTurn)

@@ -16,7 +16,7 @@ use Rattle.sets.specs.Equations.{Equation, starts, pointOf, rightSide, s
 use Rattle.sets.specs.inner.ProperEquations.{_∈_, Within, Proper}
 use Rattle.sets.specs.inner.RowEquations.{Given, equationIn, rowInTurn, ownPoint, settledPoint}
 use Rattle.sets.specs.inner.RowEquations.{listed, startOf, rowEquations, allEquations}
-use Rattle.sets.specs.inner.Walks.{placeInTurn, endsRepeat, partIn, inTurn, Behind, FarEnd, Asks, behind, around, Wired, Stored, Brought, Due, onward, backward}
+use Rattle.sets.specs.inner.Walks.{placeInTurn, endsRepeat, partIn, inTurn, Behind, FarEnd, Asks, behind, around, Wired, Brought, Due, onward, backward, Grown}
 use Rattle.sets.proofs.VariableSetLaws.{union-left, union-right, union-least, ⊆-antisym}
 use Rattle.sets.proofs.RightSides.{settled-in}
 use Rattle.sets.proofs.EquationsLeast.{stored, stored-is, stored-grows, stored-has, stored-other, total, total-most, total-grows}
@@ -54,7 +54,7 @@ start-place Varied n = refl
 start-place Useful n = omega arith
 start-place Required n = refl
 
-pub settled-next : (which : Which) (n p : ℕ) → p < n → settledPoint which p ≡ placeInTurn which n (suc (rowInTurn which n p))
+settled-next : (which : Which) (n p : ℕ) → p < n → settledPoint which p ≡ placeInTurn which n (suc (rowInTurn which n p))
 settled-next which n p h =
     ap (settledPoint which) (sym (turn-back which n p h)) ∙ settled-place which n (rowInTurn which n p) (turn-below which n p h)
 
@@ -283,34 +283,58 @@ module _ (which : Which) (given : Given) (others : List ℕ) (n : ℕ) where
           let point : settledPoint which near ≡ place (suc k) = ap (settledPoint which) e ∙ settled-place which n k l in
           rw point at (rw b at (union-right (setAt sets (settledPoint which near)) (setAt sets (ownPoint which far)) x (rw own y)))
 
+      near-side : FarEnd which given others near far
+          → setAt sets (ownPoint which near) ∪ setAt sets (ownPoint which far) ≡ rightSide (equationIn which given near) (setAt sets)
+      unfolding rightSide
+      near-side f = sym (ap (λ x. rightSide x (setAt sets)) (f .equation))
+
       -- a store that changes nothing brings nothing
       brings : FarEnd which given others near far → near < n → sets ≡ stored (equationIn which given near) sets → Brought which sets near far
-      unfolding rightSide
       brings f l same =
           let e : Equation = equationIn which given near in
           let kept : VariableSet = setAt sets (settledPoint which near) in
           let brought : VariableSet = setAt sets (ownPoint which far) in
           let there : pointOf e < length sets =
           in-range v (suc n) es proper e (rw (turn-back which n near l) at (row-there (rowInTurn which n near) (turn-below which n near l))) sets (walk .kept .long) in
-          let side : rightSide e (setAt sets) ≡ setAt sets (ownPoint which near) ∪ brought = ap (λ x. rightSide x (setAt sets)) (f .equation) in
           let within : brought ⊆ kept = λ x y.
           subst (λ p. T (has (setAt sets p) x)) (sym (settled-in which given near))
-          (subst (λ s. T (has (setAt s (pointOf e)) x)) (sym same) (stored-has e sets there x (rw side (union-right (setAt sets (ownPoint which near)) brought x y)))) in
+          (subst (λ s. T (has (setAt s (pointOf e)) x)) (sym same)
+          (stored-has e sets there x (rw (sym (near-side f)) (union-right (setAt sets (ownPoint which near)) brought x y)))) in
           ⊆-antisym _ _ (union-least kept brought kept (λ x y. y) within) (union-left kept brought)
 
-      pub walked : (part : Part) (due : ℕ) → part ≡ partIn given far → Due which part others sets far due → (next : List VariableSet)
-          → Stored (equationIn which given due) sets next
-          → Walk v seed next (suc (rowInTurn which n due)) × (leftOf v n next (suc (rowInTurn which n due)) < leftOf v n sets j)
-      walked part due is (onward e brought) next stores =
+      -- what was due is stored: the equation of the row that was due
+      stored-due : (due : ℕ) {more stands : VariableSet} {next : List VariableSet} → more ≡ rightSide (equationIn which given due) (setAt sets)
+          → Grown sets (settledPoint which due) more next stands → next ≡ stored (equationIn which given due) sets
+      stored-due due is grown =
+          rw (is, settled-in which given due) at (grown .stored) ∙ sym (stored-is (equationIn which given due) sets)
+
+      -- the row was passed, and what holds before the next
+      pub record Onward (next : List VariableSet) (due : ℕ) : Type 0 where
+        pub on : Walk v seed next (suc (rowInTurn which n due))
+        pub less : leftOf v n next (suc (rowInTurn which n due)) < leftOf v n sets j
+        pub place : settledPoint which due ≡ placeInTurn which n (suc (rowInTurn which n due))
+
+      abbrev rightOf : ℕ → VariableSet
+      rightOf p = rightSide (equationIn which given p) (setAt sets)
+
+      pub walked : {part : Part} {side more stands : VariableSet} {due : ℕ} {next : List VariableSet} → part ≡ partIn given far → side ≡ rightOf far
+          → Due which part side far others sets due more → Grown sets (settledPoint which due) more next stands → Onward next due
+      walked {part} {side} {more} {stands} {due} is side-is (onward e f brought) grown =
           let m = moved j (omega arith) (λ z k l f. brought-within near (brought (ap (endsRepeat which) is ∙ f .ends)) k (omega arith) (f .nearIs))
           (λ l. absurd (omega arith)) in
-          rw (stores ∙ sym (stored-is (equationIn which given due) sets), e, turn-back which n j h) (m .on, m .less)
-      walked part due is (backward e ends more) next stores =
+          let stores = stored-due due (f ∙ side-is ∙ ap rightOf (sym e)) grown in
+          record {
+            on = rw (stores, e, turn-back which n j h) (m .on);
+            less = rw (stores, e, turn-back which n j h) (m .less);
+            place = settled-next which n due (rw e (turn-below which n j h));
+          }
+      walked {part} {side} {more} {stands} {due} is side-is (backward e f ends new) grown =
           let w = wired .back j h (sym (ap (endsRepeat which) is) ∙ ends) in
           let i = rowInTurn which n near in
           let back : rowInTurn which n i ≡ near = turn-back which n near (w .0) in
-          let m = moved i (omega (arith, w .1)) (λ z. absurd (omega (arith, w .1))) (λ l same. more (brings (w .2) (w .0) (rw back at same))) in
-          rw (stores ∙ sym (stored-is (equationIn which given due) sets), e) (rw back at (m .on), rw back at (m .less))
+          let m = moved i (omega (arith, w .1)) (λ z. absurd (omega (arith, w .1))) (λ l same. new (brings (w .2) (w .0) (rw back at same))) in
+          let stores = stored-due due (f ∙ near-side (w .2) ∙ ap rightOf (sym e)) grown in
+          record { on = rw (stores, e) (rw back at (m .on)); less = rw (stores, e) (rw back at (m .less)); place = settled-next which n due (rw e (w .0)) }
 
     -- at the end every right side is there
     pub walk-ends : (sets : List VariableSet) (i : ℕ) → Walk v seed sets i → n ≤ i → sets ≡ least v (suc n) es

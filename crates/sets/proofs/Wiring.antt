@@ -4,7 +4,7 @@ use native.Mathlib.Decide.{ℕ-discrete, decLt}
 use native.Mathlib.Numerals.{add-one}
 use native.Mathlib.Omega.{arith}
 use mathlib.Core.Path.{_≡_, refl, sym, ap, subst, _∙_}
-use mathlib.Core.Bool.{Bool, true, false, _||_}
+use mathlib.Core.Bool.{Bool, true, _||_}
 use mathlib.Core.List.{List}
 use lib.ListN.{getD}
 use Rattle.sheet.specs.Tree.{Tree, done, one, fork, again, rows, basic, ifLine, elseLine, endIf, repeat, endRepeat}
@@ -21,6 +21,7 @@ use Rattle.sets.specs.Partners.{CameFrom, GoesTo}
 use Rattle.sets.specs.inner.RowEquations.{Given, givenBy, lineIn, equationOf, equationIn, forwardOf, backwardOf, turnOf}
 use Rattle.sets.specs.inner.RowEquations.{rowInTurn, ownPoint, settledPoint, joinsBy, joinsOn, joinsBack, splits as isElse, AllReadable}
 use Rattle.sets.specs.inner.Walks.{placeInTurn, endsOn, endsBack, endsRepeat, asksPartner, inTurn, Behind, FarEnd, Asks, behind, around, Wired}
+use Rattle.sets.proofs.Truths.{never}
 use Rattle.sets.proofs.RowByRow.{LinesAt}
 use Rattle.sheet.proofs.LinesByPart.{row-part}
 
@@ -101,9 +102,6 @@ module _ (which : Which) (n i : ℕ) (e : Equation) where
       let second : at q ≡ at′ q = subst (λ y. at y ≡ at′ y) at-k (same k m) in
       let both : at p ∪ at q ≡ at′ p ∪ at′ q = rw (first, second) in
       ap (λ x. rightSide x at) is ∙ both ∙ sym (ap (λ x. rightSide x at′) is)
-
-pub never : {A : Type 0} → false ≡ true → A
-never e = let z : _≡_ {A = ℕ} 0 1 = cc in absurd (omega arith)
 
 module _ (words : List ℕ) (first : ℕ) (active : ℕ → Bool) (came goes : List ℕ) (n : ℕ) (readable : AllReadable words first n)
     (all : (p : ℕ) → p < n → Placed (lineIn words first) came goes n p) where

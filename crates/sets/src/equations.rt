@@ -4,16 +4,11 @@ ghost use mathlib.Core.Bool.{true};
 ghost use Prim.Native.Nat.{_<_};
 ghost use lib.ListN.{length};
 ghost use Rattle.sheet.specs.Bounds.{wordValues};
-ghost use Rattle.sheet.specs.Answers.{rowSaid};
 ghost use Rattle.sets.specs.Equations.{setAt};
-ghost use Rattle.sheet.specs.inner.Kinds.{partFor};
-ghost use Rattle.sets.specs.inner.RowEquations.{splits, joinsOn, joinsBack, joinsBy, ownPoint, settledPoint, Known, RightSide};
+ghost use Rattle.sets.specs.inner.RowEquations.{splits, joinsOn, joinsBack, joinsBy, ownPoint, settledPoint, blockSide};
 ghost use Rattle.sets.specs.inner.Walks.{asksPartner};
 use super::Which;
-use super::rows::Seen;
-use super::transfers;
 use sheet::RowNumber;
-use sheet::kinds;
 use sheet::kinds::Part;
 
 // The set at a point.
@@ -105,25 +100,11 @@ fn joins(which: Which, part: Part) -> bool
     }
 }
 
-// `own` is the set at the row's own point, which the caller has in hand.
-pub fn right_side(
-    which: Which,
-    seen: Seen,
-    active: bool,
-    own: u64,
-    sets: &[u64],
-    partner: RowNumber,
-) -> u64
-    requires { ⌜ Known seen × (partner .0 < wordValues) × (own ≡ setAt (now sets) (ownPoint which (seen .row .0)))
-        × (asksPartner which (partFor (seen .line .kind)) ≡ true → ownPoint which (partner .0) < length (now sets)) ⌝ }
-    ensures { λ r. ⌜ RightSide which (rowSaid (seen .line)) active (now (sets .entry)) (seen .row .0) (partner .0) r ⌝ }
+// What a row of a block puts into the set that it settles, `own` being the set at its own point.
+pub fn right_side(which: Which, part: Part, own: u64, sets: &[u64], partner: RowNumber) -> u64
+    requires { ⌜ (partner .0 < wordValues) × (asksPartner which part ≡ true → ownPoint which (partner .0) < length (now sets)) ⌝ }
+    ensures { λ r. ⌜ r ≡ blockSide which part own (setAt (now (sets .entry)) (ownPoint which (partner .0))) ⌝ }
 {
-    let line = seen.line;
-    let form = seen.form;
-    let part = form.3;
-    if kinds::assigns(part) {
-        return transfers::transfer(which, transfers::operation_of(line, form), active, own);
-    }
     if splits(part) {
         return own_set(which, sets, partner);
     }

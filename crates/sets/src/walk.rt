@@ -1,31 +1,33 @@
 // One of the three sets at every point: one walk over the rows in the set's direction, back from the far end of a repeat to its near end where it brings more.
 ghost use mathlib.Core.Path.{_≡_};
-ghost use Prim.Native.Nat.{suc, _≤_, _<_};
+ghost use Prim.Native.Nat.{suc, _+_, _≤_, _<_};
 ghost use lib.ListN.{length, replicate};
+ghost use Rattle.sheet.specs.Bounds.{wordValues};
+ghost use Rattle.sheet.specs.Rows.{Assignment};
 ghost use Rattle.sets.specs.declared.Which.the-variants.{Varied, Useful, Required};
 ghost use Rattle.sets.specs.VariableSets.{empty};
 ghost use Rattle.sets.specs.Equations.{least};
-ghost use Rattle.sets.specs.inner.Operations.{maskBits};
-ghost use Rattle.sets.specs.inner.RowEquations.{givenBy, noneActive, activeBy, lineIn, rowInTurn};
+ghost use Rattle.sets.specs.inner.Operations.{maskBits, TargetSmall, Performs};
+ghost use Rattle.sets.specs.inner.RowEquations.{givenBy, noneActive, activeBy, lineIn, turnOf, rowInTurn, settledPoint};
 ghost use Rattle.sets.specs.inner.RowEquations.{startOf, allEquations, hasRole, seedIn};
 ghost use Rattle.sets.specs.inner.RowBytes.{bytesOf, written};
-ghost use Rattle.sets.specs.inner.Walks.{endsOn, endsBack, endsRepeat, Grown, Looking, DueNow, Stepping, Stepped, Settles};
+ghost use Rattle.sets.specs.inner.Walks.{endsOn, endsBack, endsRepeat, Grown, Judging, Brings, AtBlock, ownSide, Went, Settles};
 use super::Extent;
 use super::Which;
 use super::equations;
 use super::marks;
 use super::partners;
 use super::rows;
-use super::rows::Seen;
+use super::transfers;
+use super::transfers::Operation;
 use sheet::RowNumber;
 use sheet::kinds;
-use sheet::kinds::Form;
 use sheet::kinds::Part;
 
-// A row whose equation is due, and the set at its own point. The set goes from row to row in hand: the row before has only just stored it, and to load it
-// again would wait for that.
-struct DueRow {
-    pub seen: Seen,
+// How far a walk has come: the turn of the next row, and the set at its own point. The set goes from row to row in hand: the row before has only just
+// stored it, and to load it again would wait for that.
+struct Reached {
+    pub turn: usize,
     pub own: u64,
 }
 
@@ -38,18 +40,6 @@ fn grow(sets: &mut [u64], point: usize, more: u64) -> u64
     let all = old | more;
     sets[point] = all;
     all
-}
-
-// One row's equation: its right side is put into the set that it settles, which is the answer.
-fn step(which: Which, due: DueRow, active: bool, partners: &[u16], sets: &mut [u64]) -> u64
-    requires { ⌜ Stepping which due (now partners) (now sets) ⌝ }
-    ensures { λ r. ⌜ Stepped which due active (now (partners .entry)) (now (sets .entry)) (now (sets .exit)) r ⌝ }
-{
-    let seen = due.seen;
-    let row = seen.row;
-    let partner = partners::partner_there(partners, row);
-    let right = equations::right_side(which, seen, active, due.own, sets, partner);
-    grow(sets, equations::settled_point(which, row), right)
 }
 
 // Whether a row is where a walk leaves a repeat's body: from the first row on, and from the last row to the first.
@@ -87,39 +77,6 @@ fn ends_repeat(which: Which, part: Part) -> bool
         Which::Varied => ends_on(part),
         Which::Required => ends_on(part),
     }
-}
-
-// The row whose equation is due: this one, or, if it ends a repeat and brings more to the body's start, the repeat's first in this direction.
-fn row_due(
-    which: Which,
-    forms: [Form; kinds::LAST + 1],
-    words: &[u16],
-    first: usize,
-    others: &[u16],
-    sets: &[u64],
-    own: u64,
-    row: RowNumber,
-) -> DueRow
-    requires { ⌜ Looking which forms (now words) first (now others) (now sets) own (row .0) ⌝ }
-    ensures { λ r. ⌜ DueNow which (now (words .entry)) first (now (others .entry)) (now (sets .entry)) (row .0) r ⌝ }
-{
-    let seen = rows::look(forms, words, first, row);
-    let form = seen.form;
-    let part = form.3;
-    if ends_repeat(which, part) {
-        let near = partners::partner_there(others, row);
-        let kept = equations::set_at(sets, equations::settled_point(which, near));
-        if (kept | own) != kept {
-            let entered = rows::look(forms, words, first, near);
-            let before = equations::own_set(which, sets, near);
-            return DueRow {
-                seen: entered,
-                own: before,
-            };
-        }
-        return DueRow { seen, own };
-    }
-    DueRow { seen, own }
 }
 
 fn row_in_turn(which: Which, rows: usize, turn: usize) -> RowNumber
@@ -179,16 +136,88 @@ fn clear(sets: &mut [u64])
     }
 }
 
-// All sets empty but that at the start point, which is the answer.
-fn begin(which: Which, words: &[u16], extent: Extent, sets: &mut [u64]) -> u64
+// All sets empty but that at the start point.
+fn begin(which: Which, words: &[u16], extent: Extent, sets: &mut [u64]) -> Reached
     requires { ⌜ (extent .variables ≤ maskBits) × (extent .variables < length (now words)) × (extent .rows < length (now sets)) ⌝ }
-    ensures { λ r. ⌜ Grown (replicate (length (now (sets .entry))) empty) (startOf which (extent .rows))
-        (seedIn which (now (words .entry)) (extent .variables)) (now (sets .exit)) r ⌝ }
+    ensures { λ r. ⌜ (r .turn ≡ 0) × Grown (replicate (length (now (sets .entry))) empty) (startOf which (extent .rows))
+        (seedIn which (now (words .entry)) (extent .variables)) (now (sets .exit)) (r .own) ⌝ }
 {
     clear(sets);
     let seed = seed_of(which, words, extent.variables);
     let start = start_of(which, extent.rows);
-    grow(sets, start, seed)
+    let own = grow(sets, start, seed);
+    Reached { turn: 0, own }
+}
+
+// An assignment's equation: what it makes of its own set is put into the set that it settles. Each walk tells assignments from the other rows once, before
+// all else: they have no partner and end no repeat, and their operation is made once for all that is asked of it.
+fn pass_assignment(
+    which: Which,
+    row: RowNumber,
+    operation: Operation,
+    active: bool,
+    sets: &mut [u64],
+    reached: Reached,
+) -> Reached
+    requires { ⌜ TargetSmall operation × (row .0 < wordValues) × (suc (row .0) < length (now sets)) × (reached .turn < wordValues) ⌝ }
+    ensures { λ r. ⌜ (r .turn ≡ reached .turn + 1) × ((b : Assignment) → Performs operation b
+        → Grown (now (sets .entry)) (settledPoint which (row .0)) (turnOf which active b (reached .own)) (now (sets .exit)) (r .own)) ⌝ }
+{
+    let right = transfers::transfer(which, operation, active, reached.own);
+    let own = grow(sets, equations::settled_point(which, row), right);
+    let turn = reached.turn + 1;
+    Reached { turn, own }
+}
+
+// Whether a row ends a repeat and brings more to the body's start.
+fn brings_more(
+    which: Which,
+    part: Part,
+    row: RowNumber,
+    others: &[u16],
+    sets: &[u64],
+    own: u64,
+) -> bool
+    requires { ⌜ Judging which part (row .0) (now others) (now sets) own ⌝ }
+    ensures { λ r. ⌜ Brings which part (row .0) (now (others .entry)) (now (sets .entry)) r ⌝ }
+{
+    if ends_repeat(which, part) {
+        let near = partners::partner_there(others, row);
+        let kept = equations::set_at(sets, equations::settled_point(which, near));
+        return (kept | own) != kept;
+    }
+    false
+}
+
+// The equation of a block's row; or, where the row brings more to the start of a repeat's body, that of the repeat's other end, after which the walk goes on.
+fn pass_block_row(
+    which: Which,
+    part: Part,
+    rows: usize,
+    row: RowNumber,
+    partners: &[u16],
+    others: &[u16],
+    sets: &mut [u64],
+    reached: Reached,
+) -> Reached
+    requires { ⌜ AtBlock which part rows (row .0) (now partners) (now others) (now sets) reached ⌝ }
+    ensures { λ r. ⌜ Went which part (ownSide which part (row .0) (now (partners .entry)) (now (sets .entry))) rows (row .0) (now (others .entry))
+        (now (sets .entry)) (now (sets .exit)) r ⌝ }
+{
+    let own = reached.own;
+    if brings_more(which, part, row, others, sets, own) {
+        let near = partners::partner_there(others, row);
+        let both = equations::own_set(which, sets, near) | own;
+        let own = grow(sets, equations::settled_point(which, near), both);
+        let entered = row_in_turn(which, rows, near.0);
+        let turn = entered.0 + 1;
+        return Reached { turn, own };
+    }
+    let partner = partners::partner_there(partners, row);
+    let right = equations::right_side(which, part, own, sets, partner);
+    let own = grow(sets, equations::settled_point(which, row), right);
+    let turn = reached.turn + 1;
+    Reached { turn, own }
 }
 
 pub fn settle_varied(
@@ -204,25 +233,28 @@ pub fn settle_varied(
         (allEquations Varied (givenBy (now (words .entry)) (extent .first) noneActive (now (partners .entry)))
         (extent .rows) (seedIn Varied (now (words .entry)) (extent .variables))) ⌝ }
 {
-    let mut own = begin(Which::Varied, words, extent, sets);
     let forms = kinds::forms();
-    let mut turn: usize = 0;
-    while turn < extent.rows {
-        let here = row_in_turn(Which::Varied, extent.rows, turn);
-        let due = row_due(
-            Which::Varied,
-            forms,
-            words,
-            extent.first,
-            others,
-            sets,
-            own,
-            here,
-        );
-        own = step(Which::Varied, due, false, partners, sets);
-        let row = due.seen.row;
-        let done = row_in_turn(Which::Varied, extent.rows, row.0);
-        turn = done.0 + 1;
+    let mut reached = begin(Which::Varied, words, extent, sets);
+    while reached.turn < extent.rows {
+        let row = row_in_turn(Which::Varied, extent.rows, reached.turn);
+        let seen = rows::look(forms, words, extent.first, row);
+        let form = seen.form;
+        let part = form.3;
+        if kinds::assigns(part) {
+            let operation = transfers::operation_of(seen.line, form);
+            reached = pass_assignment(Which::Varied, row, operation, false, sets, reached);
+        } else {
+            reached = pass_block_row(
+                Which::Varied,
+                part,
+                extent.rows,
+                row,
+                partners,
+                others,
+                sets,
+                reached,
+            );
+        }
     }
 }
 
@@ -239,25 +271,28 @@ pub fn settle_useful(
         (allEquations Useful (givenBy (now (words .entry)) (extent .first) noneActive (now (partners .entry)))
         (extent .rows) (seedIn Useful (now (words .entry)) (extent .variables))) ⌝ }
 {
-    let mut own = begin(Which::Useful, words, extent, sets);
     let forms = kinds::forms();
-    let mut turn: usize = 0;
-    while turn < extent.rows {
-        let here = row_in_turn(Which::Useful, extent.rows, turn);
-        let due = row_due(
-            Which::Useful,
-            forms,
-            words,
-            extent.first,
-            others,
-            sets,
-            own,
-            here,
-        );
-        own = step(Which::Useful, due, false, partners, sets);
-        let row = due.seen.row;
-        let done = row_in_turn(Which::Useful, extent.rows, row.0);
-        turn = done.0 + 1;
+    let mut reached = begin(Which::Useful, words, extent, sets);
+    while reached.turn < extent.rows {
+        let row = row_in_turn(Which::Useful, extent.rows, reached.turn);
+        let seen = rows::look(forms, words, extent.first, row);
+        let form = seen.form;
+        let part = form.3;
+        if kinds::assigns(part) {
+            let operation = transfers::operation_of(seen.line, form);
+            reached = pass_assignment(Which::Useful, row, operation, false, sets, reached);
+        } else {
+            reached = pass_block_row(
+                Which::Useful,
+                part,
+                extent.rows,
+                row,
+                partners,
+                others,
+                sets,
+                reached,
+            );
+        }
     }
 }
 
@@ -281,28 +316,32 @@ pub fn settle_required(
         × (now (marks .exit) ≡ written (bytesOf (now (varied .entry)) (now (useful .entry)) (now (sets .exit)) (lineIn (now (words .entry)) (extent .first)))
         (extent .rows) (now (marks .entry))) ⌝ }
 {
-    let mut own = begin(Which::Required, words, extent, sets);
     let forms = kinds::forms();
-    let mut turn: usize = 0;
-    while turn < extent.rows {
-        let here = row_in_turn(Which::Required, extent.rows, turn);
-        let due = row_due(
-            Which::Required,
-            forms,
-            words,
-            extent.first,
-            others,
-            sets,
-            own,
-            here,
-        );
-        let row = due.seen.row;
-        let byte = marks::byte_at(due.seen, varied, useful, due.own);
+    let mut reached = begin(Which::Required, words, extent, sets);
+    while reached.turn < extent.rows {
+        let row = row_in_turn(Which::Required, extent.rows, reached.turn);
         let number = row.0;
-        marks[number] = byte;
-        let active = marks::is_active(byte);
-        own = step(Which::Required, due, active, partners, sets);
-        let done = row_in_turn(Which::Required, extent.rows, row.0);
-        turn = done.0 + 1;
+        let seen = rows::look(forms, words, extent.first, row);
+        let form = seen.form;
+        let part = form.3;
+        if kinds::assigns(part) {
+            let operation = transfers::operation_of(seen.line, form);
+            let byte = marks::byte_at(row, operation, varied, useful, reached.own);
+            marks[number] = byte;
+            let active = marks::is_active(byte);
+            reached = pass_assignment(Which::Required, row, operation, active, sets, reached);
+        } else {
+            marks[number] = 0;
+            reached = pass_block_row(
+                Which::Required,
+                part,
+                extent.rows,
+                row,
+                partners,
+                others,
+                sets,
+                reached,
+            );
+        }
     }
 }

@@ -2,7 +2,7 @@
 -- row of the same block that its set comes from.
 use Prim.Native.Nat.{ℕ, zero, suc, _+_, _*_, _-_, _≤_, _<_}
 use mathlib.Core.Path.{_≡_}
-use mathlib.Core.Bool.{Bool, true, false}
+use mathlib.Core.Bool.{Bool, true, false, cond}
 use mathlib.Core.List.{List, [], _∷_}
 use lib.ListN.{getD, take, drop, length as List·length}
 use Rattle.sheet.specs.Bounds.{limit, wordValues}
@@ -17,8 +17,8 @@ use Rattle.sheet.specs.declared.kinds.Part.the-variants as part
 use Rattle.sets.specs.declared.rows.Seen.{Seen}
 use Rattle.sets.specs.declared.Which.{Which}
 use Rattle.sets.specs.declared.Which.the-variants.{Varied, Useful, Required}
-use Rattle.sets.specs.VariableSets.{VariableSet, places}
-use Rattle.sets.specs.Equations.{Equation, starts, passes, joins, unchanged, rightSide, setAt}
+use Rattle.sets.specs.VariableSets.{VariableSet, places, _∪_}
+use Rattle.sets.specs.Equations.{Equation, starts, passes, joins, unchanged, setAt}
 use Rattle.sets.specs.Transfers.{variedAfter, usefulBefore, requiredAfter, activityOf}
 use Rattle.sets.specs.inner.Operations.{InMask}
 
@@ -159,13 +159,13 @@ joinsBy Varied part = joinsOn part
 joinsBy Useful part = joinsBack part
 joinsBy Required part = joinsOn part
 
+-- what a row of a block puts into the set that it settles, by the sets at its own point and at its partner's
+abbrev pub blockSide : Which → Part → (own other : VariableSet) → VariableSet
+blockSide which part own other = cond (splits part) other (cond (joinsBy which part) (own ∪ other) own)
+
 -- an assignment's words are bits of a mask
 abbrev pub Small : Row → Type 0
 Small row = assigns (partFor (row .kind)) ≡ true → InMask row
-
--- r is the right side of the equation of row p, whose words these are
-abbrev pub RightSide : Which → Row → (active : Bool) → List VariableSet → (p partner r : ℕ) → Type 0
-RightSide which row active sets p c r = (l : SheetLine) → sheetRowOf l ≡ row → r ≡ rightSide (equationOf which active l p c) (setAt sets)
 
 -- all words of a row are there
 abbrev pub RowThere : (words : List ℕ) (first row : ℕ) → Type 0
@@ -182,15 +182,9 @@ abbrev pub AllReadable : List ℕ → (first rows : ℕ) → Type 0
 AllReadable words first rows = (p : ℕ) → p < rows → Readable words first p
 
 -- a row was looked up: these are its words, and its form is its kind's
-pub record Sees (words : List ℕ) (first : ℕ) (seen : Seen) : Type 0 where
-  pub says : rowSaid (seen .line) ≡ rowAt words (first + seen .row .0 * limit .rowWords)
+pub record Sees (words : List ℕ) (first row : ℕ) (seen : Seen) : Type 0 where
+  pub says : rowSaid (seen .line) ≡ rowAt words (first + row * limit .rowWords)
   pub formed : seen .form ≡ formFor (seen .line .kind)
-
--- what is asked of a row that was looked up
-pub record Known (seen : Seen) : Type 0 where
-  pub formed : seen .form ≡ formFor (seen .line .kind)
-  pub small : Small (rowSaid (seen .line))
-  pub numbered : seen .row .0 < wordValues
 
 -- ---- the start
 

@@ -1,27 +1,23 @@
 -- How a walk over the rows in a set's direction finds the set at every point: row by row in turn, and back from the far end of a repeat to its near end
 -- while the set there grows.
-use Prim.Native.Nat.{ℕ, suc, _+_, _*_, _-_, _≤_, _<_}
+use Prim.Native.Nat.{ℕ, suc, _+_, _-_, _≤_, _<_}
 use mathlib.Core.Path.{_≡_}
 use mathlib.Core.Bool.{Bool, true, false, _||_}
 use mathlib.Core.List.{List}
 use lib.ListN.{getD, set, length as List·length}
-use Rattle.sheet.specs.Answers.{rowSaid}
-use Rattle.sheet.specs.Rows.{SheetLine, sheetRowOf}
-use Rattle.sheet.specs.inner.Kinds.{allForms, partFor}
-use Rattle.sheet.specs.declared.kinds.Form.{Form}
+use Rattle.sheet.specs.inner.Kinds.{partFor}
 use Rattle.sheet.specs.declared.kinds.Part.{Part}
 use Rattle.sheet.specs.declared.kinds.Part.the-variants as part
-use Rattle.sets.specs.declared.walk.DueRow.{DueRow}
+use Rattle.sets.specs.declared.walk.Reached.{Reached}
 use Rattle.sets.specs.declared.Which.{Which}
 use Rattle.sets.specs.declared.Which.the-variants.{Varied, Useful, Required}
 use Rattle.sets.specs.VariableSets.{VariableSet, _∪_}
-use Rattle.sets.specs.Equations.{Equation, joins, pointOf, rightSide, setAt}
+use Rattle.sets.specs.Equations.{Equation, joins, rightSide, setAt}
 use Rattle.sets.specs.inner.ProperEquations.{Proper}
 use Rattle.sets.specs.inner.Operations.{maskBits}
-use Rattle.sets.specs.inner.RowEquations.{Given, rowIn, equationOf, equationIn, rowInTurn, ownPoint, settledPoint, splits, joinsBy}
-use Rattle.sets.specs.inner.RowEquations.{Readable, AllReadable, Sees, Known, allEquations, seedIn}
-use Rattle.sheet.specs.Bounds.{limit}
-use Rattle.sheet.specs.Reading.{rowAt}
+use Rattle.sets.specs.inner.RowEquations.{Given, rowIn, equationIn, rowInTurn, ownPoint, settledPoint, splits, joinsBy, blockSide}
+use Rattle.sets.specs.inner.RowEquations.{AllReadable, allEquations, seedIn}
+use Rattle.sheet.specs.Bounds.{wordValues}
 
 -- the point where the i-th row in turn takes its own set
 unfoldable pub placeInTurn : Which → (rows turn : ℕ) → ℕ
@@ -87,54 +83,53 @@ pub record Wired (which : Which) (given : Given) (others : List ℕ) (n : ℕ) :
       (near < n) × (rowInTurn which n near < i) × FarEnd which given others near (rowInTurn which n i)
   pub asks : (i : ℕ) → i < n → Asks which given others n i
 
--- an equation's right side is put into the set that it settles
-abbrev pub Stored : Equation → (before after : List VariableSet) → Type 0
-Stored e before after = after ≡ set before (pointOf e) (setAt before (pointOf e) ∪ rightSide e (setAt before))
-
 -- what a far end brings to its near end is there already
 abbrev pub Brought : Which → List VariableSet → (near far : ℕ) → Type 0
 Brought which sets near far =
     let kept = setAt sets (settledPoint which near) in kept ∪ setAt sets (ownPoint which far) ≡ kept
 
--- the row whose equation is due: this one, or a repeat's near end, if this is its far end and brings more
-pub data Due (which : Which) (part : Part) (others : List ℕ) (sets : List VariableSet) (row due : ℕ) : Type 0 where
-  onward : due ≡ row → (endsRepeat which part ≡ true → Brought which sets (getD others row 0) row) → Due which part others sets row due
-  backward : due ≡ getD others row 0 → endsRepeat which part ≡ true → (Brought which sets (getD others row 0) row → ⊥)
-      → Due which part others sets row due
+-- the row whose equation is due and that equation's right side: this row's own, or, if this is a repeat's far end and brings more, that of its near end
+pub data Due (which : Which) (part : Part) (side : VariableSet) (row : ℕ) (others : List ℕ) (sets : List VariableSet) (due : ℕ) (more : VariableSet) : Type 0 where
+  onward : due ≡ row → more ≡ side → (endsRepeat which part ≡ true → Brought which sets (getD others row 0) row) → Due which part side row others sets due more
+  backward : due ≡ getD others row 0 → more ≡ setAt sets (ownPoint which (getD others row 0)) ∪ setAt sets (ownPoint which row) → endsRepeat which part ≡ true
+      → (Brought which sets (getD others row 0) row → ⊥) → Due which part side row others sets due more
 
 -- the set at a point grew, and r is what stands there now
 pub record Grown (before : List VariableSet) (point : ℕ) (more : VariableSet) (after : List VariableSet) (r : VariableSet) : Type 0 where
   pub stored : after ≡ set before point (setAt before point ∪ more)
   pub stands : r ≡ setAt after point
 
--- what the code needs to see which row's equation is due
-pub record Looking (which : Which) (forms : List Form) (words : List ℕ) (first : ℕ) (others : List ℕ) (sets : List VariableSet) (own : VariableSet) (row : ℕ) : Type 0 where
-  pub tableIs : forms ≡ allForms
-  pub readable : Readable words first row
+-- a row was passed: the right side that was due is stored, and this is how far the walk has come
+pub record Went (which : Which) (part : Part) (side : VariableSet) (rows row : ℕ) (others : List ℕ) (before after : List VariableSet) (reached : Reached) : Type 0 where
+  pub due : ℕ
+  pub more : VariableSet
+  pub isDue : Due which part side row others before due more
+  pub grown : Grown before (settledPoint which due) more after (reached .own)
+  pub turns : reached .turn ≡ rowInTurn which rows due + 1
+
+-- what the code needs to see whether a row brings more to its partner, and what it sees
+pub record Judging (which : Which) (part : Part) (row : ℕ) (others : List ℕ) (sets : List VariableSet) (own : VariableSet) : Type 0 where
   pub othersThere : row < List·length others
   pub inHand : own ≡ setAt sets (ownPoint which row)
-  pub back : endsRepeat which (partFor (rowAt words (first + row * limit .rowWords) .kind)) ≡ true
-      → let near = getD others row 0 in (suc near < List·length sets) × Readable words first near
+  pub back : endsRepeat which part ≡ true → suc (getD others row 0) < List·length sets
 
--- what it sees
-pub record DueNow (which : Which) (words : List ℕ) (first : ℕ) (others : List ℕ) (sets : List VariableSet) (row : ℕ) (due : DueRow) : Type 0 where
-  pub isDue : Due which (partFor (rowAt words (first + row * limit .rowWords) .kind)) others sets row (due .seen .row .0)
-  pub sees : Sees words first (due .seen)
-  pub inHand : due .own ≡ setAt sets (ownPoint which (due .seen .row .0))
+pub record Brings (which : Which) (part : Part) (row : ℕ) (others : List ℕ) (sets : List VariableSet) (r : Bool) : Type 0 where
+  pub more : r ≡ true → (endsRepeat which part ≡ true) × (Brought which sets (getD others row 0) row → ⊥)
+  pub nothing : r ≡ false → endsRepeat which part ≡ true → Brought which sets (getD others row 0) row
 
--- what it needs to store that row's equation
-pub record Stepping (which : Which) (due : DueRow) (partners : List ℕ) (sets : List VariableSet) : Type 0 where
-  pub known : Known (due .seen)
-  pub inHand : due .own ≡ setAt sets (ownPoint which (due .seen .row .0))
-  pub partnered : due .seen .row .0 < List·length partners
-  pub within : suc (due .seen .row .0) < List·length sets
-  pub taken : asksPartner which (partFor (due .seen .line .kind)) ≡ true → suc (getD partners (due .seen .row .0) 0) < List·length sets
+-- what it needs to pass a row of a block
+pub record AtBlock (which : Which) (part : Part) (rows row : ℕ) (partners others : List ℕ) (sets : List VariableSet) (reached : Reached) : Type 0 where
+  pub judging : Judging which part row others sets (reached .own)
+  pub turns : reached .turn ≡ rowInTurn which rows row
+  pub below : row < rows
+  pub numbered : row < wordValues
+  pub long : List·length sets ≡ suc rows
+  pub partnered : row < List·length partners
+  pub taken : asksPartner which part ≡ true → getD partners row 0 < rows
 
--- it is stored, and r is what stands now at the point that the row settles
-pub record Stepped (which : Which) (due : DueRow) (active : Bool) (partners : List ℕ) (before after : List VariableSet) (r : VariableSet) : Type 0 where
-  pub stored : (l : SheetLine) → sheetRowOf l ≡ rowSaid (due .seen .line)
-      → Stored (equationOf which active l (due .seen .row .0) (getD partners (due .seen .row .0) 0)) before after
-  pub stands : r ≡ setAt after (settledPoint which (due .seen .row .0))
+-- that row's own right side
+abbrev pub ownSide : Which → Part → (row : ℕ) (partners : List ℕ) → List VariableSet → VariableSet
+ownSide which part row partners sets = blockSide which part (setAt sets (ownPoint which row)) (setAt sets (ownPoint which (getD partners row 0)))
 
 -- what the code needs to settle the sets
 pub record Settles (which : Which) (given : Given) (others : List ℕ) (rows variables length : ℕ) : Type 0 where

@@ -1,6 +1,6 @@
 -- `sets::rows::look` meets its contract: the table has the row's kind, and its form there.
 use borrow.Author.Needs.{needs}
-use mathlib.Core.Path.{refl, ap}
+use mathlib.Core.Path.{ap}
 use native.Mathlib.Omega.{arith}
 use Prim.Native.Nat.{_≤_}
 use lib.ListN.{length}
@@ -28,7 +28,7 @@ array-copy-out-form c = omega (arith, in-table (c .before))
 returns : tie.Need-returns
 returns c =
     let read = c .before .before in
-    (refl, record { says = read .row-of .ensures; formed = form-there _ _ _ (read .before .before .pre .0) (in-table read) })
+    record { says = read .row-of .ensures; formed = form-there _ _ _ (read .before .before .pre .0) (in-table read) }
 
 pub look-spec : {M : Type 1} → statement M
 look-spec = tie.close (tie.spec row-of-requires cast-kind mul-form array-copy-out-form returns)

@@ -1,6 +1,6 @@
 -- `sets::walk::begin` meets its contract: nothing anywhere, then the seed at the start.
 use borrow.Author.Needs.{needs}
-use mathlib.Core.Path.{sym, ap, _∙_}
+use mathlib.Core.Path.{refl, sym, ap, _∙_}
 use denote.Ref.{now}
 use lib.ListN.{length, length-replicate}
 use Rattle.sets.specs.VariableSets.{empty}
@@ -34,7 +34,7 @@ returns c =
     let started = grown .before .before in
     let seeded = started .before in
     let cleared = seeded .before .before .before in
-    rw (sym (cleared .clear .ensures), sym (started .start-of .ensures), sym (seeded .seed-of .ensures)) (grown .grow .ensures)
+    (refl, rw (sym (cleared .clear .ensures), sym (started .start-of .ensures), sym (seeded .seed-of .ensures)) (grown .grow .ensures))
 
 pub begin-spec : {M : Type 1} → statement M
 begin-spec =

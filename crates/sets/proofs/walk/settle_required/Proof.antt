@@ -1,142 +1,180 @@
 -- `sets::walk::settle_required` meets its contract: the loop's invariant: what is passed holds and is marked, nothing has more than the least sets, and the
 -- next row's own set is in hand. The measure: each way back adds a member, which is worth a whole walk, and each other row leaves one row fewer.
+use Prim.Native.Nat.{_<_}
 use native.Mathlib.Omega.{arith}
 use mathlib.Core.Path.{_≡_, sym, ap, _∙_}
+use mathlib.Core.Bool.{true}
 use denote.Ref.{now}
 use lib.ListN.{length}
+use Rattle.sheet.specs.inner.Kinds.{assigns}
 use Rattle.sets.specs.declared.Which.the-variants.{Required}
 use Rattle.sets.specs.MarkBytes.{weight, bitOf}
 use Rattle.sets.specs.inner.RowBytes.{byteAt}
-use Rattle.sets.specs.inner.RowEquations.{givenBy, activeBy, lineIn, rowInTurn, ownPoint}
-use Rattle.sets.proofs.MarkByteLaws.{byte-active, Marking, marking-starts, marking-on, marking-ends}
+use Rattle.sets.specs.inner.RowEquations.{givenBy, activeBy, lineIn, ownPoint}
+use Rattle.sets.proofs.MarkByteLaws.{no-byte, assigned-byte, byte-active, Marking, marking-starts, marking-ends}
 use Rattle.sets.proofs.Walking.{leftOf}
-use Rattle.sets.proofs.WalkNeeds.{Carried, begun, looking, ended, AtRow, known, line-said, stepping, due-below, turned-below, gone-on, due-upto, same-behind}
+use Rattle.sets.proofs.WalkNeeds.{Carried, begun, row-there, ended, AtRow, row-below, line-part, in-hand, operation-there, assignment-there, assigned}
+use Rattle.sets.proofs.WalkNeeds.{assignment-passed, at-block, block-passed, gone-on, marked-on}
 use Rattle.sets.proofs.walk.settle_required.Statement.{statement}
 use Rattle.sets.proofs.walk.settle_required.Tie as tie
 
 abbrev Inv-loop : tie.InvT-loop
-Inv-loop words extent varied useful partners others sets₀ marks₀ own₀ forms turn₀ sets marks own turn =
-    Carried Required (givenBy words (extent .first) (activeBy words (extent .first) varied useful) partners) others (extent .rows) (extent .variables)
-    sets own turn
-    × Marking (lineIn words (extent .first)) varied useful (extent .rows) marks₀ sets marks turn
+Inv-loop words extent varied useful partners others sets₀ marks₀ forms reached₀ sets marks reached =
+    Carried Required (givenBy words (extent .first) (activeBy words (extent .first) varied useful) partners) others (extent .rows) (extent .variables) sets reached
+    × Marking (lineIn words (extent .first)) varied useful (extent .rows) marks₀ sets marks (reached .turn)
 
 abbrev μ-loop : tie.MeasureT-loop
-μ-loop words extent varied useful partners others sets₀ marks₀ own₀ forms turn₀ sets marks own turn = leftOf (extent .variables) (extent .rows) sets turn
+μ-loop words extent varied useful partners others sets₀ marks₀ forms reached₀ sets marks reached = leftOf (extent .variables) (extent .rows) sets (reached .turn)
+
+abbrev formed : tie.At-loop Inv-loop μ-loop → tie.After-forms Inv-loop μ-loop
+formed c = c .before .before .before .before .before
 
 abbrev start : tie.At-loop Inv-loop μ-loop → tie.Start Inv-loop μ-loop
-start c = c .before .before .before .before .before .before .before .before .before .before .before .before .before
+start c = formed c .before .before .before .before .before .before .before .before
 
-abbrev looked : tie.After-row-due Inv-loop μ-loop → tie.At-loop Inv-loop μ-loop
-looked c = c .before .before .before .before .before
+abbrev looked : tie.After-assigns Inv-loop μ-loop → tie.After-look Inv-loop μ-loop
+looked c = c .before .before
 
-at : (c : tie.After-row-due Inv-loop μ-loop) → let loop = looked c in let args = start loop .args in
+abbrev loop : tie.After-look Inv-loop μ-loop → tie.At-loop Inv-loop μ-loop
+loop c = c .before .before .before .before .before
+
+at : (c : tie.After-look Inv-loop μ-loop) → let args = start (loop c) .args in
     AtRow Required
     (givenBy (now (args .words)) (args .extent .first) (activeBy (now (args .words)) (args .extent .first) (now (args .varied)) (now (args .useful))) (now (args .partners)))
-    (now (args .others)) (args .extent .rows) (args .extent .variables) (length (now (args .sets))) (loop .loop .sets) (loop .loop .own) (loop .loop .turn)
-    (c .before .before .row-in-turn .result .0) (c .row-due .result)
+    (now (args .others)) (args .extent .rows) (args .extent .variables) (length (now (args .sets))) (loop c .loop .sets) (loop c .loop .reached)
+    (c .before .row-in-turn .result .0) (c .look .result)
 at c =
-    let turned = c .before .before in
+    let turned = c .before in
     record {
-      settles = start (looked c) .pre .0;
-      carried = looked c .loop .inv .0;
+      settles = start (loop c) .pre .0;
+      carried = loop c .loop .inv .0;
       below = turned .before .if1 .taken;
       inTurn = turned .row-in-turn .ensures;
-      dueNow = c .row-due .ensures;
+      sees = c .look .ensures;
     }
 
--- the byte of the row that is due is its line's
-byte-is : (c : tie.After-byte-at Inv-loop μ-loop) → let due = c .before .before in let args = start (looked due) .args in
-    let p = due .row-due .result .seen .row .0 in
-    c .byte-at .result ≡ byteAt (now (args .varied)) (now (args .useful)) (looked due .loop .sets) p (lineIn (now (args .words)) (args .extent .first) p)
+-- the row has a place among the marks
+marks-there : (c : tie.After-look Inv-loop μ-loop) → c .before .row-in-turn .result .0 < length (loop c .loop .marks)
+marks-there c = omega (arith, row-below (at c), loop c .loop .inv .1 .long, start (loop c) .pre .3)
+
+abbrev judged : tie.After-operation-of Inv-loop μ-loop → tie.After-assigns Inv-loop μ-loop
+judged c = c .before .before
+
+is-assigned : (c : tie.After-operation-of Inv-loop μ-loop) → assigns (looked (judged c) .look .result .form .3) ≡ true
+is-assigned c = sym (judged c .assigns .ensures) ∙ c .before .if2 .taken
+
+-- an assignment's byte is its line's
+byte-is : (c : tie.After-byte-at Inv-loop μ-loop) → let here = looked (judged (c .before)) in let args = start (loop here) .args in
+    let p = here .before .row-in-turn .result .0 in
+    c .byte-at .result ≡ byteAt (now (args .varied)) (now (args .useful)) (loop here .loop .sets) p (lineIn (now (args .words)) (args .extent .first) p)
 unfolding ownPoint
-byte-is c = let row = at (c .before .before) in c .byte-at .ensures _ (row .dueNow .inHand) _ (line-said row)
+byte-is c =
+    let made = c .before in
+    let row = at (looked (judged made)) in
+    assigned-byte _ _ _ _ (assigned row (is-assigned made) (made .operation-of .ensures .0)) (in-hand row) (c .byte-at .ensures)
 
 -- and says whether it is active
-active-is : (c : tie.After-is-active Inv-loop μ-loop) → let due = c .before .before .before in let args = start (looked due) .args in
-    c .is-active .result ≡ activeBy (now (args .words)) (args .extent .first) (now (args .varied)) (now (args .useful)) (due .row-due .result .seen .row .0)
-active-is c =
-    c .is-active .ensures ∙ ap (λ b. bitOf b (weight .active)) (byte-is (c .before)) ∙ byte-active _ _ _ _ _
-
-abbrev acted : tie.After-row-in-turn2 Inv-loop μ-loop → tie.After-is-active Inv-loop μ-loop
-acted c = c .before .before .before .before .before
-
-abbrev due : tie.After-row-in-turn2 Inv-loop μ-loop → tie.After-row-due Inv-loop μ-loop
-due c = acted c .before .before .before
-
-begin-requires : tie.Need-begin-requires Inv-loop μ-loop
-begin-requires c κs =
-    let pre = c .before .before .before .before .before .before .before .before .pre .0 in
-    (pre .variablesSmall, pre .rolesThere, omega (arith, pre .long))
+active-is : (c : tie.After-is-active Inv-loop μ-loop) → let here = looked (judged (c .before .before)) in let args = start (loop here) .args in
+    c .is-active .result ≡ activeBy (now (args .words)) (args .extent .first) (now (args .varied)) (now (args .useful)) (here .before .row-in-turn .result .0)
+active-is c = c .is-active .ensures ∙ ap (λ b. bitOf b (weight .active)) (byte-is (c .before)) ∙ byte-active _ _ _ _ _
 
 forms-requires : tie.Need-forms-requires Inv-loop μ-loop
 forms-requires c κs = tt
 
+begin-requires : tie.Need-begin-requires Inv-loop μ-loop
+begin-requires c κs =
+    let pre = c .before .before .before .before .before .before .before .before .before .pre .0 in
+    (pre .variablesSmall, pre .rolesThere, omega (arith, pre .long))
+
 loop-holds : tie.Need-loop-holds Inv-loop μ-loop
 loop-holds c =
-    let begins = c .before .before .before in
-    let pre = begins .before .before .before .before .before .before .before .before .before .pre .0 in
-    (begun pre (pre .long) (begins .begin .ensures), marking-starts _ _ _ _ _ _)
+    let begins = c .before .before in
+    let pre = begins .before .before .before .before .before .before .before .before .before .before .pre .0 in
+    (begun pre (pre .long) (begins .begin .ensures), rw (begins .begin .ensures .0) (marking-starts _ _ _ _ _ _))
 
 row-in-turn-requires : tie.Need-row-in-turn-requires Inv-loop μ-loop
 row-in-turn-requires c κs = c .if1 .taken
 
-row-due-requires : tie.Need-row-due-requires Inv-loop μ-loop
-row-due-requires c κs =
-    let turned = c .before in
-    let loop = turned .before .before .before in
-    looking (start loop .pre .0) (loop .before .forms .ensures) (loop .loop .inv .0) (turned .before .if1 .taken) (turned .row-in-turn .ensures)
+look-requires : tie.Need-look-requires Inv-loop μ-loop
+look-requires c κs =
+    let here = c .before .before .before .before in
+    (formed here .forms .ensures, row-there (start here .pre .0) (c .before .if1 .taken) (c .row-in-turn .ensures))
+
+assigns-requires : tie.Need-assigns-requires Inv-loop μ-loop
+assigns-requires c κs = tt
+
+operation-of-requires : tie.Need-operation-of-requires Inv-loop μ-loop
+operation-of-requires c κs = operation-there (at (looked (c .before))) (sym (c .before .assigns .ensures) ∙ c .if2 .taken)
 
 byte-at-requires : tie.Need-byte-at-requires Inv-loop μ-loop
 byte-at-requires c κs =
-    let row = at (c .before) in
-    let pre = start (looked (c .before)) .pre in
-    let below = due-below row in
-    (known row, omega (arith, below, pre .1), omega (arith, below, pre .2))
+    let here = looked (judged c) in
+    let below = row-below (at here) in
+    (c .operation-of .ensures .1, omega (arith, below, start (loop here) .pre .1), omega (arith, below, start (loop here) .pre .2))
 
 slice-write-marks : tie.Need-slice-write-marks Inv-loop μ-loop
-slice-write-marks c =
-    let due = c .before .before in
-    omega (arith, due-below (at due), looked due .loop .inv .1 .long, start (looked due) .pre .3)
+slice-write-marks c = marks-there (looked (judged (c .before)))
 
 is-active-requires : tie.Need-is-active-requires Inv-loop μ-loop
 is-active-requires c κs = tt
 
-step-requires : tie.Need-step-requires Inv-loop μ-loop
-step-requires c κs = stepping (at (c .before .before .before .before))
-
-row-in-turn-requires-2 : tie.Need-row-in-turn-requires-2 Inv-loop μ-loop
-row-in-turn-requires-2 c κs = due-below (at (c .before .before .before .before .before .before .before))
-
-add-turn : tie.Need-add-turn Inv-loop μ-loop
-add-turn c = omega (arith, c .before .row-in-turn2 .ensures, turned-below (at (due (c .before))))
+pass-assignment-requires : tie.Need-pass-assignment-requires Inv-loop μ-loop
+pass-assignment-requires c κs =
+    let made = c .before .before .before in
+    assignment-there (at (looked (judged made))) (made .operation-of .ensures .1)
 
 loop-less : tie.Need-loop-less Inv-loop μ-loop
 loop-less c =
-    let turned = c .before in
-    gone-on (at (due turned)) (turned .before .before .before .step .ensures) (active-is (acted turned)) (turned .row-in-turn2 .ensures) .1
+    let passed = c .before .before in
+    let acts = passed .before .before in
+    let made = acts .before .before in
+    let row = at (looked (judged made)) in
+    gone-on row (assignment-passed row (is-assigned made) (made .operation-of .ensures .0) (active-is acts) (passed .pass-assignment .ensures)) .1
 
 loop-again : tie.Need-loop-again Inv-loop μ-loop
-unfolding rowInTurn
 loop-again c =
-    let turned = c .before in
-    let row = at (due turned) in
-    let loop = looked (due turned) in
-    let stepped = turned .before .before .before .step .ensures in (
-      gone-on row stepped (active-is (acted turned)) (turned .row-in-turn2 .ensures) .0,
-      rw (turned .row-in-turn2 .ensures)
-          (marking-on _ _ _ _ _ _ _ _ _ _ _ (loop .loop .inv .1) (due-upto row) (due-below row) (start loop .pre .3) (byte-is (acted turned .before))
-          (same-behind row stepped)),
+    let passed = c .before .before in
+    let acts = passed .before .before in
+    let made = acts .before .before in
+    let here = looked (judged made) in
+    let row = at here in
+    let passes = assignment-passed row (is-assigned made) (made .operation-of .ensures .0) (active-is acts) (passed .pass-assignment .ensures) in
+    (gone-on row passes .0, marked-on row _ _ passes (loop here .loop .inv .1) (start (loop here) .pre .3) (byte-is (acts .before)))
+
+slice-write-marks-2 : tie.Need-slice-write-marks-2 Inv-loop μ-loop
+slice-write-marks-2 c = marks-there (looked (c .before))
+
+pass-block-row-requires : tie.Need-pass-block-row-requires Inv-loop μ-loop
+pass-block-row-requires c κs = at-block (at (looked (c .before .before)))
+
+loop-less-2 : tie.Need-loop-less-2 Inv-loop μ-loop
+loop-less-2 c =
+    let passed = c .before .before in
+    let other = passed .before .before in
+    let row = at (looked (other .before)) in
+    gone-on row (block-passed row (sym (other .before .assigns .ensures) ∙ other .if2 .left) (passed .pass-block-row .ensures)) .1
+
+loop-again-2 : tie.Need-loop-again-2 Inv-loop μ-loop
+loop-again-2 c =
+    let passed = c .before .before in
+    let other = passed .before .before in
+    let here = looked (other .before) in
+    let row = at here in
+    let unassigned = sym (other .before .assigns .ensures) ∙ other .if2 .left in
+    let passes = block-passed row unassigned (passed .pass-block-row .ensures) in (
+      gone-on row passes .0,
+      marked-on row _ _ passes (loop here .loop .inv .1) (start (loop here) .pre .3) (no-byte _ _ _ _ _ (ap assigns (sym (line-part row)) ∙ unassigned)),
     )
 
 same-length : tie.Need-same-length Inv-loop μ-loop
-same-length c = let loop = c .before .before in loop .loop .inv .0 .walk .kept .long ∙ sym (start loop .pre .0 .long)
+same-length c = let loop = c .before .before .before in loop .loop .inv .0 .walk .kept .long ∙ sym (start loop .pre .0 .long)
 
 same-length-2 : tie.Need-same-length-2 Inv-loop μ-loop
-same-length-2 c = c .before .before .loop .inv .1 .long
+same-length-2 c = c .before .before .before .loop .inv .1 .long
 
 returns : tie.Need-returns Inv-loop μ-loop
 returns c =
-    let loop = c .before .before in
+    let loop = c .before .before .before in
     (ended (start loop .pre .0) (loop .loop .inv .0) (c .if1 .left), marking-ends _ _ _ _ _ _ _ _ (loop .loop .inv .1) (c .if1 .left))
 
 pub settle-required-spec : {M : Type 1} → statement M
@@ -145,19 +183,23 @@ settle-required-spec =
     (tie.spec
     Inv-loop
     μ-loop
-    begin-requires
     forms-requires
+    begin-requires
     loop-holds
     row-in-turn-requires
-    row-due-requires
+    look-requires
+    assigns-requires
+    operation-of-requires
     byte-at-requires
     slice-write-marks
     is-active-requires
-    step-requires
-    row-in-turn-requires-2
-    add-turn
+    pass-assignment-requires
     loop-less
     loop-again
+    slice-write-marks-2
+    pass-block-row-requires
+    loop-less-2
+    loop-again-2
     same-length
     same-length-2
     returns)
