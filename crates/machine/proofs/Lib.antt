@@ -10,6 +10,7 @@ pub mod StepsInTurn
 pub mod OpenedLaws
 pub mod LineLaws
 pub mod StraightLaws
+pub mod PeekLaws
 pub mod CrossLaws
 pub mod RunLaws
 pub mod RunPinned

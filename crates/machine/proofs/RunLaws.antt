@@ -2,7 +2,7 @@
 -- is left there by what the next step comes to.
 use Prim.Native.Nat.{ℕ, zero, suc, _+_, _≤_, _<_}
 use mathlib.Core.Path.{_≡_, refl, sym, ap, _∙_, subst}
-use mathlib.Core.Logic.{inl, inr}
+use mathlib.Core.Logic.{_⊎_, inl, inr}
 use mathlib.Core.List.{List, []}
 use native.Mathlib.Omega.{arith}
 use lib.ListN.{length}
@@ -13,9 +13,11 @@ use Rattle.machine.specs.Actions.{Memory, Setting}
 use Rattle.machine.specs.Machine.{Repeat, State, Step, goesOn, ended, stops, sticks, step, ifItGoesOn, stateAfter}
 use Rattle.machine.specs.inner.Buffers.{Buffers, Cells, cellsOf, memoryOf, Sound, RoundSizes}
 use Rattle.machine.specs.inner.Runnable.{Shallow, Indexed}
-use Rattle.machine.specs.inner.RowSteps.{Nested, Opened, firstPlace, leftAt, buffersAt, stateAt, CopiesOn, Stays, StopsAt, Blocked, GoesTo, StepsStraight, StraightRow, CrossedSays, BlockRow}
+use Rattle.machine.specs.inner.RowSteps.{Nested, Opened, firstPlace, leftAt, buffersAt, stateAt, CopiesOn, Stays, StopsAt, Blocked, GoesTo, StepsStraight, StraightRow, Peeks, CrossedSays, BlockRow}
 use Rattle.machine.specs.inner.RunsRows.{firstState, Handed, AfterSteps, LeavesBy, Leaves, RunsRows}
 use Rattle.machine.specs.declared.Place.{Place}
+use Rattle.machine.specs.declared.Ahead.{Ahead}
+use Rattle.machine.specs.declared.Ahead.the-variants as ahead-as
 use Rattle.machine.specs.declared.Acted.{Acted}
 use Rattle.machine.specs.declared.Acted.the-variants as acted
 use Rattle.machine.specs.declared.Crossed.{Crossed}
@@ -260,13 +262,14 @@ module _ {A : Arithmetic} (task : Task A) where
         (handed .sizes))
         (here .sound)
 
-    straight-on : (next : Place) → Straight place cells after (acted.On next) → SameLengths cells after → Invariant first next after bodies toCome
-    straight-on next straight kept =
+    straight-on : (next : Place) (ahead : Ahead) → Straight place cells after (acted.On next ahead) → SameLengths cells after
+        → Invariant first next after bodies toCome
+    straight-on next ahead straight kept =
         record {
           lengths = lengths-on (now .lengths) kept;
           running = λ setting lines start handed.
               let here = now .running setting lines start handed in
-              let steps-on = stepped setting lines start handed (acted.On next) straight in
+              let steps-on = stepped setting lines start handed (acted.On next ahead) straight in
               running-goes first setting lines start place cells bodies toCome here next (here .repeats) (steps-on .held) after bodies toCome (steps-on .says .1)
               (rw (steps-on .says .0) (here .opened))
               (steps-on .copies);
@@ -340,17 +343,18 @@ module _ {A : Arithmetic} (task : Task A) where
   module _ {cells cellsThen after : Cells A} {place began : Place} {bodies toCome : List ℕ} {answer : Acted}
       (inner : Inner began cellsThen place cells bodies toCome)
       (straight : Straight place cells after answer) where
-    pub straight-fewer : {next : Place} → answer ≡ acted.On next → next .left < place .left
-    straight-fewer is = omega (arith, (rw is at straight) .left)
+    module _ {next : Place} {ahead : Ahead} (is : answer ≡ acted.On next ahead) where
+      pub straight-fewer : next .left < place .left
+      straight-fewer = omega (arith, (rw is at straight) .left)
 
-    pub inner-goes : {next : Place} → answer ≡ acted.On next → SameLengths cells after → Inner began cellsThen next after bodies toCome
-    inner-goes {next} is kept =
-        let goes = rw is at straight in
-        record {
-          lengths = lengths-on (inner .lengths) kept;
-          fewer = omega (arith, goes .left, inner .fewer);
-          still = λ first before. straight-on (inner .still first before) next goes kept;
-        }
+      pub inner-goes : SameLengths cells after → Inner began cellsThen next after bodies toCome
+      inner-goes kept =
+          let goes = rw is at straight in
+          record {
+            lengths = lengths-on (inner .lengths) kept;
+            fewer = omega (arith, goes .left, inner .fewer);
+            still = λ first before. straight-on (inner .still first before) next ahead goes kept;
+          }
 
     module _ {first : Cells A} (run : Invariant first began cellsThen bodies toCome) where
       pub straight-stops : {ran : Ran} {row : RowNumber} → answer ≡ acted.Stopped → row .0 ≡ place .at .0 → ran ≡ leftAt place (ended-as.Stopped row)
@@ -400,3 +404,22 @@ module _ {A : Arithmetic} (task : Task A) where
         block-ends {how = how} none is answered =
             subst (λ (r : Ran). Left first (cellsOf A (after .store) (after .values) turnsAfter (after .copied)) bodiesAfter toComeAfter r) (sym answered)
             (block-out (inner .still first run) (rw none at straight) turnsAfter bodiesAfter toComeAfter how (rw is at block))
+
+  -- ---- what peeking comes to at the place after a row: the inner loop goes on from where it answers
+
+  module _ {store storeAfter : List (A .Carrier)} {place answer : Place}
+      (peek : Peeks A (task .table) (task .rows) place store storeAfter answer) where
+    pub inner-peeks : {values copied : List (A .Carrier)} {turns : List ℕ} {began : Place} {cellsThen : Cells A} {bodies toCome : List ℕ}
+        → Inner began cellsThen place (cellsOf A store values turns copied) bodies toCome
+        → length storeAfter ≡ length store
+        → Inner began cellsThen answer (cellsOf A storeAfter values turns copied) bodies toCome
+    inner-peeks {values} {copied} {turns} {began} {cellsThen} {bodies} {toCome} inner kept =
+        by-row (peek .peeks (task .roles) (task .constants) (task .seeds) values turns copied)
+      where
+        by-row : ((answer ≡ place) × (storeAfter ≡ store))
+            ⊎ Straight place (cellsOf A store values turns copied) (cellsOf A storeAfter values turns copied) (acted.On answer ahead-as.Any)
+            → Inner began cellsThen answer (cellsOf A storeAfter values turns copied) bodies toCome
+        by-row (inl (is, same)) =
+            subst (λ (p : Place). Inner began cellsThen p (cellsOf A storeAfter values turns copied) bodies toCome) (sym is)
+            (subst (λ (s : List (A .Carrier)). Inner began cellsThen place (cellsOf A s values turns copied) bodies toCome) (sym same) inner)
+        by-row (inr straight) = inner-goes inner straight refl (record { store = kept; values = refl; turns = refl; copied = refl })

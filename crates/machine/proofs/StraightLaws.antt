@@ -33,6 +33,8 @@ use Rattle.machine.specs.declared.Did.{Did}
 use Rattle.machine.specs.declared.Did.the-variants as did-as
 use Rattle.machine.specs.declared.Moved.{Moved}
 use Rattle.machine.specs.declared.Moved.the-variants as moved
+use Rattle.machine.specs.declared.Ahead.{Ahead}
+use Rattle.machine.specs.declared.Ahead.the-variants as ahead-as
 use Rattle.machine.specs.declared.Acted.{Acted}
 use Rattle.machine.specs.declared.Acted.the-variants as acted-as
 use Rattle.machine.proofs.RowsPinned.{halted-apart, stuck-apart}
@@ -72,27 +74,30 @@ words-there table lines rest line at row holds said is =
 
 -- ---- the answers, as attempts that lead to a place
 
-acted-left : {Why : Type 0} (went : Attempt Why (Unit {0})) (next : Place) → ActedLeft (suc (next .left)) (actedBy went next)
-acted-left (through u) next = refl
-acted-left (halted why) next = tt
-acted-left stuck next = tt
+acted-left : {Why : Type 0} (went : Attempt Why (Unit {0})) (next : Place) (ahead : Ahead)
+    → ActedLeft (suc (next .left)) (actedBy went next ahead)
+acted-left (through u) next ahead = refl
+acted-left (halted why) next ahead = tt
+acted-left stuck next ahead = tt
 
-did-answers : (w : Did) (next : Place) → didTo w next ≡ actedBy (whetherDid w) (raised next (next .values) (next .turns))
-did-answers did-as.On next = refl
-did-answers did-as.Stopped next = refl
+did-answers : (w : Did) (next : Place) (ahead : Ahead)
+    → didTo w next ahead ≡ actedBy (whetherDid w) (raised next (next .values) (next .turns)) ahead
+did-answers did-as.On next ahead = refl
+did-answers did-as.Stopped next ahead = refl
 
 module _ (Why : Type 0) where
-  went-answers : (w : Went) (next : Place) → wentTo w next ≡ actedBy (whetherWent {Why = Why} w) (raised next (next .values) (next .turns))
+  went-answers : (w : Went) (next : Place)
+      → wentTo w next ≡ actedBy (whetherWent {Why = Why} w) (raised next (next .values) (next .turns)) ahead-as.Any
   went-answers went-as.On next = refl
   went-answers went-as.Stuck next = refl
 
   values-answer : (m : Moved) (next : Place)
-      → valuesTo m next ≡ actedBy (whetherMoved {Why = Why} m) (raised next (heightAfter m (next .values)) (next .turns))
+      → valuesTo m next ≡ actedBy (whetherMoved {Why = Why} m) (raised next (heightAfter m (next .values)) (next .turns)) ahead-as.Any
   values-answer (moved.To height) next = refl
   values-answer moved.Stuck next = refl
 
   turns-answer : (m : Moved) (next : Place)
-      → turnsTo m next ≡ actedBy (whetherMoved {Why = Why} m) (raised next (next .values) (heightAfter m (next .turns)))
+      → turnsTo m next ≡ actedBy (whetherMoved {Why = Why} m) (raised next (next .values) (heightAfter m (next .turns))) ahead-as.Any
   turns-answer (moved.To height) next = refl
   turns-answer moved.Stuck next = refl
 
@@ -100,8 +105,8 @@ module _ {A : Arithmetic} where
   -- ---- what a straight row does, by the contract of its code
 
   module _ {row : Row} {roles constants : List ℕ} {seeds : List (A .Carrier)} {next : Place} {answer : Acted} where
-    acts-as : {before after : Cells A} (action : Action) (went : Try A (Unit {0})) (height turnHeight : ℕ) → actionOf row ≡ some action
-        → answer ≡ actedBy went (raised next height turnHeight)
+    acts-as : {before after : Cells A} (action : Action) (went : Try A (Unit {0})) (height turnHeight : ℕ) (ahead : Ahead) → actionOf row ≡ some action
+        → answer ≡ actedBy went (raised next height turnHeight) ahead
         → ((setting : Setting A) (former : List (A .Carrier)) → Suits A roles constants seeds setting
         → RoundSizes A roles seeds (before .store) (before .copied)
         → Sound A setting (buffersAt A next before former)
@@ -109,9 +114,9 @@ module _ {A : Arithmetic} where
         × Does A setting action (buffersAt A next before former) (buffersAt A (raised next height turnHeight) after held) went
         × CopiesOn A former before held after)
         → ActsBy A row roles constants seeds next before after answer
-    acts-as {before} {after} action went height turnHeight said answers does =
+    acts-as {before} {after} action went height turnHeight ahead said answers does =
         record {
-          left = rw answers (acted-left went (raised next height turnHeight));
+          left = rw answers (acted-left went (raised next height turnHeight) ahead);
           acts = λ setting other former told suits sizes sound.
               let both : some action ≡ some other = sym said ∙ told in
               let same : action ≡ other = cc in
@@ -122,6 +127,7 @@ module _ {A : Arithmetic} where
                 height = height;
                 turnHeight = turnHeight;
                 held = done .0;
+                ahead = ahead;
                 answers = answers;
                 does = done .1;
                 copies = done .2;
@@ -151,7 +157,7 @@ module _ {A : Arithmetic} where
           → MovesValues A action store values (next .values) storeAfter valuesAfter m
           → ActsBy A row roles constants seeds next (cellsOf A store values turns copied) (cellsOf A storeAfter valuesAfter turns copied) answer
       values-move {action} {m} said answers moves =
-          acts-as action (whetherMoved m) (heightAfter m (next .values)) (next .turns) said (answers ∙ values-answer (A .Why) m next)
+          acts-as action (whetherMoved m) (heightAfter m (next .values)) (next .turns) ahead-as.Any said (answers ∙ values-answer (A .Why) m next)
           (λ setting former suits sizes sound. (former, moves .does setting turns (next .turns) former sound, inl (refl, refl)))
 
       pub saved : {m : Moved} {valuesAfter : List (A .Carrier)} → row .kind ≡ 12 → answer ≡ valuesTo m next
@@ -168,7 +174,7 @@ module _ {A : Arithmetic} where
           → SavesTurn A first turns (next .turns) turnsAfter m
           → ActsBy A row roles constants seeds next (cellsOf A store values turns copied) (cellsOf A store values turnsAfter copied) answer
       turn-saved {first} {m} kind is answers saves =
-          acts-as (saveTurn first) (whetherMoved m) (next .values) (heightAfter m (next .turns))
+          acts-as (saveTurn first) (whetherMoved m) (next .values) (heightAfter m (next .turns)) ahead-as.Any
           (says-save-turn row kind ∙ ap (λ (b : Bool). some (saveTurn b)) (sym is))
           (answers ∙ turns-answer (A .Why) m next)
           (λ setting former suits sizes sound. (former, saves .does setting store values (next .values) former sound, inl (refl, refl)))
@@ -177,28 +183,28 @@ module _ {A : Arithmetic} where
           → Clears A (row .d) store storeAfter w
           → ActsBy A row roles constants seeds next (cellsOf A store values turns copied) (cellsOf A storeAfter values turns copied) answer
       cleared {w} kind answers clears =
-          acts-as (clear (row .d)) (whetherWent w) (next .values) (next .turns) (says-clear row kind) (answers ∙ went-answers (A .Why) w next)
+          acts-as (clear (row .d)) (whetherWent w) (next .values) (next .turns) ahead-as.Any (says-clear row kind) (answers ∙ went-answers (A .Why) w next)
           (λ setting former suits sizes sound. (former, clears .does setting values (next .values) turns (next .turns) former sound, inl (refl, refl)))
 
       pub turned-round : {w : Went} {storeAfter copiedAfter : List (A .Carrier)} → row .kind ≡ 17 → answer ≡ wentTo w next
           → TurnsRound A roles seeds store copied storeAfter copiedAfter w
           → ActsBy A row roles constants seeds next (cellsOf A store values turns copied) (cellsOf A storeAfter values turns copiedAfter) answer
       turned-round {w} {storeAfter} {copiedAfter} kind answers turns-it =
-          acts-as turnRound (whetherWent w) (next .values) (next .turns) (says-turn-round row kind) (answers ∙ went-answers (A .Why) w next)
+          acts-as turnRound (whetherWent w) (next .values) (next .turns) ahead-as.Any (says-turn-round row kind) (answers ∙ went-answers (A .Why) w next)
           (λ setting former suits sizes sound. (
             copiedAfter,
             turns-it .round sizes setting values (next .values) turns (next .turns) former (suits .variables) (suits .roles) (suits .seeds) sound,
             inr refl,
           ))
 
-      assigned : {s : Source} {got : Try A (A .Carrier)} {went : Try A (Unit {0})} {storeAfter : List (A .Carrier)}
+      pub assigned : (ahead : Ahead) {s : Source} {got : Try A (A .Carrier)} {went : Try A (Unit {0})} {storeAfter : List (A .Carrier)}
           → actionOf row ≡ some (assign (row .d ≔ s))
-          → answer ≡ actedBy went (raised next (next .values) (next .turns))
+          → answer ≡ actedBy went (raised next (next .values) (next .turns)) ahead
           → got ≡ evaluated A constants s store
           → Assigns A (row .d) got store storeAfter went
           → ActsBy A row roles constants seeds next (cellsOf A store values turns copied) (cellsOf A storeAfter values turns copied) answer
-      assigned {s} {got} {went} {storeAfter} said answers reads assigns =
-          acts-as (assign (row .d ≔ s)) went (next .values) (next .turns) said answers
+      assigned ahead {s} {got} {went} {storeAfter} said answers reads assigns =
+          acts-as (assign (row .d ≔ s)) went (next .values) (next .turns) ahead said answers
           (λ setting former suits sizes sound. (
             former,
             assigns .does setting s (reads ∙ rw (suits .constants)) values (next .values) turns (next .turns) former sound,
@@ -239,11 +245,11 @@ module _ {A : Arithmetic} where
         })
         same
 
-    outcome-said : (went : Try A (Unit {0})) (height turnHeight : ℕ) (held : List (A .Carrier))
-        → answer ≡ actedBy went (raised next height turnHeight)
+    outcome-said : (went : Try A (Unit {0})) (height turnHeight : ℕ) (held : List (A .Carrier)) (ahead : Ahead)
+        → answer ≡ actedBy went (raised next height turnHeight) ahead
         → Does A setting (row .action) (buffersAt A next before former) (buffersAt A (raised next height turnHeight) after held) went
         → ActedSays A setting lines place repeats before after former held step-there answer
-    outcome-said (through u) height turnHeight held is does =
+    outcome-said (through u) height turnHeight held ahead is does =
         subst (λ (r : Acted). ActedSays A setting lines place repeats before after former held step-there r) (sym is) (
           refl,
           record {
@@ -255,7 +261,7 @@ module _ {A : Arithmetic} where
             sound = does .sound;
           },
         )
-    outcome-said (halted why) height turnHeight held is does =
+    outcome-said (halted why) height turnHeight held ahead is does =
         subst (λ (r : Acted). ActedSays A setting lines place repeats before after former held step-there r) (sym is) (
           omega arith,
           record {
@@ -265,7 +271,7 @@ module _ {A : Arithmetic} where
           },
           stays-there height turnHeight held (does .unchanged (halted-apart why)),
         )
-    outcome-said stuck height turnHeight held is does =
+    outcome-said stuck height turnHeight held ahead is does =
         let stays = there-acted ∙ ap (afterAction A (stateAt A place repeats before former) (row .origin)) (sym (does .meaning)) in
         subst (λ (r : Acted). ActedSays A setting lines place repeats before after former held step-there r) (sym is)
         (omega arith, subst (λ (s : Step A). Blocked A s) (sym stays) tt, stays-there height turnHeight held (does .unchanged stuck-apart))
@@ -321,7 +327,8 @@ module _ {A : Arithmetic} where
               held = done .held;
               says =
                   outcome-said place before after answer left spends setting lines rest row repeats former
-                  (here ∙ ap (λ (l : TableLine). l ∷ rest) is) (done .went) (done .height) (done .turnHeight) (done .held) (done .answers) (done .does);
+                  (here ∙ ap (λ (l : TableLine). l ∷ rest) is) (done .went) (done .height) (done .turnHeight) (done .held) (done .ahead) (done .answers)
+                  (done .does);
               copies = done .copies;
             }
         by-line setting lines rest line repeats former does suits sizes sound here told (inr (nothing, apart)) =
@@ -333,13 +340,13 @@ module _ {A : Arithmetic} where
 -- ---- an assignment by what its code answers in each arithmetic
 
 module _ {row : Row} {roles constants : List ℕ} {seeds store values copied storeAfter : List Float} {turns : List ℕ} {next : Place} {answer : Acted}
-    {got : Try doubles Float} (w : Did) {s : Source} where
+    {got : Try doubles Float} (w : Did) (ahead : Ahead) {s : Source} where
   pub assigned-double : actionOf row ≡ some (assign (row .d ≔ s))
-      → answer ≡ didTo w next
+      → answer ≡ didTo w next ahead
       → got ≡ evaluated doubles constants s store
       → Assigns doubles (row .d) got store storeAfter (whetherDid w)
       → ActsBy doubles row roles constants seeds next (cellsOf doubles store values turns copied) (cellsOf doubles storeAfter values turns copied) answer
-  assigned-double said answers reads assigns = assigned said (answers ∙ did-answers w next) reads assigns
+  assigned-double said answers reads assigns = assigned ahead said (answers ∙ did-answers w next ahead) reads assigns
 
 module _ {row : Row} {roles constants seeds store values copied storeAfter turns : List ℕ} {next : Place} {answer : Acted} {got : Try residues ℕ} (w : Went)
     {s : Source} where
@@ -348,4 +355,4 @@ module _ {row : Row} {roles constants seeds store values copied storeAfter turns
       → got ≡ evaluated residues constants s store
       → Assigns residues (row .d) got store storeAfter (whetherWent w)
       → ActsBy residues row roles constants seeds next (cellsOf residues store values turns copied) (cellsOf residues storeAfter values turns copied) answer
-  assigned-residue said answers reads assigns = assigned said (answers ∙ went-answers (residues .Why) w next) reads assigns
+  assigned-residue said answers reads assigns = assigned ahead-as.Any said (answers ∙ went-answers (residues .Why) w next) reads assigns

@@ -12,16 +12,18 @@ ghost use Rattle.table.specs.TableRows.{save, takeBack};
 ghost use Rattle.machine.specs.inner.RowAnswers.{pairOfDoubles, whetherDid};
 ghost use Rattle.machine.specs.Attempts.{fromOutcome};
 ghost use Rattle.machine.specs.inner.Buffers.{cellsOf, Operands, Evaluates, EvaluatesFixed, Assigns, Clears, MovesValues, Compares, TurnsRound};
-ghost use Rattle.machine.specs.inner.Runnable.{placeOfRow, Indexed};
+ghost use Rattle.machine.specs.inner.Runnable.{placeOfRow, Indexed, Indexes};
 ghost use Rattle.machine.specs.inner.RowWords.{actionOf, Named};
-ghost use Rattle.machine.specs.inner.RowSteps.{ActsBy, StraightRow, BlockRow};
+ghost use Rattle.machine.specs.inner.RowSteps.{ActsBy, StraightRow, Peeks, BlockRow};
 ghost use Rattle.machine.specs.inner.RunsRows.{RunsRows};
 use super::Acted;
+use super::Ahead;
 use super::Branch;
 use super::Crossed;
 use super::Did;
 use super::DoublePair;
 use super::Ended;
+use super::Expected;
 use super::Met;
 use super::Moved;
 use super::Place;
@@ -37,6 +39,7 @@ use super::places::turns_to;
 use super::places::values_to;
 use super::places::went_to;
 use super::rows::block_at;
+use super::rows::kind_at;
 use super::rows::row_of;
 use super::turns::is_first;
 use super::turns::save_turn;
@@ -252,12 +255,32 @@ fn act(
     let d = Variable(row.d as usize);
     let b = Variable(row.b as usize);
     match kind {
-        kinds::COPY => did_to(assign(store, d, copy_of(store, Variable(a))), next),
-        kinds::CONSTANT => did_to(assign(store, d, fixed(constants, a)), next),
-        kinds::SUM => did_to(assign(store, d, added(store, Variable(a), b)), next),
-        kinds::DIFFERENCE => did_to(assign(store, d, subtracted(store, Variable(a), b)), next),
-        kinds::PRODUCT => did_to(assign(store, d, multiplied(store, Variable(a), b)), next),
-        kinds::NEGATION => did_to(assign(store, d, negated(store, Variable(a))), next),
+        kinds::COPY => did_to(
+            assign(store, d, copy_of(store, Variable(a))),
+            next,
+            Ahead::Clear,
+        ),
+        kinds::CONSTANT => did_to(assign(store, d, fixed(constants, a)), next, Ahead::Any),
+        kinds::SUM => did_to(
+            assign(store, d, added(store, Variable(a), b)),
+            next,
+            Ahead::Any,
+        ),
+        kinds::DIFFERENCE => did_to(
+            assign(store, d, subtracted(store, Variable(a), b)),
+            next,
+            Ahead::Any,
+        ),
+        kinds::PRODUCT => did_to(
+            assign(store, d, multiplied(store, Variable(a), b)),
+            next,
+            Ahead::Sum,
+        ),
+        kinds::NEGATION => did_to(
+            assign(store, d, negated(store, Variable(a))),
+            next,
+            Ahead::Any,
+        ),
         table::kinds::SAVE => values_to(save(store, d, values, next.values), next),
         table::kinds::TAKE_BACK => values_to(take_back(store, d, values, next.values), next),
         table::kinds::SAVE_TURN => turns_to(save_turn(is_first(word), turns, next.turns), next),
@@ -333,8 +356,60 @@ fn block_row(
     }
 }
 
+// A clear, if one stands at this place and a step is left for it; otherwise nothing.
+fn clear_ahead(table: &[u16], rows: usize, store: &mut [f64], place: Place) -> Place
+    requires { ⌜ Indexes (now table) rows (length (now store)) ⌝ }
+    ensures { λ r. ⌜ Peeks doubles (now (table .entry)) rows place (now (store .entry)) (now (store .exit)) r ⌝ }
+{
+    match kind_at(table, rows, place, table::kinds::CLEAR) {
+        Expected::Met(row, next) => {
+            let to = row.d as usize;
+            store[to] = double::zero();
+            return next;
+        }
+        Expected::Missed => {
+            return place;
+        }
+    }
+}
+
+// The same of a sum. One whose result isn't finite is left for the runner to stop at.
+fn sum_ahead(table: &[u16], rows: usize, store: &mut [f64], place: Place) -> Place
+    requires { ⌜ Indexes (now table) rows (length (now store)) ⌝ }
+    ensures { λ r. ⌜ Peeks doubles (now (table .entry)) rows place (now (store .entry)) (now (store .exit)) r ⌝ }
+{
+    let Expected::Met(row, next) = kind_at(table, rows, place, kinds::SUM) else {
+        return place;
+    };
+    let to = row.d as usize;
+    let a = row.a as usize;
+    let b = row.b as usize;
+    match added(store, Variable(a), Variable(b)) {
+        Outcome::Value(x) => {
+            store[to] = x;
+            return next;
+        }
+        Outcome::Stop => {
+            return place;
+        }
+    }
+}
+
+// The row that is expected at a place, if it stands there: none is chosen among all kinds for it. What isn't done here the runner's next turn meets in
+// the ordinary way, so that peeking never stops, sticks or runs out of steps.
+fn peek(table: &[u16], rows: usize, store: &mut [f64], ahead: Ahead, place: Place) -> Place
+    requires { ⌜ Indexes (now table) rows (length (now store)) ⌝ }
+    ensures { λ r. ⌜ Peeks doubles (now (table .entry)) rows place (now (store .entry)) (now (store .exit)) r ⌝ }
+{
+    match ahead {
+        Ahead::Any => place,
+        Ahead::Clear => clear_ahead(table, rows, store, place),
+        Ahead::Sum => sum_ahead(table, rows, store, place),
+    }
+}
+
 // A run of a table's rows, of so many steps at most. A result that isn't finite, a row that can't be done or that no step is left for leaves both
-// loops at once.
+// loops at once. After each straight row it peeks at the next.
 pub fn run_rows(
     table: &[u16],
     rows: usize,
@@ -371,7 +446,7 @@ pub fn run_rows(
                 copied,
                 place,
             ) {
-                Acted::On(next) => place = next,
+                Acted::On(next, ahead) => place = peek(table, rows, store, ahead, next),
                 Acted::Block => break,
                 Acted::Stopped => {
                     let at = place.at;

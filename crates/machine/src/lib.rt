@@ -71,9 +71,24 @@ enum Met {
     Other(RowWords, Place),
 }
 
-// What a straight row comes to: the place after it. `Block` is the answer where no straight row stands, `Spent` where no step is left for it.
+// The row that is expected after one that was done: a clear after a copy, a sum after a product. A runner may look there for it first: this spares
+// it the choice among all kinds. The expectation says nothing of the row that stands there.
+enum Ahead {
+    Any,
+    Clear,
+    Sum,
+}
+
+// What stands where a row of one kind is expected: it, with the place after it, or that it isn't there or has no step left.
+enum Expected {
+    Met(RowWords, Place),
+    Missed,
+}
+
+// What a straight row comes to: the place after it, with what is expected there. `Block` is the answer where no straight row stands, `Spent` where no
+// step is left for it.
 enum Acted {
-    On(Place),
+    On(Place, Ahead),
     Block,
     Stopped,
     Stuck,

@@ -2,6 +2,7 @@
 ghost use mathlib.Core.Path.{_≡_};
 ghost use Rattle.machine.specs.inner.RowSteps.{wentTo, didTo, valuesTo, turnsTo, firstPlace, leftAt, following, moved, within, raised};
 use super::Acted;
+use super::Ahead;
 use super::Did;
 use super::Ended;
 use super::Moved;
@@ -14,16 +15,16 @@ pub fn went_to(went: Went, next: Place) -> Acted
     ensures { λ r. ⌜ r ≡ wentTo went next ⌝ }
 {
     match went {
-        Went::On => Acted::On(next),
+        Went::On => Acted::On(next, Ahead::Any),
         Went::Stuck => Acted::Stuck,
     }
 }
 
-pub fn did_to(did: Did, next: Place) -> Acted
-    ensures { λ r. ⌜ r ≡ didTo did next ⌝ }
+pub fn did_to(did: Did, next: Place, ahead: Ahead) -> Acted
+    ensures { λ r. ⌜ r ≡ didTo did next ahead ⌝ }
 {
     match did {
-        Did::On => Acted::On(next),
+        Did::On => Acted::On(next, ahead),
         Did::Stopped => Acted::Stopped,
     }
 }
@@ -33,7 +34,7 @@ pub fn values_to(moved: Moved, next: Place) -> Acted
     ensures { λ r. ⌜ r ≡ valuesTo moved next ⌝ }
 {
     match moved {
-        Moved::To(height) => Acted::On(raised(next, height, next.turns)),
+        Moved::To(height) => Acted::On(raised(next, height, next.turns), Ahead::Any),
         Moved::Stuck => Acted::Stuck,
     }
 }
@@ -43,7 +44,7 @@ pub fn turns_to(moved: Moved, next: Place) -> Acted
     ensures { λ r. ⌜ r ≡ turnsTo moved next ⌝ }
 {
     match moved {
-        Moved::To(height) => Acted::On(raised(next, next.values, height)),
+        Moved::To(height) => Acted::On(raised(next, next.values, height), Ahead::Any),
         Moved::Stuck => Acted::Stuck,
     }
 }

@@ -356,7 +356,7 @@ pub fn run_rows(
                 copied,
                 place,
             ) {
-                Acted::On(next) => place = next,
+                Acted::On(next, _) => place = next,
                 Acted::Block => break,
                 Acted::Stopped => {
                     let at = place.at;

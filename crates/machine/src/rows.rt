@@ -6,8 +6,9 @@ ghost use Rattle.sheet.specs.Bounds.{limit};
 ghost use Rattle.sheet.specs.Reading.{rowAt};
 ghost use Rattle.sheet.specs.Answers.{rowSaid};
 ghost use Rattle.machine.specs.inner.Runnable.{placeOfRow};
-ghost use Rattle.machine.specs.inner.RowSteps.{Meets};
+ghost use Rattle.machine.specs.inner.RowSteps.{Meets, MeetsKind};
 use super::Ended;
+use super::Expected;
 use super::Met;
 use super::Place;
 use super::places::following;
@@ -47,4 +48,26 @@ pub fn block_at(table: &[u16], rows: usize, place: Place) -> Met
         return Met::Compare(Variable(a), Variable(b), next);
     }
     Met::Other(row, next)
+}
+
+// The row at a place if it is of this kind and a step is left for it.
+pub fn kind_at(table: &[u16], rows: usize, place: Place, kind: u16) -> Expected
+    requires { ⌜ placeOfRow rows ≤ length (now table) ⌝ }
+    ensures { λ r. ⌜ MeetsKind (now (table .entry)) rows place kind r ⌝ }
+{
+    let at = place.at;
+    let number = at.0;
+    let left = place.left;
+    if left == 0 {
+        return Expected::Missed;
+    }
+    if rows <= number {
+        return Expected::Missed;
+    }
+    let row = row_of(table, at);
+    if row.kind != kind {
+        return Expected::Missed;
+    }
+    let after = RowNumber(number + 1);
+    Expected::Met(row, following(place, after, left - 1))
 }

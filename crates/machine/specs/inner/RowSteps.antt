@@ -31,6 +31,10 @@ use Rattle.machine.specs.declared.Branch.{Branch}
 use Rattle.machine.specs.declared.Branch.the-variants as branch-as
 use Rattle.machine.specs.declared.Branched.{Branched}
 use Rattle.machine.specs.declared.Branched.the-variants as branched-as
+use Rattle.machine.specs.declared.Ahead.{Ahead}
+use Rattle.machine.specs.declared.Ahead.the-variants as ahead-as
+use Rattle.machine.specs.declared.Expected.{Expected}
+use Rattle.machine.specs.declared.Expected.the-variants as expected-as
 use Rattle.machine.specs.declared.Acted.{Acted}
 use Rattle.machine.specs.declared.Acted.the-variants as acted
 use Rattle.machine.specs.declared.Crossed.{Crossed}
@@ -81,31 +85,32 @@ following place at left = record { at = record { 0 = at }; depth = place .depth;
 abbrev pub preceding : Place → (at : ℕ) → Place
 preceding next at = record { at = record { 0 = at }; depth = next .depth; values = next .values; turns = next .turns; left = suc (next .left) }
 
+-- The row that an answer lets expect says nothing of the row that stands there: it tells a runner where to look first.
 abbrev pub wentTo : Went → Place → Acted
-wentTo went-as.On place = acted.On place
+wentTo went-as.On place = acted.On place ahead-as.Any
 wentTo went-as.Stuck place = acted.Stuck
 
-abbrev pub didTo : Did → Place → Acted
-didTo did-as.On place = acted.On place
-didTo did-as.Stopped place = acted.Stopped
+abbrev pub didTo : Did → Place → Ahead → Acted
+didTo did-as.On place ahead = acted.On place ahead
+didTo did-as.Stopped place ahead = acted.Stopped
 
 abbrev pub valuesTo : Moved → Place → Acted
-valuesTo (moved-as.To height) place = acted.On (raised place height (place .turns))
+valuesTo (moved-as.To height) place = acted.On (raised place height (place .turns)) ahead-as.Any
 valuesTo moved-as.Stuck place = acted.Stuck
 
 abbrev pub turnsTo : Moved → Place → Acted
-turnsTo (moved-as.To height) place = acted.On (raised place (place .values) height)
+turnsTo (moved-as.To height) place = acted.On (raised place (place .values) height) ahead-as.Any
 turnsTo moved-as.Stuck place = acted.Stuck
 
 -- the answer to an attempt that leads to a place
-abbrev pub actedBy : {Why : Type 0} → Attempt Why (Unit {0}) → Place → Acted
-actedBy (through u) place = acted.On place
-actedBy (halted why) place = acted.Stopped
-actedBy stuck place = acted.Stuck
+abbrev pub actedBy : {Why : Type 0} → Attempt Why (Unit {0}) → Place → Ahead → Acted
+actedBy (through u) place ahead = acted.On place ahead
+actedBy (halted why) place ahead = acted.Stopped
+actedBy stuck place ahead = acted.Stuck
 
 -- how many steps are left where the row goes on, whatever it does
 abbrev pub ActedLeft : (left : ℕ) → Acted → Type 0
-ActedLeft left (acted.On next) = suc (next .left) ≡ left
+ActedLeft left (acted.On next ahead) = suc (next .left) ≡ left
 ActedLeft left acted.Block = Unit {0}
 ActedLeft left acted.Stopped = Unit {0}
 ActedLeft left acted.Stuck = Unit {0}
@@ -150,6 +155,11 @@ Meets table rows place (met-as.Out ended-as.Stuck) = ⊥
 Meets table rows place (met-as.Out ended-as.Unfinished) = place .left ≡ 0
 Meets table rows place (met-as.Compare a b next) = MeetsCompare table rows place (a .0) (b .0) next
 Meets table rows place (met-as.Other row next) = MeetsRow table rows place (rowSaid row) next × (row .kind ≢ 7)
+
+-- the row that is expected there
+abbrev pub MeetsKind : (table : List ℕ) → (rows : ℕ) → Place → (kind : ℕ) → Expected → Type 0
+MeetsKind table rows place kind (expected-as.Met row next) = MeetsRow table rows place (rowSaid row) next × (row .kind ≡ kind)
+MeetsKind table rows place kind expected-as.Missed = Unit {0}
 
 -- ---- rows of blocks, in either arithmetic
 
@@ -221,7 +231,8 @@ module _ (A : Arithmetic) where
     pub height : ℕ
     pub turnHeight : ℕ
     pub held : List (A .Carrier)
-    pub answers : answer ≡ actedBy went (raised next height turnHeight)
+    pub ahead : Ahead
+    pub answers : answer ≡ actedBy went (raised next height turnHeight) ahead
     pub does : Does A setting action (buffersAt next before former) (buffersAt (raised next height turnHeight) after held) went
     pub copies : CopiesOn former before held after
 
@@ -264,7 +275,7 @@ module _ (A : Arithmetic) where
   -- What an answer says of the machine's step. A row that is none of the straight ones is left alone.
   abbrev pub ActedSays : Setting A → List TableLine → Place → List Repeat → (before after : Cells A) → (former held : List (A .Carrier))
       → Step A → Acted → Type 0
-  ActedSays setting lines place repeats before after former held found (acted.On next) =
+  ActedSays setting lines place repeats before after former held found (acted.On next ahead) =
       (next .depth ≡ place .depth) × GoesTo setting place next repeats after held found
   ActedSays setting lines place repeats before after former held found acted.Block =
       NoneStraight (place .at .0) lines × (after ≡ before) × (held ≡ former)
@@ -291,6 +302,13 @@ module _ (A : Arithmetic) where
         → RoundSizes A roles seeds (before .store) (before .copied)
         → Sound A setting (buffersAt place before former)
         → StepsStraight setting lines place repeats before after former answer
+
+  -- Peeking at a place: nothing is done, or the straight row that stands there, which goes on and changes the variables alone.
+  pub record Peeks (table : List ℕ) (rows : ℕ) (place : Place) (store storeAfter : List (A .Carrier)) (answer : Place) : Type 0 where
+    pub peeks : (roles constants : List ℕ) (seeds values : List (A .Carrier)) (turns : List ℕ) (copied : List (A .Carrier))
+        → ((answer ≡ place) × (storeAfter ≡ store))
+        ⊎ StraightRow table rows roles constants seeds place (cellsOf A store values turns copied) (cellsOf A storeAfter values turns copied)
+        (acted.On answer ahead-as.Any)
 
   -- a row of a block goes on with the repeats that are then open
   pub record CrossesTo (setting : Setting A) (place next : Place) (bodies toCome : List ℕ) (after : Cells A) (held : List (A .Carrier)) (found : Step A)

@@ -27,6 +27,11 @@ pub record Indexed (buffer : List ℕ) (count variables constants : ℕ) : Type 
   pub within : placeOfRow count ≤ length buffer
   pub named : (p : ℕ) → p < count → Named variables constants (actionOf (rowAt buffer (1 + p * limit .rowWords)))
 
+-- the same, however many constants are there
+pub record Indexes (buffer : List ℕ) (count variables : ℕ) : Type 0 where
+  pub constants : ℕ
+  pub indexed : Indexed buffer count variables constants
+
 -- how far a search goes, and that a list of rows names the row there
 pub record Reached (found : Option ℕ) (from to : ℕ) : Type 0 where
   pub far : ℕ

@@ -1,6 +1,7 @@
 -- `machine::doubles::act` meets its contract: one law for each kind of row.
 use mathlib.Core.Path.{refl}
 use borrow.Author.Needs.{needs}
+use Rattle.machine.specs.declared.Ahead.the-variants as ahead
 use Rattle.machine.proofs.LineLaws.{says-copy, says-constant, says-sum, says-difference, says-product, says-negation, says-none}
 use Rattle.machine.proofs.LineLaws.{names-copy, names-constant, names-sum, names-difference, names-product, names-negation, names-save, names-take-back, names-clear}
 use Rattle.machine.proofs.StraightLaws.{none-acts, saved, taken-back, turn-saved, cleared, turned-round, assigned-double}
@@ -123,7 +124,7 @@ same-length c = search needs
 
 returns : tie.Need-returns
 returns c =
-    assigned-double (c .before .before .before .assign .result) (says-copy _ (c .before .before .before .before .before .before .before .match .keys1)) (c .did-to .ensures)
+    assigned-double (c .before .before .before .assign .result) ahead.Clear (says-copy _ (c .before .before .before .before .before .before .before .match .keys1)) (c .did-to .ensures)
     (c .before .before .before .before .copy-of .ensures _) (c .before .before .before .assign .ensures)
 
 same-length-2 : tie.Need-same-length-2
@@ -131,7 +132,7 @@ same-length-2 c = search needs
 
 returns-2 : tie.Need-returns-2
 returns-2 c =
-    assigned-double (c .before .before .before .assign2 .result) (says-constant _ (c .before .before .before .before .before .before .match .keys2)) (c .did-to2 .ensures)
+    assigned-double (c .before .before .before .assign2 .result) ahead.Any (says-constant _ (c .before .before .before .before .before .before .match .keys2)) (c .did-to2 .ensures)
     (c .before .before .before .before .fixed .ensures _) (c .before .before .before .assign2 .ensures)
 
 same-length-3 : tie.Need-same-length-3
@@ -139,7 +140,7 @@ same-length-3 c = search needs
 
 returns-3 : tie.Need-returns-3
 returns-3 c =
-    assigned-double (c .before .before .before .assign3 .result) (says-sum _ (c .before .before .before .before .before .before .before .match .keys3)) (c .did-to3 .ensures)
+    assigned-double (c .before .before .before .assign3 .result) ahead.Any (says-sum _ (c .before .before .before .before .before .before .before .match .keys3)) (c .did-to3 .ensures)
     (c .before .before .before .before .added .ensures _) (c .before .before .before .assign3 .ensures)
 
 same-length-4 : tie.Need-same-length-4
@@ -147,7 +148,7 @@ same-length-4 c = search needs
 
 returns-4 : tie.Need-returns-4
 returns-4 c =
-    assigned-double (c .before .before .before .assign4 .result) (says-difference _ (c .before .before .before .before .before .before .before .match .keys4)) (c .did-to4 .ensures)
+    assigned-double (c .before .before .before .assign4 .result) ahead.Any (says-difference _ (c .before .before .before .before .before .before .before .match .keys4)) (c .did-to4 .ensures)
     (c .before .before .before .before .subtracted .ensures _) (c .before .before .before .assign4 .ensures)
 
 same-length-5 : tie.Need-same-length-5
@@ -155,7 +156,7 @@ same-length-5 c = search needs
 
 returns-5 : tie.Need-returns-5
 returns-5 c =
-    assigned-double (c .before .before .before .assign5 .result) (says-product _ (c .before .before .before .before .before .before .before .match .keys5)) (c .did-to5 .ensures)
+    assigned-double (c .before .before .before .assign5 .result) ahead.Sum (says-product _ (c .before .before .before .before .before .before .before .match .keys5)) (c .did-to5 .ensures)
     (c .before .before .before .before .multiplied .ensures _) (c .before .before .before .assign5 .ensures)
 
 same-length-6 : tie.Need-same-length-6
@@ -163,7 +164,7 @@ same-length-6 c = search needs
 
 returns-6 : tie.Need-returns-6
 returns-6 c =
-    assigned-double (c .before .before .before .assign6 .result) (says-negation _ (c .before .before .before .before .before .before .before .match .keys6)) (c .did-to6 .ensures)
+    assigned-double (c .before .before .before .assign6 .result) ahead.Any (says-negation _ (c .before .before .before .before .before .before .before .match .keys6)) (c .did-to6 .ensures)
     (c .before .before .before .before .negated .ensures _) (c .before .before .before .assign6 .ensures)
 
 same-length-7 : tie.Need-same-length-7

@@ -1,9 +1,11 @@
 -- `machine::doubles::run_rows` meets its contract: the run stands in the machine's state after its steps so far at every place on the way.
 use mathlib.Core.Path.{refl, _∙_}
+use native.Mathlib.Omega.{arith}
 use borrow.Author.Needs.{needs}
 use Rattle.number.specs.Doubles.{doubles}
 use Rattle.machine.specs.inner.Buffers.{cellsOf}
-use Rattle.machine.proofs.RunLaws.{still-indexed, Invariant, Inner, run-starts, inner-starts, straight-fewer, inner-goes, straight-stops, straight-sticks, straight-spent, block-fewer, block-goes, block-ends}
+use Rattle.machine.proofs.PeekLaws.{peek-fewer}
+use Rattle.machine.proofs.RunLaws.{still-indexed, Invariant, Inner, run-starts, inner-starts, straight-fewer, inner-goes, inner-peeks, straight-stops, straight-sticks, straight-spent, block-fewer, block-goes, block-ends}
 use Rattle.machine.proofs.doubles.run_rows.Statement.{statement}
 use Rattle.machine.proofs.doubles.run_rows.Tie as tie
 use Rattle.machine.proofs.doubles.run_rows.Reads as reads
@@ -11,6 +13,7 @@ use Rattle.machine.proofs.doubles.run_rows.Lts as lts
 use Rattle.machine.proofs.places.first_place.Reads as first-place-reads
 use Rattle.machine.proofs.places.left_at.Reads as left-at-reads
 use Rattle.machine.proofs.doubles.straight_row.Reads as straight-row-reads
+use Rattle.machine.proofs.doubles.peek.Reads as peek-reads
 use Rattle.machine.proofs.doubles.block_row.Reads as block-row-reads
 
 abbrev Inv-loop : tie.InvT-loop
@@ -50,6 +53,8 @@ Answered =
       first-place-reads.Learnt,
       straight-row-reads.Asked,
       straight-row-reads.Learnt,
+      peek-reads.Asked,
+      peek-reads.Learnt,
       left-at-reads.Asked,
       left-at-reads.Learnt,
       block-row-reads.Asked,
@@ -79,11 +84,39 @@ straight-row-requires c κs =
 enum-known-next : tie.Need-enum-known-next Inv-loop μ-loop Inv-run μ-run
 enum-known-next c = search needs
 
+peek-requires : tie.Need-peek-requires Inv-loop μ-loop Inv-run μ-run
+peek-requires c κs =
+    let a : Answered = search in
+    let inner = a .before .before .before .before .before in
+    record {
+      constants = _;
+      indexed = still-indexed (a .straight-row .kept .1 .1 .1 .1 .1 .0 ∙ inner .loop .inv .lengths .store ∙ inner .before .run .inv .lengths .store)
+          (inner .before .before .before .before .before .before .before .before .before .before .before .before .pre .0);
+    }
+
 loop-less : tie.Need-loop-less Inv-loop μ-loop Inv-run μ-run
-loop-less c = search (straight-fewer, needs)
+loop-less c =
+    let a : Answered = search in
+    let inner = a .before .before .before .before .before in
+    omega (
+      arith,
+      straight-fewer _ (inner .loop .inv) (a .straight-row .ensures) (c .before .before .before .before .before .next .given .1),
+      peek-fewer (c .before .before .peek .ensures),
+    )
 
 loop-again : tie.Need-loop-again Inv-loop μ-loop Inv-run μ-run
-loop-again c = search (inner-goes, needs)
+loop-again c =
+    let a : Answered = search in
+    let inner = a .before .before .before .before .before in
+    inner-peeks _ (c .before .before .peek .ensures)
+    (inner-goes _ (inner .loop .inv) (a .straight-row .ensures) (c .before .before .before .before .before .next .given .1)
+    (record {
+      store = a .straight-row .kept .1 .1 .1 .1 .1 .0;
+      values = a .straight-row .kept .1 .1 .1 .1 .1 .1 .0;
+      turns = a .straight-row .kept .1 .1 .1 .1 .1 .1 .1 .0;
+      copied = a .straight-row .kept .1 .1 .1 .1 .1 .1 .1 .1 .0;
+    }))
+    (c .before .before .peek .kept .1 .1 .0)
 
 enum-told : tie.Need-enum-told Inv-loop μ-loop Inv-run μ-run
 enum-told c = search needs
@@ -235,6 +268,7 @@ run-rows-spec =
     loop-holds
     straight-row-requires
     enum-known-next
+    peek-requires
     loop-less
     loop-again
     enum-told

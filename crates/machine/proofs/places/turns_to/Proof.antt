@@ -1,6 +1,8 @@
 -- `machine::places::turns_to` meets its contract.
 use mathlib.Core.Path.{ap}
+use Rattle.machine.specs.declared.Place.{Place}
 use Rattle.machine.specs.declared.Acted.the-variants as acted
+use Rattle.machine.specs.declared.Ahead.the-variants as ahead
 use borrow.Author.Needs.{needs}
 use Rattle.machine.proofs.places.turns_to.Statement.{statement}
 use Rattle.machine.proofs.places.turns_to.Tie as tie
@@ -15,7 +17,7 @@ enum-told : tie.Need-enum-told
 enum-told c = search needs
 
 returns : tie.Need-returns
-returns c = rw (c .before .before .moved .given .1) (ap acted.On (c .raised .ensures))
+returns c = rw (c .before .before .moved .given .1) (ap (λ (p : Place). acted.On p ahead.Any) (c .raised .ensures))
 
 returns-2 : tie.Need-returns-2
 returns-2 c = search needs

@@ -1,0 +1,103 @@
+-- Peeking at the row after a straight one: it is not the one that was expected, and nothing is done, or it is, and its step is taken.
+use Prim.Native.Nat.{ℕ, _≤_, _<_}
+use mathlib.Core.Path.{_≡_, refl}
+use mathlib.Core.Logic.{_⊎_, inl, inr}
+use mathlib.Core.List.{List, []}
+use native.Mathlib.Omega.{arith}
+use lib.ListN.{length, set}
+use lib.Ieee.{Float}
+use Rattle.number.specs.Arithmetic.{Arithmetic}
+use Rattle.number.specs.Doubles.{doubles}
+use Rattle.number.specs.Answers.{outcomeOf}
+use Rattle.number.specs.declared.Outcome.{Outcome}
+use Rattle.number.specs.declared.Outcome.the-variants as outcome
+use Rattle.sheet.specs.Rows.{Row, sum}
+use Rattle.sheet.specs.Answers.{rowSaid}
+use Rattle.sheet.specs.declared.RowWords.{RowWords}
+use Rattle.machine.specs.Attempts.{through, fromOutcome}
+use Rattle.machine.specs.inner.Buffers.{cellsOf, Evaluates}
+use Rattle.machine.specs.inner.RowWords.{actionOf, Named}
+use Rattle.machine.specs.inner.Runnable.{Indexes}
+use Rattle.machine.specs.inner.RowSteps.{MeetsRow, MeetsKind, ActsBy, StraightRow, Peeks}
+use Rattle.machine.specs.declared.Place.{Place}
+use Rattle.machine.specs.declared.Ahead.the-variants as ahead
+use Rattle.machine.specs.declared.Acted.the-variants as acted
+use Rattle.machine.specs.declared.Expected.{Expected}
+use Rattle.machine.specs.declared.Expected.the-variants as expected
+use Rattle.machine.proofs.LineLaws.{says-sum, names-sum, names-clear}
+use Rattle.machine.proofs.RowLaws.{assign-goes, clear-goes}
+use Rattle.machine.proofs.StraightLaws.{straight-acts, cleared, assigned}
+
+module _ {A : Arithmetic} {table : List ℕ} {rows : ℕ} {place : Place} {store : List (A .Carrier)} where
+  pub peeks-nothing : Peeks A table rows place store store place
+  peeks-nothing = record { peeks = λ roles constants seeds values turns copied. inl (refl, refl) }
+
+  peeks-on : {words : Row} {next : Place} {storeAfter : List (A .Carrier)} → MeetsRow table rows place words next
+      → ((roles constants : List ℕ) (seeds values : List (A .Carrier)) (turns : List ℕ) (copied : List (A .Carrier))
+      → ActsBy A words roles constants seeds next (cellsOf A store values turns copied) (cellsOf A storeAfter values turns copied)
+      (acted.On next ahead.Any))
+      → Peeks A table rows place store storeAfter next
+  peeks-on meets acts =
+      record {
+        peeks = λ roles constants seeds values turns copied.
+            inr
+            (straight-acts (meets .follows .spends) (meets .within) (meets .said) (meets .follows .is)
+            (acts roles constants seeds values turns copied));
+      }
+
+-- no step more is left after it, whatever was done
+pub peek-fewer : {A : Arithmetic} {table : List ℕ} {rows : ℕ} {place answer : Place} {store storeAfter : List (A .Carrier)}
+    → Peeks A table rows place store storeAfter answer
+    → answer .left ≤ place .left
+peek-fewer {A} {table} {rows} {place} {answer} {store} {storeAfter} peek = by-row (peek .peeks [] [] [] [] [] [])
+  where
+    by-row : ((answer ≡ place) × (storeAfter ≡ store))
+        ⊎ StraightRow A table rows [] [] [] place (cellsOf A store [] [] []) (cellsOf A storeAfter [] [] []) (acted.On answer ahead.Any)
+        → answer .left ≤ place .left
+    by-row (inl (is, same)) = rw is (omega arith)
+    by-row (inr straight) = omega (arith, straight .left)
+
+-- the row that was met names only variables that are there
+named-there : {table : List ℕ} {rows v : ℕ} {place next : Place} {words : Row} (indexes : Indexes table rows v) → MeetsRow table rows place words next
+    → Named v (indexes .constants) (actionOf words)
+named-there indexes meets = rw (meets .said) (indexes .indexed .named _ (meets .within))
+
+module _ {table : List ℕ} {rows : ℕ} (place : Place) {next : Place} {row : RowWords} {found : Expected} {v : ℕ} (is : found ≡ expected.Met row next)
+    (indexes : Indexes table rows v) where
+  pub clear-there : MeetsKind table rows place 16 found → row .d < v
+  clear-there meets =
+      let (met, kind) = rw is at meets in
+      names-clear (rowSaid row) (named-there indexes met) kind
+
+  pub sum-there : MeetsKind table rows place 3 found → (row .d < v) × ((row .a < v) × (row .b < v))
+  sum-there meets =
+      let (met, kind) = rw is at meets in
+      names-sum (rowSaid row) (named-there indexes met) kind
+
+module _ {A : Arithmetic} {table : List ℕ} {rows : ℕ} {place next : Place} {row : RowWords} {found : Expected} {store : List (A .Carrier)}
+    (is : found ≡ expected.Met row next)
+    (indexes : Indexes table rows (length store)) where
+  pub peeks-clear : {zero : A .Carrier} → MeetsKind table rows place 16 found → zero ≡ A .zero
+      → Peeks A table rows place store (set store (row .d) zero) next
+  peeks-clear meets zeroed =
+      let (met, kind) = rw is at meets in
+      let there = clear-there place is indexes meets in
+      peeks-on met (λ roles constants seeds values turns copied. cleared kind refl (clear-goes zeroed there))
+
+  peeks-sum : {x : A .Carrier} → MeetsKind table rows place 3 found → Evaluates A (sum (row .a) (row .b)) store (through x)
+      → Peeks A table rows place store (set store (row .d) x) next
+  peeks-sum meets sums =
+      let (met, kind) = rw is at meets in
+      let there = sum-there place is indexes meets .0 in
+      peeks-on met
+      (λ roles constants seeds values turns copied. assigned ahead.Any (says-sum (rowSaid row) kind) refl (sums constants) (assign-goes there))
+
+-- a sum by what its code answers in doubles
+pub peeks-double-sum : {table : List ℕ} {rows : ℕ} {place next : Place} {row : RowWords} {found : Expected} {store : List Float} {result : Outcome} {x : Float}
+    → found ≡ expected.Met row next
+    → Indexes table rows (length store)
+    → MeetsKind table rows place 3 found
+    → Evaluates doubles (sum (row .a) (row .b)) store (fromOutcome (outcomeOf result))
+    → result ≡ outcome.Value x
+    → Peeks doubles table rows place store (set store (row .d) x) next
+peeks-double-sum is indexes meets sums value = peeks-sum is indexes meets (rw value at sums)
