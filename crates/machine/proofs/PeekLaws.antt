@@ -28,6 +28,8 @@ use Rattle.machine.proofs.LineLaws.{says-sum, names-sum, names-clear}
 use Rattle.machine.proofs.RowLaws.{assign-goes, clear-goes}
 use Rattle.machine.proofs.StraightLaws.{straight-acts, cleared, assigned}
 
+-- ---- nothing, or a row whose code goes on
+
 module _ {A : Arithmetic} {table : List ℕ} {rows : ℕ} {place : Place} {store : List (A .Carrier)} where
   pub peeks-nothing : Peeks A table rows place store store place
   peeks-nothing = record { peeks = λ roles constants seeds values turns copied. inl (refl, refl) }
@@ -57,7 +59,8 @@ peek-fewer {A} {table} {rows} {place} {answer} {store} {storeAfter} peek = by-ro
     by-row (inl (is, same)) = rw is (omega arith)
     by-row (inr straight) = omega (arith, straight .left)
 
--- the row that was met names only variables that are there
+-- ---- the row that was met names only variables that are there
+
 named-there : {table : List ℕ} {rows v : ℕ} {place next : Place} {words : Row} (indexes : Indexes table rows v) → MeetsRow table rows place words next
     → Named v (indexes .constants) (actionOf words)
 named-there indexes meets = rw (meets .said) (indexes .indexed .named _ (meets .within))
@@ -73,6 +76,8 @@ module _ {table : List ℕ} {rows : ℕ} (place : Place) {next : Place} {row : R
   sum-there meets =
       let (met, kind) = rw is at meets in
       names-sum (rowSaid row) (named-there indexes met) kind
+
+-- ---- the step of a clear and of a sum
 
 module _ {A : Arithmetic} {table : List ℕ} {rows : ℕ} {place next : Place} {row : RowWords} {found : Expected} {store : List (A .Carrier)}
     (is : found ≡ expected.Met row next)
@@ -92,7 +97,7 @@ module _ {A : Arithmetic} {table : List ℕ} {rows : ℕ} {place next : Place} {
       peeks-on met
       (λ roles constants seeds values turns copied. assigned ahead.Any (says-sum (rowSaid row) kind) refl (sums constants) (assign-goes there))
 
--- a sum by what its code answers in doubles
+-- by what a sum's code answers in doubles
 pub peeks-double-sum : {table : List ℕ} {rows : ℕ} {place next : Place} {row : RowWords} {found : Expected} {store : List Float} {result : Outcome} {x : Float}
     → found ≡ expected.Met row next
     → Indexes table rows (length store)

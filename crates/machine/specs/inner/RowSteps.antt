@@ -85,7 +85,7 @@ following place at left = record { at = record { 0 = at }; depth = place .depth;
 abbrev pub preceding : Place → (at : ℕ) → Place
 preceding next at = record { at = record { 0 = at }; depth = next .depth; values = next .values; turns = next .turns; left = suc (next .left) }
 
--- The row that an answer lets expect says nothing of the row that stands there: it tells a runner where to look first.
+-- What an answer lets expect at the next place says nothing of the row there: it tells a runner what to look for first, and means nothing to the machine.
 abbrev pub wentTo : Went → Place → Acted
 wentTo went-as.On place = acted.On place ahead-as.Any
 wentTo went-as.Stuck place = acted.Stuck
@@ -156,7 +156,7 @@ Meets table rows place (met-as.Out ended-as.Unfinished) = place .left ≡ 0
 Meets table rows place (met-as.Compare a b next) = MeetsCompare table rows place (a .0) (b .0) next
 Meets table rows place (met-as.Other row next) = MeetsRow table rows place (rowSaid row) next × (row .kind ≢ 7)
 
--- the row that is expected there
+-- a row of the kind that is expected there
 abbrev pub MeetsKind : (table : List ℕ) → (rows : ℕ) → Place → (kind : ℕ) → Expected → Type 0
 MeetsKind table rows place kind (expected-as.Met row next) = MeetsRow table rows place (rowSaid row) next × (row .kind ≡ kind)
 MeetsKind table rows place kind expected-as.Missed = Unit {0}

@@ -21,15 +21,16 @@ mul-store c = search needs
 
 slice-write-store : tie.Need-slice-write-store
 slice-write-store c =
-    clear-there _ (c .before .before .before .row .given .1) (c .before .before .before .before .before .before .before .before .pre) (c .before .before .before .before .before .kind-at .ensures)
+    let met = c .before .before .before in
+    clear-there _ (met .row .given .1) (met .before .before .before .before .before .pre) (met .before .before .kind-at .ensures)
 
 same-length : tie.Need-same-length
 same-length c = search needs
 
 returns : tie.Need-returns
 returns c =
-    peeks-clear (c .before .before .before .row .given .1) (c .before .before .before .before .before .before .before .before .pre) (c .before .before .before .before .before .kind-at .ensures)
-    (c .zero .ensures)
+    let met = c .before .before .before in
+    peeks-clear (met .row .given .1) (met .before .before .before .before .before .pre) (met .before .before .kind-at .ensures) (c .zero .ensures)
 
 enum-told : tie.Need-enum-told
 enum-told c = search needs

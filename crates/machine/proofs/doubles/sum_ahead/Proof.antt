@@ -27,7 +27,8 @@ cast-b c = search needs
 
 added-requires : tie.Need-added-requires
 added-requires c κs =
-    sum-there _ (c .before .before .before .before .before .row .given .1) (c .before .before .before .before .before .before .before .before .before .before .pre) (c .before .before .before .before .before .before .before .kind-at .ensures) .1
+    let met = c .before .before .before .before .before in
+    sum-there _ (met .row .given .1) (met .before .before .before .before .before .pre) (met .before .before .kind-at .ensures) .1
 
 enum-known-x : tie.Need-enum-known-x
 enum-known-x c = search needs
