@@ -1,55 +1,53 @@
 // The row machine's code, in both arithmetics: each single row, held against its written meaning (specs/Actions.antt), and a run of a table's
 // rows, held against the machine's steps (specs/Machine.antt).
 // No row's contract asks that a place be there: where it isn't, the answer is Stuck.
-mod blocks;
-pub mod doubles;
-mod places;
-pub mod residues;
-mod rows;
-mod turns;
+pub mod blocks;
+pub mod places;
+pub mod rows;
+pub mod turns;
 
 use sheet::RowNumber;
 use sheet::RowWords;
 use sheet::Variable;
 
 // Both operands of a comparison, where the variables have them.
-enum ResiduePair {
+pub enum ResiduePair {
     Are(u32, u32),
     Missing,
 }
 
-enum DoublePair {
+pub enum DoublePair {
     Are(f64, f64),
     Missing,
 }
 
 // What a row comes to that no arithmetic can stop.
-enum Went {
+pub enum Went {
     On,
     Stuck,
 }
 
 // What an assignment in doubles comes to.
-enum Did {
+pub enum Did {
     On,
     Stopped,
 }
 
 // What a row comes to that moves a stack: its new height.
-enum Moved {
+pub enum Moved {
     To(usize),
     Stuck,
 }
 
 // The branch that a test picks.
-enum Branch {
+pub enum Branch {
     First,
     Second,
     Stuck,
 }
 
 // The branch that a turn taken back picks, with the turn stack's new height.
-enum Branched {
+pub enum Branched {
     First(usize),
     Second(usize),
     Stuck,
@@ -65,7 +63,7 @@ pub struct Place {
 }
 
 // What the outer loop meets at a place: the run's end, a comparison, or another row, each row with the place after it.
-enum Met {
+pub enum Met {
     Out(Ended),
     Compare(Variable, Variable, Place),
     Other(RowWords, Place),
@@ -73,21 +71,21 @@ enum Met {
 
 // The row that is expected after one that was done: a clear after a copy, a sum after a product. A runner may look there for it first: this spares
 // it the choice among all kinds. The expectation says nothing of the row that stands there.
-enum Ahead {
+pub enum Ahead {
     Any,
     Clear,
     Sum,
 }
 
 // What stands where a row of one kind is expected: it, with the place after it, or that it isn't there or has no step left.
-enum Expected {
+pub enum Expected {
     Met(RowWords, Place),
     Missed,
 }
 
 // What a straight row comes to: the place after it, with what is expected there. `Block` is the answer where no straight row stands, `Spent` where no
 // step is left for it.
-enum Acted {
+pub enum Acted {
     On(Place, Ahead),
     Block,
     Stopped,
@@ -96,7 +94,7 @@ enum Acted {
 }
 
 // What a row of a block comes to: the place after it, or the end of the run.
-enum Crossed {
+pub enum Crossed {
     On(Place),
     Out(Ended),
 }

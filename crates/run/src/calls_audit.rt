@@ -15,7 +15,6 @@ use super::Rooms;
 use super::buffers;
 use super::refusals;
 use machine::Ended;
-use machine::residues;
 use sheet::MAX_DEPTH;
 use sheet::MAX_ROWS;
 use sheet::MAX_VARIABLES;
@@ -69,7 +68,7 @@ fn run_in(
     clear_stacks(values, turns);
     let mut bodies = [0usize; MAX_DEPTH];
     let mut to_come = [0u16; MAX_DEPTH];
-    let ran = residues::run_rows(
+    let ran = residue_rows::run_rows(
         table,
         rows,
         beyond,

@@ -16,7 +16,6 @@ use super::Rooms;
 use super::buffers;
 use super::refusals;
 use machine::Ended;
-use machine::doubles;
 use sheet::MAX_DEPTH;
 use sheet::MAX_ROWS;
 use sheet::MAX_VARIABLES;
@@ -70,7 +69,7 @@ fn run_in(
     clear_stacks(values, turns);
     let mut bodies = [0usize; MAX_DEPTH];
     let mut to_come = [0u16; MAX_DEPTH];
-    let ran = doubles::run_rows(
+    let ran = double_rows::run_rows(
         table,
         rows,
         beyond,

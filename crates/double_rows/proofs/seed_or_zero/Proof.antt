@@ -1,0 +1,20 @@
+-- `double_rows::seed_or_zero` meets its contract.
+use mathlib.Core.Path.{sym, _∙_}
+use borrow.Author.Needs.{needs}
+use Rattle.double_rows.proofs.seed_or_zero.Statement.{statement}
+use Rattle.double_rows.proofs.seed_or_zero.Tie as tie
+
+is-dependent-requires : tie.Need-is-dependent-requires
+is-dependent-requires c κs = search needs
+
+zero-requires : tie.Need-zero-requires
+zero-requires c κs = search needs
+
+returns : tie.Need-returns
+returns c = rw (sym (c .before .is-dependent .ensures) ∙ c .if1 .taken)
+
+returns-2 : tie.Need-returns-2
+returns-2 c = rw (sym (c .before .before .is-dependent .ensures) ∙ c .before .if1 .left) (c .zero .ensures)
+
+pub seed-or-zero-spec : {M : Type 1} → statement M
+seed-or-zero-spec = tie.close (tie.spec is-dependent-requires zero-requires returns returns-2)
