@@ -1,8 +1,8 @@
 // What must stand in the lent buffers after a call.
-use super::lend;
-use super::lend::PLACES;
-use super::lend::TABLE_WORDS;
-use super::pattern;
+use text::lend;
+use text::lend::PLACES;
+use text::lend::TABLE_WORDS;
+use text::pattern;
 use run::NOT_FINITE_RESULT;
 use table::Answer;
 

@@ -1,19 +1,14 @@
 // The program: one request a line on standard input, one answer a line on standard output.
-mod answers;
 mod doubles;
-mod fields;
-mod heads;
 mod kept;
-mod lend;
-mod lines;
-mod pattern;
 mod requests;
 mod residues;
 mod runs;
-mod widths;
 
-use lines::Line;
-use lines::Waiting;
+use text::answers;
+use text::lines;
+use text::lines::Line;
+use text::lines::Waiting;
 
 // Nothing says that the input ends, so the lines are counted down from a number that no run uses up.
 fn main() {

@@ -1,17 +1,17 @@
 // The answer to each request line: by its verb it is a check, a table or a run.
-ghost use Rattle.gallop.specs.Lines.{Taken};
-use super::answers;
-use super::answers::MAX_ANSWER;
-use super::fields;
-use super::fields::Group;
-use super::heads;
-use super::heads::Lengths;
+ghost use Rattle.text.specs.Lines.{Taken};
+use text::answers;
+use text::answers::MAX_ANSWER;
+use text::fields;
+use text::fields::Group;
+use text::heads;
+use text::heads::Lengths;
 use super::kept;
-use super::lend;
-use super::lend::SHEET_WORDS;
-use super::lend::TABLE_WORDS;
-use super::lines::MAX_LINE;
-use super::pattern;
+use text::lend;
+use text::lend::SHEET_WORDS;
+use text::lend::TABLE_WORDS;
+use text::lines::MAX_LINE;
+use text::pattern;
 use super::runs;
 use super::runs::Arithmetic;
 

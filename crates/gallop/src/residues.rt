@@ -1,9 +1,9 @@
 // A run in residues, on numbers of 64 bits. `doubles` is a module of the same shape, since Rattle has no generics.
-use super::fields::MAX_FIELDS;
-use super::heads::Asked;
-use super::lend;
-use super::lend::PLACES;
-use super::widths;
+use text::fields::MAX_FIELDS;
+use text::heads::Asked;
+use text::lend;
+use text::lend::PLACES;
+use text::widths;
 use table::Answer;
 
 // The residues of the numbers, as many as there are; the other places stay.

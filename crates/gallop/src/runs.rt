@@ -1,23 +1,23 @@
 // The requests `audit` and `double`. Values, results, start values and seeds are numbers of 64 bits here, so that all but the call itself stands once.
-ghost use Rattle.gallop.specs.Lines.{Taken};
-use super::answers;
-use super::answers::MAX_ANSWER;
+ghost use Rattle.text.specs.Lines.{Taken};
+use text::answers;
+use text::answers::MAX_ANSWER;
 use super::doubles;
-use super::fields;
-use super::fields::Form;
-use super::fields::Group;
-use super::fields::MAX_FIELDS;
-use super::heads;
-use super::heads::Asked;
-use super::heads::Lengths;
+use text::fields;
+use text::fields::Form;
+use text::fields::Group;
+use text::fields::MAX_FIELDS;
+use text::heads;
+use text::heads::Asked;
+use text::heads::Lengths;
 use super::kept;
-use super::lend;
-use super::lend::PLACES;
-use super::lend::SHEET_WORDS;
-use super::lend::TABLE_WORDS;
-use super::pattern;
+use text::lend;
+use text::lend::PLACES;
+use text::lend::SHEET_WORDS;
+use text::lend::TABLE_WORDS;
+use text::pattern;
 use super::residues;
-use super::widths;
+use text::widths;
 use table::Answer;
 
 pub enum Arithmetic {
