@@ -9,10 +9,10 @@ ghost use Rattle.number.specs.Answers.{outcomeOf};
 ghost use Rattle.number.specs.Doubles.{doubles};
 ghost use Rattle.sheet.specs.Rows.{copy, sum, difference, product, negation, isDependent};
 ghost use Rattle.table.specs.TableRows.{save, takeBack};
-ghost use Rattle.machine.specs.inner.RowAnswers.{pairOfDoubles, whetherDid};
+ghost use Rattle.machine.specs.inner.RowAnswers.{whetherDid};
 ghost use Rattle.machine.specs.Attempts.{fromOutcome};
-ghost use Rattle.machine.specs.inner.Buffers.{cellsOf, Operands, Evaluates, EvaluatesFixed, Assigns, Clears, MovesValues, Compares, TurnsRound};
-ghost use Rattle.machine.specs.inner.Runnable.{placeOfRow, Indexed, Indexes};
+ghost use Rattle.machine.specs.inner.Buffers.{cellsOf, Evaluates, EvaluatesFixed, Assigns, Clears, MovesValues, Compares, TurnsRound};
+ghost use Rattle.machine.specs.inner.Runnable.{Indexed, Indexes};
 ghost use Rattle.machine.specs.inner.RowWords.{actionOf, Named};
 ghost use Rattle.machine.specs.inner.RowSteps.{ActsBy, StraightRow, Peeks, BlockRow};
 ghost use Rattle.machine.specs.inner.RunsRows.{RunsRows};
@@ -21,7 +21,6 @@ use machine::Ahead;
 use machine::Branch;
 use machine::Crossed;
 use machine::Did;
-use machine::DoublePair;
 use machine::Ended;
 use machine::Expected;
 use machine::Met;
@@ -168,29 +167,14 @@ fn take_back(store: &mut [f64], d: Variable, values: &mut [f64], height: usize) 
     Moved::To(top)
 }
 
-// Both operands of kind 7.
-fn operands(store: &[f64], a: Variable, b: Variable) -> DoublePair
-    ensures { λ r. ⌜ Operands doubles (a .0) (b .0) (now (store .entry)) (pairOfDoubles r) ⌝ }
+// Kind 7.
+fn test(store: &[f64], a: Variable, b: Variable) -> Branch
+    requires { ⌜ a .0 < length (now store) ⌝ ∗ ⌜ b .0 < length (now store) ⌝ }
+    ensures { λ r. ⌜ Compares doubles (a .0) (b .0) (now (store .entry)) r ⌝ }
 {
     let first = a.0;
     let second = b.0;
-    if store.len() <= first {
-        return DoublePair::Missing;
-    }
-    if store.len() <= second {
-        return DoublePair::Missing;
-    }
-    DoublePair::Are(store[first], store[second])
-}
-
-// Kind 7.
-fn test(store: &[f64], a: Variable, b: Variable) -> Branch
-    ensures { λ r. ⌜ Compares doubles (a .0) (b .0) (now (store .entry)) r ⌝ }
-{
-    let DoublePair::Are(x, y) = operands(store, a, b) else {
-        return Branch::Stuck;
-    };
-    if double::less(x, y) {
+    if double::less(store[first], store[second]) {
         Branch::First
     } else {
         Branch::Second
@@ -344,7 +328,7 @@ fn block_row(
     to_come: &mut [u16; MAX_DEPTH],
     place: Place,
 ) -> Crossed
-    requires { ⌜ placeOfRow rows ≤ length (now table) ⌝ }
+    requires { ⌜ Indexes (now table) rows (length (now store)) ⌝ }
     ensures { λ r. ⌜ BlockRow doubles (now (table .entry)) rows (now (beyond .entry)) place (now (store .entry))
         (now (turns .entry)) (now (bodies .entry)) (now («to_come» .entry)) (now (turns .exit)) (now (bodies .exit)) (now («to_come» .exit)) r ⌝ }
 {

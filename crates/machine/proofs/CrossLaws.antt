@@ -21,7 +21,7 @@ use Rattle.machine.specs.Actions.{Setting, verdictOn}
 use Rattle.machine.specs.Machine.{itsElse, itsEnd, oneMore, seek, Repeat, State, Step, step, stepAt, goTo, jump, afterTest, afterTurn}
 use Rattle.machine.specs.inner.RowAnswers.{branchOf, turnOf, heightBranched}
 use Rattle.machine.specs.inner.Buffers.{Buffers, memoryOf, Sound, Tests, Compares, TakesTurn}
-use Rattle.machine.specs.inner.Runnable.{Reached, Jumps}
+use Rattle.machine.specs.inner.Runnable.{Indexes, Reached, Jumps}
 use Rattle.machine.specs.inner.RowSteps.{stuckThere, Opened, Opens, Closes, JumpsTo, BranchesTo, TurnsTo, CrossedLeft, CrossedSays, BlockRow, CrossesBy}
 use Rattle.machine.specs.inner.RowSteps.{buffersAt, stateAt, raised, within, moved, following, preceding, MeetsRow, MeetsCompare, Meets, Stays, Blocked}
 use Rattle.machine.specs.inner.Buffers.{Cells, cellsOf}
@@ -57,7 +57,6 @@ module _ (beyond : List ℕ) (at : ℕ) (next : Place) where
   branch-picks : (b : Branch) (answer : Crossed) → BranchesTo beyond at next b answer → PicksTo (next .turns) (branchOf b) answer
   branch-picks branch.First answer to = to
   branch-picks branch.Second answer to = to
-  branch-picks branch.Stuck answer to = to
 
   turn-picks : (b : Branched) (answer : Crossed) → TurnsTo beyond at next b answer → PicksTo (heightBranched b (next .turns)) (turnOf b) answer
   turn-picks (branched.First height) answer to = to
@@ -81,6 +80,20 @@ module _ {table : List ℕ} {rows : ℕ} {place next : Place} {row : Row} {left 
 
   pub meets-compare : row .kind ≡ 7 → MeetsCompare table rows place (row .a) (row .b) next
   meets-compare kind = record { row = row; meets = meets-row; kind = kind; first = refl; second = refl }
+
+-- the operands of a comparison that stands at a place are there
+module _ {table : List ℕ} {rows variables : ℕ} (place : Place) {next : Place} {met : Met} {a b : Variable} (meets : Meets table rows place met)
+    (is : met ≡ met-as.Compare a b next)
+    (indexes : Indexes table rows variables) where
+  pub first-there : a .0 < variables
+  first-there =
+      let there = rw is at meets in
+      rw (sym (there .first)) (rw (sym (there .meets .said)) at (indexes .indexed .compared (place .at .0) (there .meets .within)) .first (there .kind))
+
+  pub second-there : b .0 < variables
+  second-there =
+      let there = rw is at meets in
+      rw (sym (there .second)) (rw (sym (there .meets .said)) at (indexes .indexed .compared (place .at .0) (there .meets .within)) .second (there .kind))
 
 -- ---- where a jump's code goes
 

@@ -17,13 +17,13 @@ use Rattle.table.specs.TableRows.{Action, save, takeBack, saveTurn, clear, assi
 use Rattle.machine.specs.Attempts.{through, halted, stuck, _>>=_, present, look}
 use Rattle.machine.specs.Actions.{Memory, Setting, Try, acted, lessOf, tested, compared, restored}
 use Rattle.machine.specs.inner.RowAnswers.{branchOf, turnOf, heightBranched}
-use Rattle.machine.specs.inner.Buffers.{Buffers, memoryOf, Sound, Does, InBoth, bothOf, Operands, Assigns, Clears, MovesValues, SavesTurn, Compares, TakesTurn, stackOf}
+use Rattle.machine.specs.inner.Buffers.{Buffers, memoryOf, Sound, Does, InBoth, Assigns, Clears, MovesValues, SavesTurn, Compares, TakesTurn, stackOf}
 use Rattle.machine.specs.declared.Went.the-variants as went
 use Rattle.machine.specs.declared.Moved.the-variants as moved
 use Rattle.machine.specs.declared.Branch.{Branch}
 use Rattle.machine.specs.declared.Branched.{Branched}
 use Rattle.machine.specs.declared.Branched.the-variants as branched
-use Rattle.machine.proofs.PlaceLaws.{look-there, look-missing}
+use Rattle.machine.proofs.PlaceLaws.{place-there, look-there, look-missing}
 use Rattle.machine.proofs.StackLaws.{stack-length, stack-top, stack-pushed, stack-below, pushed-on, taken-off}
 
 pub in-both : {P : Arithmetic → Type 0} → ((A : Arithmetic) → P A) → InBoth P
@@ -31,12 +31,6 @@ in-both shown = record { residues = shown residues; doubles = shown doubles }
 
 pub in-both-by : {P Q : Arithmetic → Type 0} → InBoth P → ((A : Arithmetic) → P A → Q A) → InBoth Q
 in-both-by both shown = record { residues = shown residues (both .residues); doubles = shown doubles (both .doubles) }
-
--- the test of both operands, where they are there
-abbrev lessIn : (A : Arithmetic) → Try A (A .Carrier × A .Carrier) → Option Bool
-lessIn A (through both) = some (A .less (both .0) (both .1))
-lessIn A (halted why) = none
-lessIn A stuck = none
 
 module _ {A : Arithmetic} where
   -- a row that is stuck or stopped leaves the buffers as they are
@@ -191,34 +185,18 @@ module _ {A : Arithmetic} where
 
   -- ---- the operands of kind 7
 
+  -- ---- kind 7
+
   module _ {a b : ℕ} {store : List (A .Carrier)} where
-    pub operands-there : (z : A .Carrier) → a < length store → b < length store → Operands A a b store (through (getD store a z, getD store b z))
-    operands-there z ha hb = record { are = rw (look-there store a z ha, look-there store b z hb) }
-
-    pub first-missing : length store ≤ a → Operands A a b store stuck
-    first-missing h = record { are = rw (look-missing store a h) }
-
-    pub second-missing : a < length store → length store ≤ b → Operands A a b store stuck
-    second-missing ha h = record { are = rw (look-there store a (A .zero) ha, look-missing store b h) }
-
-    module _ {got : Try A (A .Carrier × A .Carrier)} (both : Operands A a b store got) where
-      -- kind 7
-      pub compares : {picked : Branch} → branchOf picked ≡ lessIn A got → Compares A a b store picked
-      unfolding tested compared
-      compares picks =
-          record {
-            tests = λ setting values height turns turnHeight copied sound.
-                record {
-                  meaning = rw (picks ∙ ap (lessIn A) (both .are) ∙ by-places (getElem? store a) (getElem? store b));
-                  sound = sound;
-                  unchanged = λ _. refl;
-                };
-          }
-        where
-          by-places : (p q : Option (A .Carrier)) → lessIn A (bothOf A (present p) (present q)) ≡ lessOf A p q
-          by-places none q = refl
-          by-places (some x) none = refl
-          by-places (some x) (some y) = refl
+    pub compares : {picked : Branch} (z : A .Carrier) → a < length store → b < length store
+        → branchOf picked ≡ some (A .less (getD store a z) (getD store b z))
+        → Compares A a b store picked
+    unfolding tested compared
+    compares z first second picks =
+        record {
+          tests = λ setting values height turns turnHeight copied sound.
+              record { meaning = rw (picks, place-there store a z first, place-there store b z second); sound = sound; unchanged = λ _. refl };
+        }
 
   -- ---- kind 15
 

@@ -12,7 +12,7 @@ use Rattle.table.specs.TableRows.{TableLine}
 use Rattle.machine.specs.Actions.{Memory, Setting}
 use Rattle.machine.specs.Machine.{Repeat, State, Step, goesOn, ended, stops, sticks, step, ifItGoesOn, stateAfter}
 use Rattle.machine.specs.inner.Buffers.{Buffers, Cells, cellsOf, memoryOf, Sound, RoundSizes}
-use Rattle.machine.specs.inner.Runnable.{Shallow, Indexed}
+use Rattle.machine.specs.inner.Runnable.{Shallow, Indexed, Indexes}
 use Rattle.machine.specs.inner.RowSteps.{Nested, Opened, firstPlace, leftAt, buffersAt, stateAt, CopiesOn, Stays, StopsAt, Blocked, GoesTo, StepsStraight, StraightRow, Peeks, CrossedSays, BlockRow}
 use Rattle.machine.specs.inner.RunsRows.{firstState, Handed, AfterSteps, LeavesBy, Leaves, RunsRows}
 use Rattle.machine.specs.declared.Place.{Place}
@@ -80,6 +80,9 @@ module _ (A : Arithmetic) where
 -- a store of the same length has the same variables
 pub still-indexed : {table : List ℕ} {rows n n′ k : ℕ} → n′ ≡ n → Indexed table rows n k → Indexed table rows n′ k
 still-indexed same indexed = rw same indexed
+
+pub still-indexes : {table : List ℕ} {rows n n′ k : ℕ} → n′ ≡ n → Indexed table rows n k → Indexes table rows n′
+still-indexes {k = k} same indexed = record { constants = k; indexed = still-indexed same indexed }
 
 -- a row leaves every buffer as long as it was
 pub record SameLengths {A : Arithmetic} (before after : Cells A) : Type 0 where

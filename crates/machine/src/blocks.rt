@@ -36,7 +36,6 @@ pub fn branch_to(branch: Branch, beyond: &[u16], at: RowNumber, next: Place) -> 
     match branch {
         Branch::First => Crossed::On(next),
         Branch::Second => jump(beyond, at, next),
-        Branch::Stuck => Crossed::Out(Ended::Stuck),
     }
 }
 

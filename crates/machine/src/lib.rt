@@ -10,17 +10,6 @@ use sheet::RowNumber;
 use sheet::RowWords;
 use sheet::Variable;
 
-// Both operands of a comparison, where the variables have them.
-pub enum ResiduePair {
-    Are(u32, u32),
-    Missing,
-}
-
-pub enum DoublePair {
-    Are(f64, f64),
-    Missing,
-}
-
 // What a row comes to that no arithmetic can stop.
 pub enum Went {
     On,
@@ -39,11 +28,10 @@ pub enum Moved {
     Stuck,
 }
 
-// The branch that a test picks.
+// The branch that a comparison picks.
 pub enum Branch {
     First,
     Second,
-    Stuck,
 }
 
 // The branch that a turn taken back picks, with the turn stack's new height.

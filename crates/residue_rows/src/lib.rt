@@ -8,9 +8,9 @@ ghost use Rattle.sheet.specs.Answers.{rowSaid};
 ghost use Rattle.number.specs.Residues.{residues};
 ghost use Rattle.sheet.specs.Rows.{copy, sum, difference, product, negation, isDependent};
 ghost use Rattle.table.specs.TableRows.{save, takeBack};
-ghost use Rattle.machine.specs.inner.RowAnswers.{pairOfResidues, whetherWent};
-ghost use Rattle.machine.specs.inner.Buffers.{cellsOf, Operands, Evaluates, EvaluatesFixed, Assigns, Clears, MovesValues, Compares, TurnsRound};
-ghost use Rattle.machine.specs.inner.Runnable.{placeOfRow, Indexed};
+ghost use Rattle.machine.specs.inner.RowAnswers.{whetherWent};
+ghost use Rattle.machine.specs.inner.Buffers.{cellsOf, Evaluates, EvaluatesFixed, Assigns, Clears, MovesValues, Compares, TurnsRound};
+ghost use Rattle.machine.specs.inner.Runnable.{Indexed, Indexes};
 ghost use Rattle.machine.specs.inner.RowWords.{actionOf, Named};
 ghost use Rattle.machine.specs.Attempts.{through};
 ghost use Rattle.machine.specs.inner.RowSteps.{ActsBy, StraightRow, BlockRow};
@@ -23,7 +23,6 @@ use machine::Met;
 use machine::Moved;
 use machine::Place;
 use machine::Ran;
-use machine::ResiduePair;
 use machine::Went;
 use machine::blocks::branch_to;
 use machine::blocks::cross;
@@ -154,29 +153,14 @@ fn take_back(store: &mut [u32], d: Variable, values: &mut [u32], height: usize) 
     Moved::To(top)
 }
 
-// Both operands of kind 7.
-fn operands(store: &[u32], a: Variable, b: Variable) -> ResiduePair
-    ensures { λ r. ⌜ Operands residues (a .0) (b .0) (now (store .entry)) (pairOfResidues r) ⌝ }
+// Kind 7.
+fn test(store: &[u32], a: Variable, b: Variable) -> Branch
+    requires { ⌜ a .0 < length (now store) ⌝ ∗ ⌜ b .0 < length (now store) ⌝ }
+    ensures { λ r. ⌜ Compares residues (a .0) (b .0) (now (store .entry)) r ⌝ }
 {
     let first = a.0;
     let second = b.0;
-    if store.len() <= first {
-        return ResiduePair::Missing;
-    }
-    if store.len() <= second {
-        return ResiduePair::Missing;
-    }
-    ResiduePair::Are(store[first], store[second])
-}
-
-// Kind 7.
-fn test(store: &[u32], a: Variable, b: Variable) -> Branch
-    ensures { λ r. ⌜ Compares residues (a .0) (b .0) (now (store .entry)) r ⌝ }
-{
-    let ResiduePair::Are(x, y) = operands(store, a, b) else {
-        return Branch::Stuck;
-    };
-    if residue::less(x, y) {
+    if residue::less(store[first], store[second]) {
         Branch::First
     } else {
         Branch::Second
@@ -306,7 +290,7 @@ fn block_row(
     to_come: &mut [u16; MAX_DEPTH],
     place: Place,
 ) -> Crossed
-    requires { ⌜ placeOfRow rows ≤ length (now table) ⌝ }
+    requires { ⌜ Indexes (now table) rows (length (now store)) ⌝ }
     ensures { λ r. ⌜ BlockRow residues (now (table .entry)) rows (now (beyond .entry)) place (now (store .entry))
         (now (turns .entry)) (now (bodies .entry)) (now («to_come» .entry)) (now (turns .exit)) (now (bodies .exit)) (now («to_come» .exit)) r ⌝ }
 {

@@ -1,5 +1,5 @@
--- Every variable and every constant that a straight row of an accepted sheet's table names is there: an original, an adjoint, t or u, and one of
--- the sheet's constants.
+-- Every variable and every constant that a straight row or a comparison of an accepted sheet's table names is there: an original, an adjoint, t or u,
+-- and one of the sheet's constants.
 use Prim.Native.Nat.{ℕ, zero, suc, _+_, _*_, _<_}
 use mathlib.Core.Path.{_≡_, refl, sym, ap, subst, _∙_}
 use mathlib.Core.Bool.{Bool, true, false}
@@ -10,17 +10,17 @@ use native.Mathlib.Omega.{arith}
 use lib.ListN.{length, drop}
 use Rattle.sheet.specs.Bounds.{limit}
 use Rattle.sheet.specs.Tree.{Tree, done, one, fork, again, rows, flat, basic, ifLine, elseLine, endIf, repeat, endRepeat, RowNumber}
-use Rattle.sheet.specs.Rows.{Assignment, _≔_, Source, copy, fixed, sum, difference, product, negation, Test, rowOf}
+use Rattle.sheet.specs.Rows.{Assignment, _≔_, Source, copy, fixed, sum, difference, product, negation, Test, less, rowOf, rowOfTest}
 use Rattle.sheet.specs.Names.{SourcePresent, AssignmentPresent, TestPresent, Present}
 use Rattle.sheet.specs.Refusals.{given}
 use Rattle.sheet.specs.Reading.{Sheet, variablesOf, read, rowAt}
 use Rattle.sheet.proofs.NamesPresent.{names-present}
 use Rattle.sets.specs.Transfers.{Activity}
 use Rattle.sets.specs.Marks.{Marked, MarkedTest, numbered, markBy, marked, varied, useful, required}
-use Rattle.table.specs.TableRows.{Table, TableLine, TableRow, Action, assign, save, takeBack, saveTurn, clear, turnRound, Operation, turning, tableVariables, rowOfAction, tableRowOf, linesOf}
+use Rattle.table.specs.TableRows.{Table, TableLine, TableRow, Action, assign, save, takeBack, saveTurn, clear, turnRound, Operation, turning, TableTest, whether, onTurn, tableVariables, rowOfAction, rowOfTableTest, tableRowOf, linesOf}
 use Rattle.table.specs.Adjoint.{Body, put, putIf, forwardRow, forwardPart, partsOf, derivativeRows, backwardOf, backwardPart, adjointTable, tableOf}
 use Rattle.machine.specs.inner.RowWords.{actionOf, ActionPresent, Named}
-use Rattle.machine.specs.inner.Runnable.{Holds, Indexed}
+use Rattle.machine.specs.inner.Runnable.{Holds, Compared, Indexed}
 use Rattle.machine.proofs.LineLaws.{action-said, straight-or-not}
 use Rattle.machine.proofs.LinesStand.{FromEach, from-each-next, from-each-end}
 use Rattle.machine.proofs.StraightLaws.{stands-there, words-there}
@@ -29,16 +29,20 @@ module _ (v k : ℕ) where
   abbrev Known : Action → Type 0
   Known action = ActionPresent (tableVariables v) k action
 
+  abbrev TestKnown : TableTest → Type 0
+  TestKnown (whether f) = TestPresent (tableVariables v) f
+  TestKnown onTurn = Unit {0}
+
   unfoldable KnownIn : Table → Type 0
   KnownIn done = Unit {0}
   KnownIn (one row rest) = Known (row .action) × KnownIn rest
-  KnownIn (fork f a b rest) = KnownIn a × KnownIn b × KnownIn rest
+  KnownIn (fork f a b rest) = TestKnown f × KnownIn a × KnownIn b × KnownIn rest
   KnownIn (again m a rest) = KnownIn a × KnownIn rest
 
   unfoldable BodyKnown : Body → Type 0
   BodyKnown done = Unit {0}
   BodyKnown (one m rest) = AssignmentPresent v k (m .assignment) × BodyKnown rest
-  BodyKnown (fork f a b rest) = BodyKnown a × BodyKnown b × BodyKnown rest
+  BodyKnown (fork f a b rest) = TestPresent v (f .test) × BodyKnown a × BodyKnown b × BodyKnown rest
   BodyKnown (again m a rest) = BodyKnown a × BodyKnown rest
 
   -- ---- the marked body
@@ -50,6 +54,7 @@ module _ (v k : ℕ) where
   body-known mark same done p present = tt
   body-known mark same (one b rest) p (here, later) = (rw (same p b) here, body-known mark same rest (suc p) later)
   body-known mark same (fork f a b rest) p (test, first, second, later) = (
+    test,
     body-known mark same a (suc p) first,
     body-known mark same b (suc (suc p + rows a)) second,
     body-known mark same rest (suc (suc (suc p + rows a) + rows b)) later,
@@ -73,6 +78,10 @@ module _ (v k : ℕ) where
   widened (product a b) (p, q) = (omega arith, omega arith)
   widened (negation a) p = omega arith
 
+  test-widened : (f : Test) → TestPresent v f → TestPresent (tableVariables v) f
+  unfolding TestPresent
+  test-widened (less a b) (p, q) = (omega arith, omega arith)
+
   forward-row-known : (m : Marked) (rest : Table) → AssignmentPresent v k (m .assignment) → KnownIn rest → KnownIn (forwardRow m rest)
   unfolding forwardRow KnownIn AssignmentPresent
   forward-row-known m rest known later = by-assignment (m .assignment) refl known
@@ -86,7 +95,8 @@ module _ (v k : ℕ) where
   unfolding forwardPart BodyKnown KnownIn
   forward-known done rest known later = later
   forward-known (one m t) rest (here, next) later = forward-row-known m (forwardPart t rest) here (forward-known t rest next later)
-  forward-known (fork f a b t) rest (first, second, next) later = (
+  forward-known (fork f a b t) rest (test, first, second, next) later = (
+    test-widened (f .test) test,
     forward-known a (put (f .row) turning (saveTurn true) done) first (tt, tt),
     forward-known b (put (f .row) turning (saveTurn false) done) second (tt, tt),
     forward-known t rest next later,
@@ -131,8 +141,8 @@ module _ (v k : ℕ) where
   backward-known (one m t) rest (here, next) later =
       backward-known t (backwardOf v (m .assignment) (m .row) (m .known) (m .saved) rest) next
       (backward-row-known (m .assignment) (m .row) (m .known) (m .saved) rest here later)
-  backward-known (fork f a b t) rest (first, second, next) later =
-      backward-known t _ next (backward-known a done first tt, backward-known b done second tt, later)
+  backward-known (fork f a b t) rest (test, first, second, next) later =
+      backward-known t _ next (tt, backward-known a done first tt, backward-known b done second tt, later)
   backward-known (again m a t) rest (body, next) later = backward-known t _ next (backward-known a done body tt, later)
 
   table-known : (t : Body) → BodyKnown t → KnownIn (adjointTable v t)
@@ -144,7 +154,7 @@ module _ (v k : ℕ) where
   abbrev LineKnown : List TableLine → Type 0
   LineKnown [] = Unit {0}
   LineKnown (basic row ∷ rest) = Known (row .action)
-  LineKnown (ifLine f ∷ rest) = Unit {0}
+  LineKnown (ifLine f ∷ rest) = TestKnown f
   LineKnown (elseLine ∷ rest) = Unit {0}
   LineKnown (endIf ∷ rest) = Unit {0}
   LineKnown (repeat m ∷ rest) = Unit {0}
@@ -154,10 +164,10 @@ module _ (v k : ℕ) where
   unfolding flat KnownIn
   lines-known done rest known later = later
   lines-known (one row t) rest (here, next) later = from-each-next LineKnown (basic row) _ here (lines-known t rest next later)
-  lines-known (fork f a b t) rest (first, second, next) later =
+  lines-known (fork f a b t) rest (test, first, second, next) later =
       let afterB = from-each-next LineKnown endIf _ tt (lines-known t rest next later) in
       let afterA = from-each-next LineKnown elseLine _ tt (lines-known b _ second afterB) in
-      from-each-next LineKnown (ifLine f) _ tt (lines-known a _ first afterA)
+      from-each-next LineKnown (ifLine f) _ test (lines-known a _ first afterA)
   lines-known (again m a t) rest (body, next) later =
       let afterA = from-each-next LineKnown endRepeat _ tt (lines-known t rest next later) in
       from-each-next LineKnown (repeat m) _ tt (lines-known a _ body afterA)
@@ -181,6 +191,38 @@ module _ (v k : ℕ) where
           subst (Named (tableVariables v) k) (sym (action-said (row .action)) ∙ ap actionOf same) (record { present = known-row })
       by-line line rest here told (inr (nothing, apart)) = subst (Named (tableVariables v) k) (sym nothing ∙ ap actionOf told) (record { present = tt })
 
+  action-no-comparison : (action : Action) → rowOfAction action .kind ≡ 7 → ⊥
+  unfolding rowOfAction rowOf
+  action-no-comparison (assign (d ≔ copy a)) is = omega arith
+  action-no-comparison (assign (d ≔ fixed c)) is = omega arith
+  action-no-comparison (assign (d ≔ sum a b)) is = omega arith
+  action-no-comparison (assign (d ≔ difference a b)) is = omega arith
+  action-no-comparison (assign (d ≔ product a b)) is = omega arith
+  action-no-comparison (assign (d ≔ negation a)) is = omega arith
+  action-no-comparison (save d) is = omega arith
+  action-no-comparison (takeBack d) is = omega arith
+  action-no-comparison (saveTurn first) is = omega arith
+  action-no-comparison (clear d) is = omega arith
+  action-no-comparison turnRound is = omega arith
+
+  line-compared : (line : TableLine) (rest : List TableLine) → LineKnown (line ∷ rest) → Compared (tableVariables v) (tableRowOf line)
+  unfolding tableRowOf rowOf rowOfTableTest rowOfTest TestPresent
+  line-compared (basic row) rest known =
+      record { first = λ is. absurd (action-no-comparison (row .action) is); second = λ is. absurd (action-no-comparison (row .action) is) }
+  line-compared (ifLine (whether (less a b))) rest (p, q) = record { first = λ is. p; second = λ is. q }
+  line-compared (ifLine onTurn) rest known = record { first = λ is. absurd (omega arith); second = λ is. absurd (omega arith) }
+  line-compared elseLine rest known = record { first = λ is. absurd (omega arith); second = λ is. absurd (omega arith) }
+  line-compared endIf rest known = record { first = λ is. absurd (omega arith); second = λ is. absurd (omega arith) }
+  line-compared (repeat m) rest known = record { first = λ is. absurd (omega arith); second = λ is. absurd (omega arith) }
+  line-compared endRepeat rest known = record { first = λ is. absurd (omega arith); second = λ is. absurd (omega arith) }
+
+  compared-there : (buffer : List ℕ) (lines : List TableLine) → Holds buffer lines → FromEach LineKnown lines → (p : ℕ) → p < length lines
+      → Compared (tableVariables v) (rowAt buffer (1 + p * limit .rowWords))
+  compared-there buffer lines holds known p within =
+      let there = stands-there lines p within in
+      let told = words-there buffer lines (there .rest) (there .line) p _ holds refl (there .is) in
+      subst (Compared (tableVariables v)) told (line-compared (there .line) (there .rest) (subst LineKnown (there .is) (known p)))
+
 mark-keeps : (sheet : Sheet) (p : ℕ) (b : Assignment) → markBy (varied sheet) (useful sheet) (required sheet) p b .assignment ≡ b
 unfolding markBy
 mark-keeps sheet p b = refl
@@ -192,8 +234,9 @@ table-indexed words sheet e buffer holds =
     let v = length (sheet .roles) in
     let k = length (sheet .constants) in
     let body = body-known v k (markBy (varied sheet) (useful sheet) (required sheet)) (mark-keeps sheet) (sheet .body) 0 (names-present words sheet e) in
+    let known = lines-known v k (adjointTable v (marked sheet)) [] (table-known v k (marked sheet) body) (from-each-end (LineKnown v k) tt) in
     record {
       within = holds .within;
-      named = named-there v k buffer (linesOf (tableOf sheet)) holds
-          (lines-known v k (adjointTable v (marked sheet)) [] (table-known v k (marked sheet) body) (from-each-end (LineKnown v k) tt));
+      named = named-there v k buffer (linesOf (tableOf sheet)) holds known;
+      compared = compared-there v k buffer (linesOf (tableOf sheet)) holds known;
     }

@@ -5,7 +5,7 @@ use borrow.Author.Needs.{needs}
 use Rattle.number.specs.Doubles.{doubles}
 use Rattle.machine.specs.inner.Buffers.{cellsOf}
 use Rattle.machine.proofs.PeekLaws.{peek-fewer}
-use Rattle.machine.proofs.RunLaws.{still-indexed, Invariant, Inner, run-starts, inner-starts, straight-fewer, inner-goes, inner-peeks, straight-stops, straight-sticks, straight-spent, block-fewer, block-goes, block-ends}
+use Rattle.machine.proofs.RunLaws.{still-indexed, still-indexes, Invariant, Inner, run-starts, inner-starts, straight-fewer, inner-goes, inner-peeks, straight-stops, straight-sticks, straight-spent, block-fewer, block-goes, block-ends}
 use Rattle.double_rows.proofs.run_rows.Statement.{statement}
 use Rattle.double_rows.proofs.run_rows.Tie as tie
 use Rattle.double_rows.proofs.run_rows.Reads as reads
@@ -88,11 +88,8 @@ peek-requires : tie.Need-peek-requires Inv-loop μ-loop Inv-run μ-run
 peek-requires c κs =
     let a : Answered = search in
     let inner = a .before .before .before .before .before in
-    record {
-      constants = _;
-      indexed = still-indexed (a .straight-row .kept .1 .1 .1 .1 .1 .0 ∙ inner .loop .inv .lengths .store ∙ inner .before .run .inv .lengths .store)
-          (inner .before .before .before .before .before .before .before .before .before .before .before .before .pre .0);
-    }
+    still-indexes (a .straight-row .kept .1 .1 .1 .1 .1 .0 ∙ inner .loop .inv .lengths .store ∙ inner .before .run .inv .lengths .store)
+    (inner .before .before .before .before .before .before .before .before .before .before .before .before .pre .0)
 
 loop-less : tie.Need-loop-less Inv-loop μ-loop Inv-run μ-run
 loop-less c =
@@ -142,7 +139,9 @@ left-at-requires-3 c κs = search needs
 block-row-requires : tie.Need-block-row-requires Inv-loop μ-loop Inv-run μ-run
 block-row-requires c κs =
     let a : Answered = search in
-    a .before .before .before .before .before .before .before .before .before .before .before .before .before .before .before .before .before .pre .0 .within
+    let inner = a .before .before .before .before .before in
+    still-indexes (a .straight-row .kept .1 .1 .1 .1 .1 .0 ∙ inner .loop .inv .lengths .store ∙ inner .before .run .inv .lengths .store)
+    (inner .before .before .before .before .before .before .before .before .before .before .before .before .pre .0)
 
 enum-known-next-2 : tie.Need-enum-known-next-2 Inv-loop μ-loop Inv-run μ-run
 enum-known-next-2 c = search needs

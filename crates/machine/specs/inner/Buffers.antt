@@ -95,16 +95,6 @@ module _ (A : Arithmetic) where
   abbrev pub EvaluatesFixed : (c : ℕ) → (constants : List ℕ) → Try A (A .Carrier) → Type 0
   EvaluatesFixed c constants got = (store : List (A .Carrier)) → got ≡ evaluated A constants (fixed c) store
 
-  -- both operands of kinds 3 to 5 and 7
-  abbrev pub bothOf : (first second : Try A (A .Carrier)) → Try A (A .Carrier × A .Carrier)
-  bothOf first second = do
-    x ← first
-    y ← second
-    through (x, y)
-
-  pub record Operands (a b : ℕ) (store : List (A .Carrier)) (got : Try A (A .Carrier × A .Carrier)) : Type 0 where
-    pub are : got ≡ bothOf (look store a) (look store b)
-
   -- a row that changes the variables alone
   abbrev pub Stores : (setting : Setting A) → Action → (store after : List (A .Carrier)) → Try A (Unit {0}) → Type 0
   Stores setting action store after went =

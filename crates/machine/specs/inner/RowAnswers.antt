@@ -2,15 +2,9 @@
 use Prim.Native.Nat.{ℕ}
 use mathlib.Core.Bool.{Bool, true, false}
 use mathlib.Core.Option.{Option, none, some}
-use lib.Ieee.{Float}
 use Rattle.number.specs.Doubles.{doubles, notFinite}
-use Rattle.number.specs.Residues.{residues}
 use Rattle.machine.specs.Attempts.{Attempt, through, halted, stuck}
 use Rattle.machine.specs.Actions.{Try}
-use Rattle.machine.specs.declared.ResiduePair.{ResiduePair}
-use Rattle.machine.specs.declared.ResiduePair.the-variants as residue-pair
-use Rattle.machine.specs.declared.DoublePair.{DoublePair}
-use Rattle.machine.specs.declared.DoublePair.the-variants as double-pair
 use Rattle.machine.specs.declared.Went.{Went}
 use Rattle.machine.specs.declared.Went.the-variants as went
 use Rattle.machine.specs.declared.Did.{Did}
@@ -21,14 +15,6 @@ use Rattle.machine.specs.declared.Branch.{Branch}
 use Rattle.machine.specs.declared.Branch.the-variants as branch
 use Rattle.machine.specs.declared.Branched.{Branched}
 use Rattle.machine.specs.declared.Branched.the-variants as branched
-
-abbrev pub pairOfResidues : ResiduePair → Try residues (ℕ × ℕ)
-pairOfResidues (residue-pair.Are x y) = through (x, y)
-pairOfResidues residue-pair.Missing = stuck
-
-abbrev pub pairOfDoubles : DoublePair → Try doubles (Float × Float)
-pairOfDoubles (double-pair.Are x y) = through (x, y)
-pairOfDoubles double-pair.Missing = stuck
 
 abbrev pub whetherDid : Did → Try doubles (Unit {0})
 whetherDid did.On = through tt
@@ -51,7 +37,6 @@ heightAfter moved.Stuck before = before
 abbrev pub branchOf : Branch → Option Bool
 branchOf branch.First = some true
 branchOf branch.Second = some false
-branchOf branch.Stuck = none
 
 abbrev pub turnOf : Branched → Option Bool
 turnOf (branched.First height) = some true

@@ -172,7 +172,6 @@ pub record JumpsTo (beyond : List ℕ) (at : ℕ) (next : Place) (answer : Cross
 abbrev pub BranchesTo : (beyond : List ℕ) → (at : ℕ) → (next : Place) → Branch → Crossed → Type 0
 BranchesTo beyond at next branch-as.First answer = answer ≡ crossed.On next
 BranchesTo beyond at next branch-as.Second answer = JumpsTo beyond at next answer
-BranchesTo beyond at next branch-as.Stuck answer = answer ≡ stuckThere
 
 -- the branch that a turn taken back picks
 abbrev pub TurnsTo : (beyond : List ℕ) → (at : ℕ) → (next : Place) → Branched → Crossed → Type 0

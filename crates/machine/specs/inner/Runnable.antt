@@ -7,6 +7,7 @@ use lib.ListN.{length, getD, drop}
 use Rattle.number.specs.Arithmetic.{Arithmetic}
 use Rattle.sheet.specs.Bounds.{limit}
 use Rattle.sheet.specs.Tree.{ifLine, elseLine}
+use Rattle.sheet.specs.Rows.{Row}
 use Rattle.sheet.specs.Reading.{rowAt}
 use Rattle.table.specs.TableRows.{TableLine, TableTest, tableRowOf}
 use Rattle.machine.specs.Actions.{Setting}
@@ -22,10 +23,16 @@ pub record Holds (buffer : List ℕ) (lines : List TableLine) : Type 0 where
   pub within : placeOfRow (length lines) ≤ length buffer
   pub held : (p : ℕ) (line : TableLine) (rest : List TableLine) → drop p lines ≡ line ∷ rest → rowAt buffer (placeOfRow p) ≡ tableRowOf line
 
--- rows that lie in a buffer, of which every straight one names only variables and constants that are there: so many of each
+-- a comparison's operands are variables that are there
+pub record Compared (variables : ℕ) (row : Row) : Type 0 where
+  pub first : row .kind ≡ 7 → row .a < variables
+  pub second : row .kind ≡ 7 → row .b < variables
+
+-- rows that lie in a buffer, of which every straight one and every comparison names only variables and constants that are there: so many of each
 pub record Indexed (buffer : List ℕ) (count variables constants : ℕ) : Type 0 where
   pub within : placeOfRow count ≤ length buffer
   pub named : (p : ℕ) → p < count → Named variables constants (actionOf (rowAt buffer (1 + p * limit .rowWords)))
+  pub compared : (p : ℕ) → p < count → Compared variables (rowAt buffer (1 + p * limit .rowWords))
 
 -- the same, however many constants are there
 pub record Indexes (buffer : List ℕ) (count variables : ℕ) : Type 0 where

@@ -1,11 +1,11 @@
 -- `residue_rows::block_row` meets its contract.
 use borrow.Author.Needs.{needs}
-use Rattle.machine.proofs.CrossLaws.{block-leaves, block-compares, block-crosses}
+use Rattle.machine.proofs.CrossLaws.{first-there, second-there, block-leaves, block-compares, block-crosses}
 use Rattle.residue_rows.proofs.block_row.Statement.{statement}
 use Rattle.residue_rows.proofs.block_row.Tie as tie
 
 block-at-requires : tie.Need-block-at-requires
-block-at-requires c κs = search needs
+block-at-requires c κs = c .before .before .before .before .before .pre .indexed .within
 
 enum-known-ended : tie.Need-enum-known-ended
 enum-known-ended c = search needs
@@ -14,7 +14,11 @@ enum-known-a : tie.Need-enum-known-a
 enum-known-a c = search needs
 
 test-requires : tie.Need-test-requires
-test-requires c κs = search needs
+test-requires c κs =
+    let met = c .before .before .before in
+    let start = met .before .before .before .before .before .before in
+    (first-there (start .args .place) (met .block-at .ensures) (c .before .a .given .1) (start .pre),
+     second-there (start .args .place) (met .block-at .ensures) (c .before .a .given .1) (start .pre))
 
 branch-to-requires : tie.Need-branch-to-requires
 branch-to-requires c κs = search needs

@@ -3,7 +3,7 @@ use mathlib.Core.Path.{refl, _∙_}
 use borrow.Author.Needs.{needs}
 use Rattle.number.specs.Residues.{residues}
 use Rattle.machine.specs.inner.Buffers.{cellsOf}
-use Rattle.machine.proofs.RunLaws.{still-indexed, Invariant, Inner, run-starts, inner-starts, straight-fewer, inner-goes, straight-stops, straight-sticks, straight-spent, block-fewer, block-goes, block-ends}
+use Rattle.machine.proofs.RunLaws.{still-indexed, still-indexes, Invariant, Inner, run-starts, inner-starts, straight-fewer, inner-goes, straight-stops, straight-sticks, straight-spent, block-fewer, block-goes, block-ends}
 use Rattle.residue_rows.proofs.run_rows.Statement.{statement}
 use Rattle.residue_rows.proofs.run_rows.Tie as tie
 use Rattle.residue_rows.proofs.run_rows.Reads as reads
@@ -109,7 +109,9 @@ left-at-requires-3 c κs = search needs
 block-row-requires : tie.Need-block-row-requires Inv-loop μ-loop Inv-run μ-run
 block-row-requires c κs =
     let a : Answered = search in
-    a .before .before .before .before .before .before .before .before .before .before .before .before .before .before .before .before .before .pre .0 .within
+    let inner = a .before .before .before .before .before in
+    still-indexes (a .straight-row .kept .1 .1 .1 .1 .1 .0 ∙ inner .loop .inv .lengths .store ∙ inner .before .run .inv .lengths .store)
+    (inner .before .before .before .before .before .before .before .before .before .before .before .before .pre .0)
 
 enum-known-next-2 : tie.Need-enum-known-next-2 Inv-loop μ-loop Inv-run μ-run
 enum-known-next-2 c = search needs
