@@ -39,11 +39,13 @@ module _ {words : List ℕ} {sheet : Sheet} {shape : Shape} (lies : Lies words s
     abbrev given : Handed
     given = handed words shape marks came goes
 
-    pub walkable : Walkable given
-    walkable =
+    pub walkable : shape .rows ≤ length came → shape .rows ≤ length goes → Walkable given
+    walkable cameLong goesLong =
         record {
           few = lies .fewVariables;
           small = lies .small;
+          cameThere = cameLong;
+          goesThere = goesLong;
           walks = tree-walks given (marksOf sheet) (sheet .body) (lies .says) noted;
         }
 

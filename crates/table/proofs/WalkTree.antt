@@ -1,6 +1,7 @@
 -- What the two passes ask of the rows holds of the rows of a tree: each says a line, and the walk back stays on them.
 use Prim.Native.Nat.{ℕ, zero, suc, _+_, _-_, _≤_, _<_}
 use mathlib.Core.Path.{_≡_, refl, sym, ap, _∙_, subst}
+use mathlib.Core.Bool.{true}
 use mathlib.Core.List.{List, [], _∷_}
 use lib.ListN.{length, length-map, getD}
 use native.Mathlib.Omega.{arith}
@@ -11,7 +12,8 @@ use Rattle.sheet.specs.inner.Kinds.{partOf}
 use Rattle.sheet.specs.Reading.{rowsAt}
 use Rattle.sheet.proofs.RowsCounted.{lines-counted, rows-counted}
 use Rattle.sets.specs.Marks.{Marked}
-use Rattle.table.specs.inner.MarkedRows.{rowNumbered, Says, stepBack, Handed, rowOfNumber, wayBack, Visited, Walks, Noted}
+use Rattle.sets.proofs.Wiring.{never}
+use Rattle.table.specs.inner.MarkedRows.{rowNumbered, Says, leadsOn, stepBack, Handed, rowOfNumber, wayBack, Visited, Walks, Noted}
 use Rattle.sheet.proofs.RowsBack.{line-back}
 use Rattle.table.proofs.TreeRows.{StandsAt, tree-stands, stands-after}
 
@@ -45,13 +47,17 @@ module _ (given : Handed) (mark : ℕ → Assignment → Marked) where
   unfolding Walks
   walk-turn n e v w = (v, w)
 
+  -- where a row of a line leads there is a row
+  abbrev Leads : SheetLine → ℕ → Type 0
+  Leads l q = leadsOn (partOf l) ≡ true → getD (given .goes) q 0 < given .rows
+
   walk-step : (l : SheetLine) (q next n : ℕ) → rowOfNumber given q ≡ sheetRowOf l
-      → stepBack (given .came) (given .goes) q (partOf l) ≡ next → q < given .rows
+      → stepBack (given .came) (given .goes) q (partOf l) ≡ next → q < given .rows → Leads l q
       → Walks given n next → Walks given (suc n) (suc q)
-  walk-step l q next n stands goes below w =
+  walk-step l q next n stands goes below leads w =
       let here : suc q - 1 ≡ q = omega arith in
       let same = ap partOf (ap lineOfRow stands ∙ line-back l) in
-      walk-turn n (suc q) (record { some = omega arith; within = omega arith })
+      walk-turn n (suc q) (record { some = omega arith; within = omega arith; leads = rw (here, same) leads })
       (rw here (subst (Walks given n) (sym (ap (stepBack (given .came) (given .goes) q) same ∙ goes)) w))
 
   walks-tree : (t : Tree Assignment Test) (ls : List SheetLine) (p n c e : ℕ)
@@ -64,7 +70,7 @@ module _ (given : Handed) (mark : ℕ → Assignment → Marked) where
       let here : e ≡ p = omega arith in
       rw (same, here) h
   walks-tree (one b k) ls p n c e hc he below s w h =
-      let row = walk-step (basic b) p p n (s .0) refl (omega arith) h in
+      let row = walk-step (basic b) p p n (s .0) refl (omega arith) never h in
       walks-tree k ls (suc p) (suc n) c e (omega arith) (omega arith) below (s .1) (w .1) row
   walks-tree (fork f a b k) ls p n c e hc he below s w h =
       let split = suc p + rows a in
@@ -72,24 +78,24 @@ module _ (given : Handed) (mark : ℕ → Assignment → Marked) where
       let partners = w .0 in
       let atSplit = stands-after (given .words) (given .first) a (elseLine ∷ flat b (endIf ∷ flat k ls)) (suc p) refl (s .1) in
       let atEnd = stands-after (given .words) (given .first) b (endIf ∷ flat k ls) (suc split) refl (atSplit .1) in
-      let elseRow = walk-step elseLine split p n (atSplit .0) (partners .elseCame) (omega arith) h in
+      let elseRow = walk-step elseLine split p n (atSplit .0) (partners .elseCame) (omega arith) never h in
       let secondBranch =
       walks-tree b (endIf ∷ flat k ls) (suc split) (suc n) (rows b + suc n) end refl refl (omega arith) (atSplit .1) (w .1 .1 .0) elseRow in
       let ifRow =
       walk-step (ifLine f) p end (rows b + suc n) (s .0)
       (ap (λ x. getD (given .goes) x 0) (partners .ifGoes) ∙ partners .elseGoes)
-      (omega arith) secondBranch in
+      (omega arith) (λ e. omega (arith, partners .ifGoes)) secondBranch in
       let firstBranch =
       walks-tree a (elseLine ∷ flat b (endIf ∷ flat k ls)) (suc p) (suc (rows b + suc n)) (rows a + suc (rows b + suc n)) split
       refl refl (omega arith) (s .1) (w .1 .0) ifRow in
-      let endRow = walk-step endIf end split (rows a + suc (rows b + suc n)) (atEnd .0) (partners .endCame) (omega arith) firstBranch in
+      let endRow = walk-step endIf end split (rows a + suc (rows b + suc n)) (atEnd .0) (partners .endCame) (omega arith) never firstBranch in
       walks-tree k ls (suc end) (suc (rows a + suc (rows b + suc n))) c e (omega arith) (omega arith) below (atEnd .1) (w .1 .1 .1) endRow
   walks-tree (again m a k) ls p n c e hc he below s w h =
       let end = suc p + rows a in
       let atEnd = stands-after (given .words) (given .first) a (endRepeat ∷ flat k ls) (suc p) refl (s .1) in
-      let repeatRow = walk-step (repeat m) p p n (s .0) refl (omega arith) h in
+      let repeatRow = walk-step (repeat m) p p n (s .0) refl (omega arith) never h in
       let body = walks-tree a (endRepeat ∷ flat k ls) (suc p) (suc n) (rows a + suc n) end refl refl (omega arith) (s .1) (w .1 .0) repeatRow in
-      let endRow = walk-step endRepeat end end (rows a + suc n) (atEnd .0) refl (omega arith) body in
+      let endRow = walk-step endRepeat end end (rows a + suc n) (atEnd .0) refl (omega arith) (λ e. omega (arith, w .0 .endGoes)) body in
       walks-tree k ls (suc end) (suc (rows a + suc n)) c e (omega arith) (omega arith) below (atEnd .1) (w .1 .1) endRow
 
   walks-none : (e : ℕ) → Walks given 0 e

@@ -1,9 +1,12 @@
 // The two parts of the table, each in one pass over the sheet's rows.
 ghost use mathlib.Core.Path.{_≡_};
-ghost use lib.ListN.{set};
-ghost use Prim.Native.Nat.{_≤_};
+ghost use mathlib.Core.Bool.{true};
+ghost use lib.ListN.{set, length, getD};
+ghost use Prim.Native.Nat.{_+_, _*_, _≤_, _<_};
+ghost use Rattle.sheet.specs.Bounds.{limit};
 ghost use Rattle.table.specs.Sizes.{mostTableRows};
-ghost use Rattle.table.specs.inner.MarkedRows.{Room, Readable, forwardAll, stepBack, turnsBack, handed, Walkable, backwardAll, wholeRows};
+ghost use Rattle.table.specs.inner.MarkedRows.{Room, Readable, forwardAll, leadsOn, stepBack, turnsBack};
+ghost use Rattle.table.specs.inner.MarkedRows.{handed, Walkable, backwardAll, wholeRows};
 ghost use Rattle.table.specs.inner.JumpsNoted.{noting, Numbered, WroteNoted};
 use super::MAX_TABLE_ROWS;
 use super::Plan;
@@ -54,6 +57,8 @@ fn forward_part(
 
 // Where the backward walk goes from a row: to the end of what comes next there.
 fn step_back(came: &[u16], goes: &[u16], row: RowNumber, part: Part) -> usize
+    requires { ⌜ (row .0 < length (now came)) × (row .0 < length (now goes))
+        × (leadsOn part ≡ true → getD (now goes) (row .0) 0 < length (now goes)) ⌝ }
     ensures { λ r. ⌜ r ≡ stepBack (now (came .entry)) (now (goes .entry)) (row .0) part ⌝ }
 {
     match part {
@@ -77,11 +82,13 @@ fn step_back(came: &[u16], goes: &[u16], row: RowNumber, part: Part) -> usize
 
 // The turns of an "end repeat"'s "repeat"; 0 for any other row.
 fn turns_back(words: &[u16], first: usize, goes: &[u16], row: RowNumber, part: Part) -> u16
+    requires { ⌜ (row .0 < length (now goes))
+        × (leadsOn part ≡ true → first + (getD (now goes) (row .0) 0 + 1) * limit .rowWords ≤ length (now words)) ⌝ }
     ensures { λ r. ⌜ r ≡ turnsBack (now (words .entry)) first (now (goes .entry)) (row .0) part ⌝ }
 {
     if let Part::EndRepeat = part {
         let start = partners::partner(goes, row);
-        let opened = sheet::row_words(words, first, start);
+        let opened = sheet::row_of(words, first, start);
         return opened.a;
     }
     0

@@ -16,7 +16,7 @@ write-table-requires c κs =
       room-right lies _ _ _ (made .planned .noted) _ _ (made .planned .rows) (start .pre .1),
       (
         rows-numbered lies _ _ _ (made .planned .noted) _ (made .planned .rows) (planned-few made),
-        (readable lies _ (omega arith), (walkable lies _ _ _ (made .planned .noted), planned-few made)),
+        (readable lies _ (omega arith), (walkable lies _ _ _ (made .planned .noted) (omega arith) (omega arith), planned-few made)),
       ),
     )
 

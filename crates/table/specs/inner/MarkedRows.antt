@@ -171,6 +171,15 @@ forwardAll words shape marks = forwardRows words (shape .«first_row») marks 0 
 abbrev pub ifEnd : (goes : List ℕ) (q : ℕ) → ℕ
 ifEnd goes q = getD goes (getD goes q 0) 0
 
+-- a row from which `goes` leads to another row that is read: an "if" to its "else", an "end repeat" to its "repeat"
+abbrev pub leadsOn : Part → Bool
+leadsOn part.Assignment = false
+leadsOn part.If = true
+leadsOn part.Else = false
+leadsOn part.EndIf = false
+leadsOn part.Repeat = false
+leadsOn part.EndRepeat = true
+
 -- The backward part walks over the rows from the last on. From a row it goes to the end of what comes next, which is
 -- the row before; but "end if" to the first branch, "if" to the second, "else" to what is before the block.
 unfoldable pub stepBack : (came goes : List ℕ) (q : ℕ) → Part → ℕ
@@ -223,8 +232,11 @@ module _ (given : Handed) where
       let l = lineOfRow (rowOfNumber q) in
       backwardOfLine (given .variables) (getD (given .marks) q 0) (turnsBack (given .words) (given .first) (given .goes) q (partOf l)) l
 
+  abbrev pub partOfNumber : ℕ → Part
+  partOfNumber q = partOf (lineOfRow (rowOfNumber q))
+
   abbrev pub wayBack : (q : ℕ) → ℕ
-  wayBack q = stepBack (given .came) (given .goes) q (partOf (lineOfRow (rowOfNumber q)))
+  wayBack q = stepBack (given .came) (given .goes) q (partOfNumber q)
 
   unfoldable pub backwardRows : (count end : ℕ) → List Row
   unfolding backwardOfLine turnsBack lineOfRow rowAt stepBack
@@ -234,10 +246,11 @@ module _ (given : Handed) where
   abbrev pub backwardAll : List Row
   backwardAll = backwardRows (given .rows) (given .rows)
 
-  -- the row before `end` is there
+  -- the row before `end` is there, and so is the row that it leads to
   pub record Visited (end : ℕ) : Type 0 where
     pub some : 1 ≤ end
     pub within : end ≤ given .rows
+    pub leads : leadsOn (partOfNumber (end - 1)) ≡ true → getD (given .goes) (end - 1) 0 < given .rows
 
   -- the walk stays on the rows for so many of them
   unfoldable pub Walks : (count end : ℕ) → Type 0
@@ -249,6 +262,8 @@ module _ (given : Handed) where
   pub record Walkable : Type 0 where
     pub few : given .variables ≤ limit .variables
     pub small : (p : ℕ) → p < given .rows → Small (given .variables) (rowOfNumber p)
+    pub cameThere : given .rows ≤ length (given .came)
+    pub goesThere : given .rows ≤ length (given .goes)
     pub walks : Walks (given .rows) (given .rows)
 
 -- the forward part, row 17 and the backward part

@@ -1,14 +1,18 @@
 -- `table::sweep::backward_part` meets its contract. The invariant: the walk stays on the rows, and what is written and noted and what the rest of
 -- the walk gives make up the whole.
 use Prim.Native.Nat.{_<_, _-_}
-use mathlib.Core.Path.{refl, sym, subst}
+use mathlib.Core.Path.{_≡_, refl, sym, ap, subst, _∙_}
+use mathlib.Core.Bool.{true}
+use lib.ListN.{getD}
 use borrow.Author.Needs.{needs}
 use native.Mathlib.Omega.{arith}
-use Rattle.table.specs.inner.MarkedRows.{Says, SaysPart, Small, Handed, handed, backwardAll, backwardRows, Visited, Walks}
+use Rattle.table.specs.inner.MarkedRows.{Says, SaysPart, Small, leadsOn, Handed, handed, backwardAll, backwardRows, Visited, Walks}
 use Rattle.table.specs.inner.JumpsNoted.{noting}
 use Rattle.table.proofs.WritingLaws.{Underway, underway-start, underway-room, underway-next, underway-end, underway-length, room-first}
 use Rattle.table.proofs.JumpLaws.{Jumping, jumping-start, backward-ends, row-ends, jumping-next, jumping-end}
 use Rattle.sheet.specs.Answers.{rowSaid}
+use Rattle.sheet.specs.inner.RowLines.{lineOfRow}
+use Rattle.sheet.specs.inner.Kinds.{partOf}
 use Rattle.table.proofs.LineRows.{says-kind, says-part}
 use Rattle.table.proofs.BackwardOver.{backward-next, backward-none, visit-now, walk-on}
 use Rattle.table.proofs.sweep.backward_part.Statement.{statement}
@@ -42,6 +46,11 @@ said c =
     let turn = c .before .before in
     says-part _ _ (subst Says (sym (c .before .row-of .ensures)) (start turn .pre .1 .1 .0 .says _ (there turn))) (c .part-of .ensures)
 
+-- the row that it leads to is there
+leads : (c : tie.After-part-of Inv-loop μ-loop) → leadsOn (c .part-of .result) ≡ true
+    → let turn = c .before .before in getD (handedTo turn .goes) (turn .before .loop .end - 1) 0 < handedTo turn .rows
+leads c e = visit (c .before .before) .leads (ap leadsOn (sym (said c .is ∙ ap (λ r. partOf (lineOfRow r)) (c .before .row-of .ensures))) ∙ e)
+
 cast-variables : tie.Need-cast-variables Inv-loop μ-loop
 cast-variables c = record { fits = omega (arith, c .before .before .before .before .before .before .pre .1 .1 .1 .few) }
 
@@ -65,7 +74,10 @@ part-of-requires c κs =
     (turn .before .before .forms .ensures, says-kind (c .row-of .ensures) (start turn .pre .1 .1 .0 .says _ (there turn)))
 
 turns-back-requires : tie.Need-turns-back-requires Inv-loop μ-loop
-turns-back-requires c κs = search needs
+turns-back-requires c κs =
+    let turn = c .before .before in
+    let given = start turn .pre .1 .1 in
+    (omega (arith, there turn, given .1 .goesThere), λ e. omega (arith, leads c e, given .0 .there))
 
 shared-slice-read-backward-row : tie.Need-shared-slice-read-backward-row Inv-loop μ-loop
 shared-slice-read-backward-row c =
@@ -96,7 +108,12 @@ note-requires c κs =
     row-ends (turn .before .loop .inv .2) _ left (wrote .backward-row .ensures) (backward-ends (said row) _ _ _ (c .before .backward .ensures))
 
 step-back-requires : tie.Need-step-back-requires Inv-loop μ-loop
-step-back-requires c κs = search needs
+step-back-requires c κs =
+    let row : tie.After-part-of Inv-loop μ-loop = search in
+    let turn = row .before .before in
+    let given = start turn .pre .1 .1 .1 in
+    let here = there turn in
+    (omega (arith, here, given .cameThere), omega (arith, here, given .goesThere), λ e. omega (arith, leads row e, given .goesThere))
 
 sub-left : tie.Need-sub-left Inv-loop μ-loop
 sub-left c = omega (arith, c .before .before .before .before .before .before .before .before .before .before .before .before .loop-test .taken)

@@ -1,5 +1,6 @@
 -- `table::sweep::step_back` meets its contract, by what the row is to the blocks.
-use Rattle.table.specs.inner.MarkedRows.{stepBack}
+use mathlib.Core.Path.{ap}
+use Rattle.table.specs.inner.MarkedRows.{leadsOn, stepBack}
 use borrow.Author.Needs.{needs}
 use Rattle.table.proofs.sweep.step_back.Statement.{statement}
 use Rattle.table.proofs.sweep.step_back.Tie as tie
@@ -11,19 +12,19 @@ enum-told-2 : tie.Need-enum-told-2
 enum-told-2 c = search needs
 
 if-end-requires : tie.Need-if-end-requires
-if-end-requires c κs = search needs
+if-end-requires c κs = let start : tie.Start = search in (start .pre .1, start .pre .2 (ap leadsOn (c .enum-told2 .given .1)))
 
 enum-told-3 : tie.Need-enum-told-3
 enum-told-3 c = search needs
 
 partner-requires : tie.Need-partner-requires
-partner-requires c κs = search needs
+partner-requires c κs = let start : tie.Start = search in start .pre .0
 
 enum-told-4 : tie.Need-enum-told-4
 enum-told-4 c = search needs
 
 partner-requires-2 : tie.Need-partner-requires-2
-partner-requires-2 c κs = search needs
+partner-requires-2 c κs = let start : tie.Start = search in start .pre .0
 
 enum-told-5 : tie.Need-enum-told-5
 enum-told-5 c = search needs
