@@ -2,13 +2,13 @@
 use Prim.Native.Nat.{ℕ, suc, _+_, _*_, _≤_}
 use mathlib.Core.Path.{_≡_, sym, ap, subst, _∙_}
 use mathlib.Core.List.{List, [], map}
-use lib.ListN.{length, getD, length-map, List·getD-eq-default}
+use lib.ListN.{length, length-map}
 use native.Mathlib.Omega.{arith}
 use Rattle.sheet.specs.Bounds.{limit}
 use Rattle.sheet.specs.Refusals.{given}
 use Rattle.sheet.specs.Tree.{flat}
 use Rattle.sheet.specs.Rows.{SheetLine, sheetRowOf, treeRows}
-use Rattle.sheet.specs.Reading.{Sheet, rowAt, rowsAt, read}
+use Rattle.sheet.specs.Reading.{Sheet, rowsAt, read}
 use Rattle.sheet.proofs.ReadingParts.{accepted}
 use Rattle.sheet.proofs.ReadingExact.{reading-exact}
 use Rattle.sheet.proofs.NamesPresent.{count-judged, counts}
@@ -17,15 +17,6 @@ use Rattle.sheet.proofs.RowsCounted.{rows-counted}
 -- the place of a row, by its number from 0
 abbrev pub rowPlace : (first row : ℕ) → ℕ
 rowPlace first row = first + row * limit .rowWords
-
--- beyond the words every word counts as 0
-pub no-row-there : (words : List ℕ) (place : ℕ) → length words ≤ place → rowAt words place ≡ record { kind = 0; d = 0; a = 0; b = 0 }
-unfolding rowAt
-no-row-there words place h =
-    rw (beyond place h, beyond (place + 1) (omega arith), beyond (place + 2) (omega arith), beyond (place + 3) (omega arith))
-  where
-    beyond : (p : ℕ) → length words ≤ p → getD words p 0 ≡ 0
-    beyond p h = List·getD-eq-default words 0 h
 
 -- these lines are the rows from row number `row` on, and all of them are there
 pub record Stands (words : List ℕ) (first row : ℕ) (lines : List SheetLine) : Type 0 where

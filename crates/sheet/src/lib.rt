@@ -91,14 +91,6 @@ pub struct RowWords {
     pub b: u16,
 }
 
-// What stands where there are no words.
-const NO_ROW: RowWords = RowWords {
-    kind: 0,
-    d: 0,
-    a: 0,
-    b: 0,
-};
-
 // What a judged count, the roles, all counts and the rows come to.
 enum Count {
     Refused(No),
@@ -264,30 +256,4 @@ pub fn row_of(words: &[u16], first: usize, row: RowNumber) -> RowWords
 {
     let number = row.0;
     row_at(words, first + number * ROW_WORDS)
-}
-
-// The row at a place near the words. Words that are missing count as 0.
-fn row_near(words: &[u16], place: usize) -> RowWords
-    requires { ⌜ place ≤ length (now words) * limit .rowWords ⌝ }
-    ensures { λ r. ⌜ rowSaid r ≡ rowAt (now (words .entry)) place ⌝ }
-{
-    let kind = word_at(words, place);
-    let d = word_at(words, place + 1);
-    let a = word_at(words, place + 2);
-    let b = word_at(words, place + 3);
-    RowWords { kind, d, a, b }
-}
-
-// A row by its number that may not be there.
-pub fn row_words(words: &[u16], first: usize, row: RowNumber) -> RowWords
-    ensures { λ r. ⌜ rowSaid r ≡ rowAt (now (words .entry)) (first + row .0 * limit .rowWords) ⌝ }
-{
-    let number = row.0;
-    if words.len() <= first {
-        return NO_ROW;
-    }
-    if words.len() - first <= number {
-        return NO_ROW;
-    }
-    row_near(words, first + number * ROW_WORDS)
 }
