@@ -119,7 +119,7 @@ fn seed_of(which: Which, words: &[u16], variables: usize) -> u64
     let mut seed: u64 = 0;
     let mut left = variables;
     while 0 < left {
-        let there = has_role(which, sheet::word_at(words, left));
+        let there = has_role(which, words[left]);
         seed = 2 * seed + there as u64;
         left -= 1;
     }

@@ -2,7 +2,6 @@
 use Prim.Native.Nat.{ℕ, _+_, _-_, _^_, _≤_, _<_}
 use mathlib.Core.Bool.{cond}
 use denote.Ref.{now}
-use Rattle.sets.specs.inner.RowEquations.{hasRole}
 use borrow.Author.Needs.{needs}
 use native.Mathlib.Omega.{arith}
 use mathlib.Core.Path.{_≡_, sym, ap, _∙_}
@@ -26,8 +25,13 @@ seed-small c =
 loop-holds : tie.Need-loop-holds Inv-loop μ-loop
 loop-holds c = (omega arith, sym (seed-none _ _ _ (c .before .pre .1)))
 
-word-at-requires : tie.Need-word-at-requires Inv-loop μ-loop
-word-at-requires c κs = search needs
+mul-has-role : tie.Need-mul-has-role Inv-loop μ-loop
+mul-has-role c = search needs
+
+shared-slice-read-has-role : tie.Need-shared-slice-read-has-role Inv-loop μ-loop
+shared-slice-read-has-role c =
+    let loop = c .before .before in
+    omega (arith, loop .loop .inv .0, loop .before .before .pre .1)
 
 has-role-requires : tie.Need-has-role-requires Inv-loop μ-loop
 has-role-requires c κs = search needs
@@ -53,9 +57,8 @@ loop-again c =
     let start = loop .before .before in
     let args = start .args in
     let left : loop .loop .left - 1 + 1 ≡ loop .loop .left = omega (arith, c .before .before .loop-test .taken) in
-    let role = c .has-role .ensures ∙ ap (hasRole (args .which)) (c .before .word-at .ensures) in
     let on = seed-on (args .which) (now (args .words)) (args .variables) (start .pre .1) _ (loop .loop .left) left (loop .loop .inv .0) in
-    (omega arith, omega (arith, on, loop .loop .inv .1, byte-of (c .has-role .result), ap {B = ℕ} (λ b. cond b 1 0) role))
+    (omega arith, omega (arith, on, loop .loop .inv .1, byte-of (c .has-role .result), ap {B = ℕ} (λ b. cond b 1 0) (c .has-role .ensures)))
 
 returns : tie.Need-returns Inv-loop μ-loop
 returns c =
@@ -70,7 +73,8 @@ seed-of-spec =
     Inv-loop
     μ-loop
     loop-holds
-    word-at-requires
+    mul-has-role
+    shared-slice-read-has-role
     has-role-requires
     mul-seed
     cast-seed
