@@ -9,6 +9,7 @@ pub mod PartnerPass
 pub mod RowByRow
 pub mod KeptPlaces
 pub mod PartnersRight
+pub mod TopsWithin
 pub mod SheetRows
 pub mod MarkByteLaws
 pub mod Seeds

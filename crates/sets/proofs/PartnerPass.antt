@@ -10,32 +10,51 @@ use Rattle.sheet.specs.Rows.{SheetLine}
 use Rattle.sheet.specs.inner.Kinds.{partOf}
 use Rattle.sheet.specs.declared.kinds.Part.{Part}
 use Rattle.sets.specs.declared.rows.Seen.{Seen}
-use Rattle.sets.specs.inner.PartnerPass.{Found, found, foundBy, foundAt, foundOver, PartnersFound}
+use Rattle.sets.specs.inner.PartnerPass.{Found, found, foundBy, foundAt, foundOver, TopsWithin, Findable, Listed, PartnersFound}
 use Rattle.sets.specs.inner.RowEquations.{lineIn, Readable, Sees}
 use Rattle.sheet.proofs.LinesByPart.{row-part}
 
 -- what holds before a row of the pass
 pub record Finding (line : ℕ → SheetLine) (n : ℕ) (came₀ goes₀ came goes : List ℕ) (top row : ℕ) : Type 0 where
   pub within : row ≤ n
-  pub small : top < wordValues
+  pub tops : TopsWithin line n row (n - row) (found top came goes)
   pub follows : foundOver line row (n - row) (found top came goes)
       ≡ foundOver line 0 n (found 0 came₀ goes₀)
   pub cameLong : length came ≡ length came₀
   pub goesLong : length goes ≡ length goes₀
 
 module _ (line : ℕ → SheetLine) (n : ℕ) (came₀ goes₀ : List ℕ) where
-  pub finding-starts : Finding line n came₀ goes₀ came₀ goes₀ 0 0
-  finding-starts =
+  pub finding-starts : Findable line n came₀ goes₀ → Finding line n came₀ goes₀ came₀ goes₀ 0 0
+  finding-starts findable =
       let all : n - 0 ≡ n = omega arith in
-      record { within = omega arith; small = omega arith; follows = rw all; cameLong = refl; goesLong = refl }
+      record { within = omega arith; tops = rw all (findable .within); follows = rw all; cameLong = refl; goesLong = refl }
 
   found-more : (p m : ℕ) (s : Found) → foundOver line p (suc m) s ≡ foundOver line (suc p) m (foundAt (line p) p s)
   unfolding foundOver
   found-more p m s = refl
 
+  tops-more : (p m : ℕ) (s : Found) → TopsWithin line n p (suc m) s → (s .top < n) × TopsWithin line n (suc p) m (foundAt (line p) p s)
+  unfolding TopsWithin
+  tops-more p m s w = w
+
+  -- the row and the innermost open one have places in both lists
+  pub both-listed : {came goes : List ℕ} {top row : ℕ} → Findable line n came₀ goes₀ → Finding line n came₀ goes₀ came goes top row → row < n
+      → ((p : ℕ) → p < n → p < wordValues) → Listed came goes row × Listed came goes top
+  both-listed {came} {goes} {top} {row} findable f h small =
+      let left : n - row ≡ suc (n - suc row) = omega arith in
+      let below : top < n = tops-more row (n - suc row) (found top came goes) (rw left at (f .tops)) .0 in
+      let there : (p : ℕ) → p < n → Listed came goes p =
+      λ p within.
+      record {
+        small = small p within;
+        inCame = omega (arith, f .cameLong, findable .cameRoom);
+        inGoes = omega (arith, f .goesLong, findable .goesRoom);
+      } in
+      (there row h, there top below)
+
   pub finding-on : (came goes : List ℕ) (top row : ℕ) → Finding line n came₀ goes₀ came goes top row → row < n → (part : Part)
       → part ≡ partOf (line row) → (came′ goes′ : List ℕ) (top′ : ℕ)
-      → (found top′ came′ goes′ ≡ foundBy part row (found top came goes)) × (top′ < wordValues)
+      → found top′ came′ goes′ ≡ foundBy part row (found top came goes)
       → length came′ ≡ length came → length goes′ ≡ length goes → Finding line n came₀ goes₀ came′ goes′ top′ (row + 1)
   unfolding foundAt
   finding-on came goes top row f h part is came′ goes′ top′ step cl gl =
@@ -44,8 +63,8 @@ module _ (line : ℕ → SheetLine) (n : ℕ) (came₀ goes₀ : List ℕ) where
       let one = found-more row (n - suc row) (found top came goes) in
       record {
         within = omega arith;
-        small = step .1;
-        follows = rw (next, step .0, is, sym one, sym left) (f .follows);
+        tops = rw (next, step, is) (tops-more row (n - suc row) (found top came goes) (rw left at (f .tops)) .1);
+        follows = rw (next, step, is, sym one, sym left) (f .follows);
         cameLong = cl ∙ f .cameLong;
         goesLong = gl ∙ f .goesLong;
       }

@@ -221,20 +221,20 @@ module _ (line : ℕ → SheetLine) where
       let here : p + suc m ≡ suc p + m = omega arith in
       rw (all, here) (found-both (suc p) m n (foundAt (line p) p s))
 
-  found-one : (p x : ℕ) (s : Found) (b : Assignment) → line p ≡ basic b → foundOver line p (1 + x) s ≡ foundOver line (suc p) x s
+  pub found-one : (p x : ℕ) (s : Found) (b : Assignment) → line p ≡ basic b → foundOver line p (1 + x) s ≡ foundOver line (suc p) x s
   unfolding foundOver foundAt
   found-one p x s b e =
       let count : 1 + x ≡ suc x = omega arith in
       rw count (ap (foundOver line (suc p) x) (ap (λ l. foundAt l p s) e))
 
-  found-again : (p x z : ℕ) (s : Found) → let q = suc p + x in
+  pub found-again : (p x z : ℕ) (s : Found) → let q = suc p + x in
       foundOver line p (2 + (x + z)) s ≡ foundOver line (suc q) z (foundAt (line q) q (foundOver line (suc p) x (foundAt (line p) p s)))
   unfolding foundOver
   found-again p x z s =
       let count : 2 + (x + z) ≡ suc (x + suc z) = omega arith in
       rw count (found-both (suc p) x (suc z) (foundAt (line p) p s))
 
-  found-fork : (p x y z : ℕ) (s : Found) → let q = suc p + x in let r = suc q + y in
+  pub found-fork : (p x y z : ℕ) (s : Found) → let q = suc p + x in let r = suc q + y in
       let first = foundOver line (suc p) x (foundAt (line p) p s) in
       let second = foundOver line (suc q) y (foundAt (line q) q first) in
       foundOver line p (3 + (x + y + z)) s ≡ foundOver line (suc r) z (foundAt (line r) r second)
@@ -245,7 +245,7 @@ module _ (line : ℕ → SheetLine) where
       (found-again p x (y + suc z) s
       ∙ found-both (suc (suc p + x)) y (suc z) (foundAt (line (suc p + x)) (suc p + x) (foundOver line (suc p) x (foundAt (line p) p s))))
 
-  found-long : (l : SheetLine) (p : ℕ) (s : Found)
+  pub found-long : (l : SheetLine) (p : ℕ) (s : Found)
       → (length (foundAt l p s .came) ≡ length (s .came)) × (length (foundAt l p s .goes) ≡ length (s .goes))
   unfolding foundAt
   found-long (basic b) p s = (refl, refl)

@@ -5,20 +5,14 @@ ghost use Prim.Native.Nat.{_<_};
 ghost use lib.ListN.{getD, set, length};
 ghost use Rattle.sheet.specs.Bounds.{wordValues};
 ghost use Rattle.sets.specs.inner.RowEquations.{AllReadable, lineIn};
-ghost use Rattle.sets.specs.inner.PartnerPass.{found, foundBy, PartnersFound};
+ghost use Rattle.sets.specs.inner.PartnerPass.{found, foundBy, Findable, Listed, PartnersFound};
 use super::Extent;
 use super::rows;
 use sheet::RowNumber;
 use sheet::kinds;
 use sheet::kinds::Part;
 
-fn partner_of(partners: &[u16], row: RowNumber) -> RowNumber
-    ensures { λ r. ⌜ (r .0 ≡ getD (now (partners .entry)) (row .0) 0) × (r .0 < wordValues) ⌝ }
-{
-    RowNumber(sheet::word_at(partners, row.0) as usize)
-}
-
-// The same of a row that has a place in the list.
+// The partner that is noted for a row, which must have a place in the list.
 pub fn partner_there(partners: &[u16], row: RowNumber) -> RowNumber
     requires { ⌜ row .0 < length (now partners) ⌝ }
     ensures { λ r. ⌜ (r .0 ≡ getD (now (partners .entry)) (row .0) 0) × (r .0 < wordValues) ⌝ }
@@ -28,13 +22,11 @@ pub fn partner_there(partners: &[u16], row: RowNumber) -> RowNumber
 }
 
 fn put(list: &mut [u16], row: RowNumber, partner: RowNumber)
-    requires { ⌜ partner .0 < wordValues ⌝ }
+    requires { ⌜ (row .0 < length (now list)) × (partner .0 < wordValues) ⌝ }
     ensures { λ r. ⌜ now (list .exit) ≡ set (now (list .entry)) (row .0) (partner .0) ⌝ }
 {
     let place = row.0;
-    if place < list.len() {
-        list[place] = partner.0 as u16;
-    }
+    list[place] = partner.0 as u16;
 }
 
 // One row: `top` is the innermost open block's last row so far, and the answer is the same after this row.
@@ -45,9 +37,9 @@ fn partner_step(
     came: &mut [u16],
     goes: &mut [u16],
 ) -> RowNumber
-    requires { ⌜ (row .0 < wordValues) × (top .0 < wordValues) ⌝ }
-    ensures { λ r. ⌜ (found (r .0) (now (came .exit)) (now (goes .exit))
-        ≡ foundBy part (row .0) (found (top .0) (now (came .entry)) (now (goes .entry)))) × (r .0 < wordValues) ⌝ }
+    requires { ⌜ Listed (now came) (now goes) (row .0) × Listed (now came) (now goes) (top .0) ⌝ }
+    ensures { λ r. ⌜ found (r .0) (now (came .exit)) (now (goes .exit))
+        ≡ foundBy part (row .0) (found (top .0) (now (came .entry)) (now (goes .entry))) ⌝ }
 {
     match part {
         Part::Assignment => top,
@@ -56,14 +48,14 @@ fn partner_step(
             row
         }
         Part::Else => {
-            let outer = partner_of(goes, top);
+            let outer = partner_there(goes, top);
             put(came, row, top);
             put(goes, top, row);
             put(goes, row, outer);
             row
         }
         Part::EndIf => {
-            let outer = partner_of(goes, top);
+            let outer = partner_there(goes, top);
             put(came, row, top);
             put(goes, top, row);
             outer
@@ -73,7 +65,7 @@ fn partner_step(
             row
         }
         Part::EndRepeat => {
-            let outer = partner_of(goes, top);
+            let outer = partner_there(goes, top);
             put(came, top, row);
             put(goes, row, top);
             outer
@@ -82,7 +74,8 @@ fn partner_step(
 }
 
 pub fn find_partners(words: &[u16], extent: Extent, came: &mut [u16], goes: &mut [u16])
-    requires { ⌜ AllReadable (now words) (extent .first) (extent .rows) ⌝ }
+    requires { ⌜ AllReadable (now words) (extent .first) (extent .rows)
+        × Findable (lineIn (now words) (extent .first)) (extent .rows) (now came) (now goes) ⌝ }
     ensures { λ r. ⌜ PartnersFound (lineIn (now (words .entry)) (extent .first)) (extent .rows)
         (now (came .entry)) (now (goes .entry)) (now (came .exit)) (now (goes .exit)) ⌝ }
 {

@@ -4,8 +4,8 @@ use borrow.Author.Needs.{needs}
 use native.Mathlib.Omega.{arith}
 use denote.Ref.{now}
 use lib.ListN.{length}
-use Rattle.sets.specs.inner.RowEquations.{AllReadable}
 use Rattle.sets.specs.inner.Laid.{Laid}
+use Rattle.sets.proofs.TopsWithin.{findable}
 use Rattle.sets.proofs.SheetMarked.{facts, PartnersAre, partners-right, settles-varied, settles-useful, settles-required}
 use Rattle.sets.proofs.SheetMarked.{varied-settled, useful-settled, required-settled, all-marked}
 use Rattle.sets.proofs.settle_and_mark.Statement.{statement}
@@ -43,13 +43,14 @@ came-room c = omega (arith, c .find-partners .kept .1 .1 .0, atStart c .pre .1 .
 goes-room : (c : tie.After-find-partners) → atStart c .args .rows ≤ length (c .find-partners .last .1 .1 .1 .0)
 goes-room c = omega (arith, c .find-partners .kept .1 .1 .1 .0, atStart c .pre .1 .goesRoom)
 
-all-readable : (c : tie.Start) → AllReadable (now (c .args .words)) (c .args .first) (c .args .rows)
-all-readable c = facts _ _ _ _ (handed c) .readable
-
 -- ---- the needs
 
 find-partners-requires : tie.Need-find-partners-requires
-find-partners-requires c κs = all-readable (c .before .before .before .before .before .before .before .before .before)
+find-partners-requires c κs =
+    let start = c .before .before .before .before .before .before .before .before .before in
+    let known = facts _ _ _ _ (handed start) in
+    let room = start .pre .1 in
+    (known .readable, findable _ _ (handed start .sheet .body) _ _ (known .lines) (handed start .rowsAre) (room .cameRoom) (room .goesRoom))
 
 settle-varied-requires : tie.Need-settle-varied-requires
 settle-varied-requires c κs =

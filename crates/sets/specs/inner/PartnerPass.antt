@@ -1,8 +1,9 @@
 -- How one pass over the rows finds every block row's partners both ways.
-use Prim.Native.Nat.{ℕ, zero, suc}
+use Prim.Native.Nat.{ℕ, zero, suc, _≤_, _<_}
 use mathlib.Core.Path.{_≡_}
 use mathlib.Core.List.{List}
-use lib.ListN.{getD, set}
+use lib.ListN.{length, getD, set}
+use Rattle.sheet.specs.Bounds.{wordValues}
 use Rattle.sheet.specs.Rows.{SheetLine}
 use Rattle.sheet.specs.inner.Kinds.{partOf}
 use Rattle.sheet.specs.declared.kinds.Part.{Part}
@@ -36,6 +37,24 @@ unfoldable pub foundOver : (ℕ → SheetLine) → (from count : ℕ) → Found 
 unfolding foundAt
 foundOver line p zero s = s
 foundOver line p (suc n) s = foundOver line (suc p) n (foundAt (line p) p s)
+
+-- before each of so many rows the innermost open block's last row so far is one of n rows
+unfoldable pub TopsWithin : (ℕ → SheetLine) → (n from count : ℕ) → Found → Type 0
+unfolding foundAt
+TopsWithin line n p zero s = Unit
+TopsWithin line n p (suc m) s = (s .top < n) × TopsWithin line n (suc p) m (foundAt (line p) p s)
+
+-- both lists have a place for each row, and what they are asked for is a row
+pub record Findable (line : ℕ → SheetLine) (n : ℕ) (came goes : List ℕ) : Type 0 where
+  pub cameRoom : n ≤ length came
+  pub goesRoom : n ≤ length goes
+  pub within : TopsWithin line n 0 n (found 0 came goes)
+
+-- a row that has a place in both lists, and whose number fits a word
+pub record Listed (came goes : List ℕ) (row : ℕ) : Type 0 where
+  pub small : row < wordValues
+  pub inCame : row < length came
+  pub inGoes : row < length goes
 
 -- one pass over all rows, from whatever the lists had
 abbrev pub PartnersFound : (ℕ → SheetLine) → (rows : ℕ) → (came goes came′ goes′ : List ℕ) → Type 0

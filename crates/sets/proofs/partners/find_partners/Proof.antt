@@ -1,9 +1,9 @@
--- `sets::partners::find_partners` meets its contract: the loop's invariant: the rest of the pass from here ends where the whole pass does.
--- The measure is what is left of the rows.
+-- `sets::partners::find_partners` meets its contract: the loop's invariant: the rest of the pass from here ends where the whole pass does,
+-- and asks the lists for rows alone. The measure is what is left of the rows.
 use Prim.Native.Nat.{_-_}
 use native.Mathlib.Omega.{arith}
 use Rattle.sets.specs.inner.RowEquations.{lineIn}
-use Rattle.sets.proofs.PartnerPass.{Finding, finding-starts, finding-on, found-all, part-read}
+use Rattle.sets.proofs.PartnerPass.{Finding, finding-starts, both-listed, finding-on, found-all, part-read}
 use Rattle.sets.proofs.partners.find_partners.Statement.{statement}
 use Rattle.sets.proofs.partners.find_partners.Tie as tie
 
@@ -18,25 +18,27 @@ forms-requires : tie.Need-forms-requires Inv-loop μ-loop
 forms-requires c κs = tt
 
 loop-holds : tie.Need-loop-holds Inv-loop μ-loop
-loop-holds c = finding-starts _ _ _ _
+loop-holds c =
+    let start : tie.Start Inv-loop μ-loop = search in
+    finding-starts _ _ _ _ (start .pre .1)
 
 look-requires : tie.Need-look-requires Inv-loop μ-loop
 look-requires c κs =
     let forms = c .before .before in
     let start = forms .before .before .before .before in
-    (forms .forms .ensures, start .pre _ (c .loop-test .taken))
+    (forms .forms .ensures, start .pre .0 _ (c .loop-test .taken))
 
 partner-step-requires : tie.Need-partner-step-requires Inv-loop μ-loop
 partner-step-requires c κs =
     let inside = c .before .before .before .before in
     let start = inside .before .before .before .before .before .before in
-    (start .pre _ (inside .loop-test .taken) .numbered, inside .before .loop .inv .small)
+    both-listed _ _ _ _ (start .pre .1) (inside .before .loop .inv) (inside .loop-test .taken) (λ p h. start .pre .0 p h .numbered)
 
 add-number : tie.Need-add-number Inv-loop μ-loop
 add-number c =
     let inside = c .before .before .before .before .before .before .before .before .before in
     let start = inside .before .before .before .before .before .before in
-    omega (arith, start .pre _ (inside .loop-test .taken) .numbered)
+    omega (arith, start .pre .0 _ (inside .loop-test .taken) .numbered)
 
 loop-less : tie.Need-loop-less Inv-loop μ-loop
 loop-less c = omega (arith, c .before .before .before .before .before .before .before .before .before .loop-test .taken)
@@ -48,7 +50,7 @@ loop-again c =
     let inside = read .before in
     let start = inside .before .before .before .before .before .before in
     finding-on _ _ _ _ _ _ _ _ (inside .before .loop .inv) (inside .loop-test .taken) _
-    (part-read _ _ _ _ (start .pre _ (inside .loop-test .taken)) (read .look .ensures)) _ _ _ (step .partner-step .ensures)
+    (part-read _ _ _ _ (start .pre .0 _ (inside .loop-test .taken)) (read .look .ensures)) _ _ _ (step .partner-step .ensures)
     (step .partner-step .kept .1 .1 .1 .0) (step .partner-step .kept .1 .1 .1 .1 .0)
 
 same-length : tie.Need-same-length Inv-loop μ-loop

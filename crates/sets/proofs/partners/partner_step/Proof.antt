@@ -16,8 +16,8 @@ put-requires c κs = search needs
 enum-told-3 : tie.Need-enum-told-3
 enum-told-3 c = search needs
 
-partner-of-requires : tie.Need-partner-of-requires
-partner-of-requires c κs = search needs
+partner-there-requires : tie.Need-partner-there-requires
+partner-there-requires c κs = search needs
 
 put-requires-2 : tie.Need-put-requires-2
 put-requires-2 c κs = search needs
@@ -31,8 +31,8 @@ put-requires-4 c κs = search needs
 enum-told-4 : tie.Need-enum-told-4
 enum-told-4 c = search needs
 
-partner-of-requires-2 : tie.Need-partner-of-requires-2
-partner-of-requires-2 c κs = search needs
+partner-there-requires-2 : tie.Need-partner-there-requires-2
+partner-there-requires-2 c κs = search needs
 
 put-requires-5 : tie.Need-put-requires-5
 put-requires-5 c κs = search needs
@@ -49,8 +49,8 @@ put-requires-7 c κs = search needs
 enum-told-6 : tie.Need-enum-told-6
 enum-told-6 c = search needs
 
-partner-of-requires-3 : tie.Need-partner-of-requires-3
-partner-of-requires-3 c κs = search needs
+partner-there-requires-3 : tie.Need-partner-there-requires-3
+partner-there-requires-3 c κs = search needs
 
 put-requires-8 : tie.Need-put-requires-8
 put-requires-8 c κs = search needs
@@ -60,7 +60,7 @@ put-requires-9 c κs = search needs
 
 returns : tie.Need-returns
 unfolding foundBy
-returns c = (rw (c .enum-told .given .1), c .before .before .before .before .pre .1)
+returns c = rw (c .enum-told .given .1)
 
 same-length : tie.Need-same-length
 same-length c = search needs
@@ -69,7 +69,7 @@ returns-2 : tie.Need-returns-2
 unfolding foundBy
 returns-2 c =
     let told = c .before .before .before .before in
-    (rw (told .enum-told2 .given .1, c .before .before .put .ensures), told .before .before .before .before .pre .0)
+    rw (told .enum-told2 .given .1, c .before .before .put .ensures)
 
 same-length-2 : tie.Need-same-length-2
 same-length-2 c = search needs
@@ -84,10 +84,8 @@ returns-3 c =
     let goes = split .before .before .before .before in
     let came = goes .before .before .before .before in
     let outer = came .before .before in
-    let told = outer .before .before in (
-      rw (told .enum-told3 .given .1, split .put4 .ensures, goes .put3 .ensures, came .put2 .ensures, outer .partner-of .ensures .0),
-      told .before .before .before .before .pre .0,
-    )
+    let told = outer .before .before in
+    rw (told .enum-told3 .given .1, split .put4 .ensures, goes .put3 .ensures, came .put2 .ensures, outer .partner-there .ensures .0)
 
 same-length-4 : tie.Need-same-length-4
 same-length-4 c = search needs
@@ -101,10 +99,8 @@ returns-4 c =
     let goes = c .before .before in
     let came = goes .before .before .before .before in
     let outer = came .before .before in
-    let told = outer .before .before in (
-      rw (told .enum-told4 .given .1, goes .put6 .ensures, came .put5 .ensures, outer .partner-of2 .ensures .0),
-      outer .partner-of2 .ensures .1,
-    )
+    let told = outer .before .before in
+    rw (told .enum-told4 .given .1, goes .put6 .ensures, came .put5 .ensures, outer .partner-there2 .ensures .0)
 
 same-length-6 : tie.Need-same-length-6
 same-length-6 c = search needs
@@ -113,7 +109,7 @@ returns-5 : tie.Need-returns-5
 unfolding foundBy
 returns-5 c =
     let told = c .before .before .before .before in
-    (rw (told .enum-told5 .given .1, c .before .before .put7 .ensures), told .before .before .before .before .pre .0)
+    rw (told .enum-told5 .given .1, c .before .before .put7 .ensures)
 
 same-length-7 : tie.Need-same-length-7
 same-length-7 c = search needs
@@ -127,10 +123,8 @@ returns-6 c =
     let goes = c .before .before in
     let came = goes .before .before .before .before in
     let outer = came .before .before in
-    let told = outer .before .before in (
-      rw (told .enum-told6 .given .1, goes .put9 .ensures, came .put8 .ensures, outer .partner-of3 .ensures .0),
-      outer .partner-of3 .ensures .1,
-    )
+    let told = outer .before .before in
+    rw (told .enum-told6 .given .1, goes .put9 .ensures, came .put8 .ensures, outer .partner-there3 .ensures .0)
 
 pub partner-step-spec : {M : Type 1} → statement M
 partner-step-spec =
@@ -140,18 +134,18 @@ partner-step-spec =
     enum-told-2
     put-requires
     enum-told-3
-    partner-of-requires
+    partner-there-requires
     put-requires-2
     put-requires-3
     put-requires-4
     enum-told-4
-    partner-of-requires-2
+    partner-there-requires-2
     put-requires-5
     put-requires-6
     enum-told-5
     put-requires-7
     enum-told-6
-    partner-of-requires-3
+    partner-there-requires-3
     put-requires-8
     put-requires-9
     returns

@@ -1,8 +1,5 @@
--- `sets::partners::put` meets its contract: beyond the end nothing is stored.
+-- `sets::partners::put` meets its contract.
 use borrow.Author.Needs.{needs}
-use mathlib.Core.Path.{sym}
-use denote.Ref.{now}
-use lib.Seq.{set-out}
 use Rattle.sets.proofs.partners.put.Statement.{statement}
 use Rattle.sets.proofs.partners.put.Tie as tie
 
@@ -21,8 +18,5 @@ same-length c = search needs
 returns : tie.Need-returns
 returns c = search needs
 
-returns-2 : tie.Need-returns-2
-returns-2 c = sym (set-out (now (c .before .args .list)) _ _ (c .if1 .left))
-
 pub put-spec : {M : Type 1} → statement M
-put-spec = tie.close (tie.spec cast-list mul-list slice-write-list same-length returns returns-2)
+put-spec = tie.close (tie.spec cast-list mul-list slice-write-list same-length returns)
