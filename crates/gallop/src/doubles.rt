@@ -1,10 +1,10 @@
 // A run in doubles, on their bits.
+use table::Answer;
 use text::fields::MAX_FIELDS;
 use text::heads::Asked;
 use text::lend;
 use text::lend::PLACES;
 use text::widths;
-use table::Answer;
 
 // The doubles of the bits, as many as there are; the other places stay.
 fn take_doubles(numbers: &[u64], doubles: &mut [f64]) {

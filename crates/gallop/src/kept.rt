@@ -1,10 +1,10 @@
 // What must stand in the lent buffers after a call.
+use run::NOT_FINITE_RESULT;
+use table::Answer;
 use text::lend;
 use text::lend::PLACES;
 use text::lend::TABLE_WORDS;
 use text::pattern;
-use run::NOT_FINITE_RESULT;
-use table::Answer;
 
 // On 0 and 12 the table was written and the stacks were cleared.
 fn has_run(number: u16) -> bool {

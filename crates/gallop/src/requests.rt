@@ -1,19 +1,19 @@
 // The answer to each request line: by its verb it is a check, a table or a run.
 ghost use Rattle.text.specs.Lines.{Taken};
+use super::kept;
+use super::runs;
+use super::runs::Arithmetic;
 use text::answers;
 use text::answers::MAX_ANSWER;
 use text::fields;
 use text::fields::Group;
 use text::heads;
 use text::heads::Lengths;
-use super::kept;
 use text::lend;
 use text::lend::SHEET_WORDS;
 use text::lend::TABLE_WORDS;
 use text::lines::MAX_LINE;
 use text::pattern;
-use super::runs;
-use super::runs::Arithmetic;
 
 // How many lengths each verb has.
 const CHECK_LENGTHS: usize = 0;

@@ -1,10 +1,10 @@
 // A run in residues, on numbers of 64 bits. `doubles` is a module of the same shape, since Rattle has no generics.
+use table::Answer;
 use text::fields::MAX_FIELDS;
 use text::heads::Asked;
 use text::lend;
 use text::lend::PLACES;
 use text::widths;
-use table::Answer;
 
 // The residues of the numbers, as many as there are; the other places stay.
 fn take_residues(numbers: &[u64], residues: &mut [u32]) {

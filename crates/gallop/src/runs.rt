@@ -1,8 +1,11 @@
 // The requests `audit` and `double`. Values, results, start values and seeds are numbers of 64 bits here, so that all but the call itself stands once.
 ghost use Rattle.text.specs.Lines.{Taken};
+use super::doubles;
+use super::kept;
+use super::residues;
+use table::Answer;
 use text::answers;
 use text::answers::MAX_ANSWER;
-use super::doubles;
 use text::fields;
 use text::fields::Form;
 use text::fields::Group;
@@ -10,15 +13,12 @@ use text::fields::MAX_FIELDS;
 use text::heads;
 use text::heads::Asked;
 use text::heads::Lengths;
-use super::kept;
 use text::lend;
 use text::lend::PLACES;
 use text::lend::SHEET_WORDS;
 use text::lend::TABLE_WORDS;
 use text::pattern;
-use super::residues;
 use text::widths;
-use table::Answer;
 
 pub enum Arithmetic {
     Residues,

@@ -12,7 +12,7 @@ use Rattle.sheet.specs.inner.Kinds.{partOf}
 use Rattle.sheet.specs.Reading.{rowsAt}
 use Rattle.sheet.proofs.RowsCounted.{lines-counted, rows-counted}
 use Rattle.sets.specs.Marks.{Marked}
-use Rattle.sets.proofs.Wiring.{never}
+use Rattle.sets.proofs.Truths.{never}
 use Rattle.table.specs.inner.MarkedRows.{rowNumbered, Says, leadsOn, stepBack, Handed, rowOfNumber, wayBack, Visited, Walks, Noted}
 use Rattle.sheet.proofs.RowsBack.{line-back}
 use Rattle.table.proofs.TreeRows.{StandsAt, tree-stands, stands-after}

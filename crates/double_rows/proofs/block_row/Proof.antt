@@ -16,9 +16,10 @@ enum-known-a c = search needs
 test-requires : tie.Need-test-requires
 test-requires c κs =
     let met = c .before .before .before in
-    let start = met .before .before .before .before .before .before in
-    (first-there (start .args .place) (met .block-at .ensures) (c .before .a .given .1) (start .pre),
-     second-there (start .args .place) (met .block-at .ensures) (c .before .a .given .1) (start .pre))
+    let start = met .before .before .before .before .before .before in (
+      first-there (start .args .place) (met .block-at .ensures) (c .before .a .given .1) (start .pre),
+      second-there (start .args .place) (met .block-at .ensures) (c .before .a .given .1) (start .pre),
+    )
 
 branch-to-requires : tie.Need-branch-to-requires
 branch-to-requires c κs = search needs
