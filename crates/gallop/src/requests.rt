@@ -1,18 +1,18 @@
 // The answer to each request line: by its verb it is a check, a table or a run.
 ghost use Rattle.text.specs.Lines.{Taken};
+use super::answers;
+use super::answers::MAX_ANSWER;
 use super::kept;
 use super::runs;
 use super::runs::Arithmetic;
-use text::answers;
-use text::answers::MAX_ANSWER;
 use text::fields;
 use text::fields::Group;
+use text::fields::MAX_LINE;
 use text::heads;
 use text::heads::Lengths;
 use text::lend;
 use text::lend::SHEET_WORDS;
 use text::lend::TABLE_WORDS;
-use text::lines::MAX_LINE;
 use text::pattern;
 
 // How many lengths each verb has.

@@ -1,11 +1,11 @@
 // The requests `audit` and `double`. Values, results, start values and seeds are numbers of 64 bits here, so that all but the call itself stands once.
 ghost use Rattle.text.specs.Lines.{Taken};
+use super::answers;
+use super::answers::MAX_ANSWER;
 use super::doubles;
 use super::kept;
 use super::residues;
 use table::Answer;
-use text::answers;
-use text::answers::MAX_ANSWER;
 use text::fields;
 use text::fields::Form;
 use text::fields::Group;

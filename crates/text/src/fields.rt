@@ -2,11 +2,12 @@
 ghost use Prim.Native.Nat.{_<_, _≤_};
 ghost use lib.ListN.{length};
 ghost use Rattle.text.specs.Lines.{Taken};
-use super::lines::MAX_LINE;
 
 const SPACE: u8 = b' ';
 
 const SLASH: u8 = b'/';
+
+pub const MAX_LINE: usize = 65_535;
 
 // No line has more numbers: each takes a byte at least, and a space before it.
 pub const MAX_FIELDS: usize = (MAX_LINE + 1) / 2;

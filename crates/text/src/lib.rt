@@ -1,9 +1,7 @@
-// What the program's lines are made of, apart from the calls that answer them: a request's line and its fields, the buffers that are lent, and an
-// answer's line.
-pub mod answers;
+// What a request's line is made of, apart from the calls that answer it: fields and numbers, the lengths and words that every request begins with, and
+// the buffers that are lent.
 pub mod fields;
 pub mod heads;
 pub mod lend;
-pub mod lines;
 pub mod pattern;
 pub mod widths;

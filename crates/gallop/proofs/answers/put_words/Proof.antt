@@ -1,9 +1,9 @@
--- `text::answers::put_words` is safe and ends. The measure is the words that are left.
+-- `gallop::answers::put_words` is safe and ends. The measure is the words that are left.
 use Prim.Native.Nat.{_-_}
 use lib.ListN.{length}
 use borrow.Author.Needs.{needs}
-use Rattle.text.proofs.answers.put_words.Statement.{statement}
-use Rattle.text.proofs.answers.put_words.Tie as tie
+use Rattle.gallop.proofs.answers.put_words.Statement.{statement}
+use Rattle.gallop.proofs.answers.put_words.Tie as tie
 
 abbrev Inv-loop : tie.InvT-loop
 Inv-loop out₀ used words end₀ at₀ out end at = Unit {0}

@@ -1,9 +1,9 @@
--- `text::answers::put_text` is safe and ends. The measure is what is left of the text.
+-- `gallop::answers::put_text` is safe and ends. The measure is what is left of the text.
 use Prim.Native.Nat.{_-_}
 use lib.ListN.{length}
 use borrow.Author.Needs.{needs}
-use Rattle.text.proofs.answers.put_text.Statement.{statement}
-use Rattle.text.proofs.answers.put_text.Tie as tie
+use Rattle.gallop.proofs.answers.put_text.Statement.{statement}
+use Rattle.gallop.proofs.answers.put_text.Tie as tie
 
 abbrev Inv-loop : tie.InvT-loop
 Inv-loop out₀ used text end₀ at₀ out end at = Unit {0}

@@ -1,9 +1,9 @@
 // Answer lines, put together in a buffer: each function answers how much of it is used.
-use super::fields::BITS_DIGITS;
-use super::fields::Form;
-use super::lend;
-use super::widths;
 use libc::STDOUT_FILENO;
+use text::fields::BITS_DIGITS;
+use text::fields::Form;
+use text::lend;
+use text::widths;
 
 // Room for the longest answer, the longest table: a word takes six bytes at most, number, place and end not more than 32.
 pub const MAX_ANSWER: usize = 32 + 6 * (1 + sheet::ROW_WORDS * table::MAX_TABLE_ROWS);

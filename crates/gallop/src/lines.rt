@@ -1,7 +1,6 @@
 // The lines of standard input, through a buffer of what was read and not yet taken.
 use libc::STDIN_FILENO;
-
-pub const MAX_LINE: usize = 65_535;
+use text::fields::MAX_LINE;
 
 pub const READ_AT_ONCE: usize = 65_536;
 

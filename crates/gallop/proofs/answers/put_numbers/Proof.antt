@@ -1,9 +1,9 @@
--- `text::answers::put_numbers` is safe and ends. The measure is the numbers that are left.
+-- `gallop::answers::put_numbers` is safe and ends. The measure is the numbers that are left.
 use Prim.Native.Nat.{_-_}
 use lib.ListN.{length}
 use borrow.Author.Needs.{needs}
-use Rattle.text.proofs.answers.put_numbers.Statement.{statement}
-use Rattle.text.proofs.answers.put_numbers.Tie as tie
+use Rattle.gallop.proofs.answers.put_numbers.Statement.{statement}
+use Rattle.gallop.proofs.answers.put_numbers.Tie as tie
 
 abbrev Inv-loop : tie.InvT-loop
 Inv-loop out₀ used numbers form end₀ at₀ out end at = Unit {0}

@@ -1,7 +1,7 @@
--- `text::lines::next_line` is safe and ends. The measure is the number of turns that are left.
+-- `gallop::lines::next_line` is safe and ends. The measure is the number of turns that are left.
 use borrow.Author.Needs.{needs}
-use Rattle.text.proofs.lines.next_line.Statement.{statement}
-use Rattle.text.proofs.lines.next_line.Tie as tie
+use Rattle.gallop.proofs.lines.next_line.Statement.{statement}
+use Rattle.gallop.proofs.lines.next_line.Tie as tie
 
 abbrev Inv-loop : tie.InvT-loop
 Inv-loop read₀ line₀ waiting₀ length₀ left₀ read line waiting length left = Unit {0}
