@@ -4,8 +4,12 @@ mod sheets;
 mod yardstick;
 
 use sheets::{Random, Sheet};
+use std::arch::global_asm;
 use std::hint::black_box;
 use std::time::Instant;
+
+// So many bytes before all code that is timed: where a loop comes to lie moves its time by up to a tenth, so times are taken over several layouts.
+global_asm!(concat!(".section .text.pad,\"axR\",@progbits\n.skip ", env!("PAD"), "\n.text"));
 
 #[repr(C)]
 struct Part<T>(*const T, usize);
@@ -139,7 +143,7 @@ fn least(sheets: &mut [Ready]) -> [f64; TIMED] {
     least
 }
 
-const ROUNDS: usize = 2000;
+const ROUNDS: usize = 500;
 
 fn main() {
     let kinds: [(&str, fn(&mut Random) -> Sheet); 7] = [
@@ -151,8 +155,6 @@ fn main() {
         ("ten repeats in a row", sheets::chains),
         ("eight nested repeats", sheets::nested),
     ];
-    println!("microseconds a sheet: eight sheets of a kind take turns, least of {ROUNDS} rounds; both stacks are cleared inside our call");
-    println!("{:22} {:>6} {:>6} {:>7} {:>7} {:>6}   reading  sets  sizes  writing  running", "", "W", "R", "ours", "theirs", "ratio");
     for (name, make) in kinds {
         let mut some: Vec<Ready> = (1..9).map(|seed| ready(make(&mut Random::new(seed)))).collect();
         for r in &mut some {
@@ -163,7 +165,7 @@ fn main() {
         let t = least(&mut some);
         let (longest, rows) = (some[0].longest, some[0].rows);
         println!(
-            "{name:22} {longest:6} {rows:6} {:7.1} {:7.1} {:6.2}   {:7.1} {:5.1} {:6.1} {:8.1} {:8.1}",
+            "{name}\t{longest}\t{rows}\t{:.1}\t{:.1}\t{:.2}\t{:.1}\t{:.1}\t{:.1}\t{:.1}\t{:.1}",
             t[WHOLE],
             t[THEIRS],
             t[THEIRS] / t[WHOLE],
