@@ -1,7 +1,7 @@
-// Single rows of the row machine in doubles. An assignment's result that isn't finite stops the row.
+// The row machine in doubles: its single rows, and a run of a table's rows. An assignment's result that isn't finite stops the row.
 ghost use mathlib.Core.Bool.{cond};
 ghost use mathlib.Core.Path.{_≡_};
-ghost use Prim.Native.Nat.{_<_, _≤_};
+ghost use Prim.Native.Nat.{_+_, _<_, _≤_};
 ghost use lib.ListN.{length};
 ghost use Rattle.sheet.specs.Bounds.{limit};
 ghost use Rattle.sheet.specs.Answers.{rowSaid};
@@ -39,13 +39,14 @@ use machine::places::values_to;
 use machine::places::went_to;
 use machine::rows::block_at;
 use machine::rows::kind_at;
-use machine::rows::row_of;
+use machine::rows::reach;
 use machine::turns::is_first;
 use machine::turns::save_turn;
 use number::Outcome;
 use number::constant;
 use number::double;
 use sheet::MAX_DEPTH;
+use sheet::ROW_WORDS;
 use sheet::RowNumber;
 use sheet::RowWords;
 use sheet::Variable;
@@ -274,10 +275,11 @@ fn act(
     }
 }
 
-// The straight row at a place, if one stands there.
+// The straight row at a place, if one stands there before `until`, which is as far as steps are left. Its words are read one by one: as a struct that
+// another function answers they would be packed into one number, and taken apart again.
 fn straight_row(
     table: &[u16],
-    rows: usize,
+    until: usize,
     roles: &[u16],
     constants: &[u16],
     seeds: &[f64],
@@ -287,23 +289,25 @@ fn straight_row(
     copied: &mut [f64],
     place: Place,
 ) -> Acted
-    requires { ⌜ Indexed (now table) rows (length (now store)) (length (now constants)) ⌝ }
-    ensures { λ r. ⌜ StraightRow doubles (now (table .entry)) rows (now (roles .entry)) (now (constants .entry)) (now (seeds .entry)) place
+    requires { ⌜ Indexed (now table) until (length (now store)) (length (now constants)) ⌝ ∗ ⌜ until ≤ place .at .0 + place .left ⌝ }
+    ensures { λ r. ⌜ StraightRow doubles (now (table .entry)) until (now (roles .entry)) (now (constants .entry)) (now (seeds .entry)) place
         (cellsOf doubles (now (store .entry)) (now (values .entry)) (now (turns .entry)) (now (copied .entry)))
         (cellsOf doubles (now (store .exit)) (now (values .exit)) (now (turns .exit)) (now (copied .exit))) r ⌝ }
 {
-    let left = place.left;
-    if left == 0 {
-        return Acted::Spent;
-    }
     let at = place.at;
     let number = at.0;
-    if rows <= number {
+    if until <= number {
         return Acted::Block;
     }
-    let row = row_of(table, at);
+    let from = 1 + number * ROW_WORDS;
+    let kind = table[from];
+    let d = table[from + 1];
+    let a = table[from + 2];
+    let b = table[from + 3];
     let after = RowNumber(number + 1);
+    let left = place.left;
     let next = following(place, after, left - 1);
+    let row = RowWords { kind, d, a, b };
     act(
         row,
         roles,
@@ -340,12 +344,12 @@ fn block_row(
     }
 }
 
-// A clear, if one stands at this place and a step is left for it; otherwise nothing.
-fn clear_ahead(table: &[u16], rows: usize, store: &mut [f64], place: Place) -> Place
-    requires { ⌜ Indexes (now table) rows (length (now store)) ⌝ }
-    ensures { λ r. ⌜ Peeks doubles (now (table .entry)) rows place (now (store .entry)) (now (store .exit)) r ⌝ }
+// A clear, if one stands at this place before `until`; otherwise nothing.
+fn clear_ahead(table: &[u16], until: usize, store: &mut [f64], place: Place) -> Place
+    requires { ⌜ Indexes (now table) until (length (now store)) ⌝ ∗ ⌜ until ≤ place .at .0 + place .left ⌝ }
+    ensures { λ r. ⌜ Peeks doubles (now (table .entry)) until place (now (store .entry)) (now (store .exit)) r ⌝ }
 {
-    match kind_at(table, rows, place, table::kinds::CLEAR) {
+    match kind_at(table, until, place, table::kinds::CLEAR) {
         Expected::Met(row, next) => {
             let to = row.d as usize;
             store[to] = double::zero();
@@ -358,11 +362,11 @@ fn clear_ahead(table: &[u16], rows: usize, store: &mut [f64], place: Place) -> P
 }
 
 // The same of a sum. One whose result isn't finite is left for the runner to stop at.
-fn sum_ahead(table: &[u16], rows: usize, store: &mut [f64], place: Place) -> Place
-    requires { ⌜ Indexes (now table) rows (length (now store)) ⌝ }
-    ensures { λ r. ⌜ Peeks doubles (now (table .entry)) rows place (now (store .entry)) (now (store .exit)) r ⌝ }
+fn sum_ahead(table: &[u16], until: usize, store: &mut [f64], place: Place) -> Place
+    requires { ⌜ Indexes (now table) until (length (now store)) ⌝ ∗ ⌜ until ≤ place .at .0 + place .left ⌝ }
+    ensures { λ r. ⌜ Peeks doubles (now (table .entry)) until place (now (store .entry)) (now (store .exit)) r ⌝ }
 {
-    let Expected::Met(row, next) = kind_at(table, rows, place, kinds::SUM) else {
+    let Expected::Met(row, next) = kind_at(table, until, place, kinds::SUM) else {
         return place;
     };
     let to = row.d as usize;
@@ -381,14 +385,14 @@ fn sum_ahead(table: &[u16], rows: usize, store: &mut [f64], place: Place) -> Pla
 
 // The row that is expected at a place, if it stands there: none is chosen among all kinds for it. What isn't done here the runner's next turn meets in
 // the ordinary way, so that peeking never stops, sticks or runs out of steps.
-fn peek(table: &[u16], rows: usize, store: &mut [f64], ahead: Ahead, place: Place) -> Place
-    requires { ⌜ Indexes (now table) rows (length (now store)) ⌝ }
-    ensures { λ r. ⌜ Peeks doubles (now (table .entry)) rows place (now (store .entry)) (now (store .exit)) r ⌝ }
+fn peek(table: &[u16], until: usize, store: &mut [f64], ahead: Ahead, place: Place) -> Place
+    requires { ⌜ Indexes (now table) until (length (now store)) ⌝ ∗ ⌜ until ≤ place .at .0 + place .left ⌝ }
+    ensures { λ r. ⌜ Peeks doubles (now (table .entry)) until place (now (store .entry)) (now (store .exit)) r ⌝ }
 {
     match ahead {
         Ahead::Any => place,
-        Ahead::Clear => clear_ahead(table, rows, store, place),
-        Ahead::Sum => sum_ahead(table, rows, store, place),
+        Ahead::Clear => clear_ahead(table, until, store, place),
+        Ahead::Sum => sum_ahead(table, until, store, place),
     }
 }
 
@@ -417,10 +421,11 @@ pub fn run_rows(
 {
     let mut place = first_place(steps);
     'run: loop {
+        let until = reach(rows, place);
         loop {
             match straight_row(
                 table,
-                rows,
+                until,
                 roles,
                 constants,
                 seeds,
@@ -430,14 +435,13 @@ pub fn run_rows(
                 copied,
                 place,
             ) {
-                Acted::On(next, ahead) => place = peek(table, rows, store, ahead, next),
+                Acted::On(next, ahead) => place = peek(table, until, store, ahead, next),
                 Acted::Block => break,
                 Acted::Stopped => {
                     let at = place.at;
                     break 'run left_at(place, Ended::Stopped(at));
                 }
                 Acted::Stuck => break 'run left_at(place, Ended::Stuck),
-                Acted::Spent => break 'run left_at(place, Ended::Unfinished),
             }
         }
         match block_row(table, rows, beyond, store, turns, bodies, to_come, place) {

@@ -393,7 +393,7 @@ module _ {A : Arithmetic} where
         by-end ended-as.Finished (some-left, over) =
             record {
               left = tt;
-              steps = λ setting lines repeats values copied held holds count jumps none-straight opened shallow sound.
+              steps = λ setting lines repeats values copied held holds count jumps none-due opened shallow sound.
                   let none-there : drop (place .at .0) lines ≡ [] = drop-of-length-le lines {i = place .at .0} (rw count over) in
                   (some-left, rw none-there, record { opened = opened; stays = refl });
             }
@@ -402,7 +402,7 @@ module _ {A : Arithmetic} where
         by-end ended-as.Unfinished spent =
             record {
               left = tt;
-              steps = λ setting lines repeats values copied held holds count jumps none-straight opened shallow sound.
+              steps = λ setting lines repeats values copied held holds count jumps none-due opened shallow sound.
                   (spent, record { opened = opened; stays = refl });
             }
 
@@ -417,14 +417,14 @@ module _ {A : Arithmetic} where
         let done = rw (there .follows .is) at crosses in
         record {
           left = rw spends (done .left);
-          steps = λ setting lines repeats values copied held holds count jumps none-straight opened shallow sound.
+          steps = λ setting lines repeats values copied held holds count jumps none-due opened shallow sound.
               let line = stands-there lines (place .at .0) (rw count (there .within)) in
               let words = words-there table lines (line .rest) (line .line) (place .at .0) (rowSaid row) holds (there .said) (line .is) in
               found-there place lines setting repeats (cellsOf A store values turns copied) (cellsOf A store values turnsAfter copied) held
               bodiesAfter toComeAfter answer spends (line .is)
               (record {
                 says = done .crosses setting lines (line .rest) (line .line) repeats store values copied held words not-if (add-one (place .at .0))
-                    (line .is) jumps none-straight opened shallow sound;
+                    (line .is) jumps (none-due (omega arith)) opened shallow sound;
               });
         }
 
@@ -444,7 +444,7 @@ module _ {A : Arithmetic} where
         let picks = branch-picks beyond (place .at .0) follow picked answer goes in
         record {
           left = rw spends (picks-left beyond (place .at .0) follow (place .turns) (branchOf picked) answer picks);
-          steps = λ setting lines repeats values copied held holds count jumps none-straight opened shallow sound.
+          steps = λ setting lines repeats values copied held holds count jumps none-due opened shallow sound.
               let line = stands-there lines (place .at .0) (rw count (there .meets .within)) in
               let words = words-there table lines (line .rest) (line .line) (place .at .0) row holds (there .meets .said) (line .is) in
               let is-if : blockOf row ≡ some (ifLine (whether (less (a .0) (b .0)))) = rw (there .kind, there .first, there .second) in
@@ -452,7 +452,7 @@ module _ {A : Arithmetic} where
               sym is-if
               ∙ ap blockOf (sym words)
               ∙ block-said (line .line)
-              (λ basic-row is. none-straight basic-row (line .rest) (line .is ∙ ap (λ (l : TableLine). l ∷ line .rest) is)) in
+              (λ basic-row is. none-due (omega arith) basic-row (line .rest) (line .is ∙ ap (λ (l : TableLine). l ∷ line .rest) is)) in
               let same : ifLine (whether (less (a .0) (b .0))) ≡ line .line = cc in
               let here = line .is ∙ ap (λ (l : TableLine). l ∷ line .rest) (sym same) in
               let cells = cellsOf A store values turns copied in

@@ -30,15 +30,15 @@ use Rattle.machine.proofs.StraightLaws.{straight-acts, cleared, assigne
 
 -- ---- nothing, or a row whose code goes on
 
-module _ {A : Arithmetic} {table : List ℕ} {rows : ℕ} {place : Place} {store : List (A .Carrier)} where
-  pub peeks-nothing : Peeks A table rows place store store place
+module _ {A : Arithmetic} {table : List ℕ} {until : ℕ} {place : Place} {store : List (A .Carrier)} where
+  pub peeks-nothing : Peeks A table until place store store place
   peeks-nothing = record { peeks = λ roles constants seeds values turns copied. inl (refl, refl) }
 
-  peeks-on : {words : Row} {next : Place} {storeAfter : List (A .Carrier)} → MeetsRow table rows place words next
+  peeks-on : {words : Row} {next : Place} {storeAfter : List (A .Carrier)} → MeetsRow table until place words next
       → ((roles constants : List ℕ) (seeds values : List (A .Carrier)) (turns : List ℕ) (copied : List (A .Carrier))
       → ActsBy A words roles constants seeds next (cellsOf A store values turns copied) (cellsOf A storeAfter values turns copied)
       (acted.On next ahead.Any))
-      → Peeks A table rows place store storeAfter next
+      → Peeks A table until place store storeAfter next
   peeks-on meets acts =
       record {
         peeks = λ roles constants seeds values turns copied.
@@ -48,49 +48,49 @@ module _ {A : Arithmetic} {table : List ℕ} {rows : ℕ} {place : Place} {store
       }
 
 -- no step more is left after it, whatever was done
-pub peek-fewer : {A : Arithmetic} {table : List ℕ} {rows : ℕ} {place answer : Place} {store storeAfter : List (A .Carrier)}
-    → Peeks A table rows place store storeAfter answer
+pub peek-fewer : {A : Arithmetic} {table : List ℕ} {until : ℕ} {place answer : Place} {store storeAfter : List (A .Carrier)}
+    → Peeks A table until place store storeAfter answer
     → answer .left ≤ place .left
-peek-fewer {A} {table} {rows} {place} {answer} {store} {storeAfter} peek = by-row (peek .peeks [] [] [] [] [] [])
+peek-fewer {A} {table} {until} {place} {answer} {store} {storeAfter} peek = by-row (peek .peeks [] [] [] [] [] [])
   where
     by-row : ((answer ≡ place) × (storeAfter ≡ store))
-        ⊎ StraightRow A table rows [] [] [] place (cellsOf A store [] [] []) (cellsOf A storeAfter [] [] []) (acted.On answer ahead.Any)
+        ⊎ StraightRow A table until [] [] [] place (cellsOf A store [] [] []) (cellsOf A storeAfter [] [] []) (acted.On answer ahead.Any)
         → answer .left ≤ place .left
     by-row (inl (is, same)) = rw is (omega arith)
     by-row (inr straight) = omega (arith, straight .left)
 
 -- ---- the row that was met names only variables that are there
 
-named-there : {table : List ℕ} {rows v : ℕ} {place next : Place} {words : Row} (indexes : Indexes table rows v) → MeetsRow table rows place words next
+named-there : {table : List ℕ} {until v : ℕ} {place next : Place} {words : Row} (indexes : Indexes table until v) → MeetsRow table until place words next
     → Named v (indexes .constants) (actionOf words)
 named-there indexes meets = rw (meets .said) (indexes .indexed .named _ (meets .within))
 
-module _ {table : List ℕ} {rows : ℕ} (place : Place) {next : Place} {row : RowWords} {found : Expected} {v : ℕ} (is : found ≡ expected.Met row next)
-    (indexes : Indexes table rows v) where
-  pub clear-there : MeetsKind table rows place 16 found → row .d < v
+module _ {table : List ℕ} {until : ℕ} (place : Place) {next : Place} {row : RowWords} {found : Expected} {v : ℕ} (is : found ≡ expected.Met row next)
+    (indexes : Indexes table until v) where
+  pub clear-there : MeetsKind table until place 16 found → row .d < v
   clear-there meets =
       let (met, kind) = rw is at meets in
       names-clear (rowSaid row) (named-there indexes met) kind
 
-  pub sum-there : MeetsKind table rows place 3 found → (row .d < v) × ((row .a < v) × (row .b < v))
+  pub sum-there : MeetsKind table until place 3 found → (row .d < v) × ((row .a < v) × (row .b < v))
   sum-there meets =
       let (met, kind) = rw is at meets in
       names-sum (rowSaid row) (named-there indexes met) kind
 
 -- ---- the step of a clear and of a sum
 
-module _ {A : Arithmetic} {table : List ℕ} {rows : ℕ} {place next : Place} {row : RowWords} {found : Expected} {store : List (A .Carrier)}
+module _ {A : Arithmetic} {table : List ℕ} {until : ℕ} {place next : Place} {row : RowWords} {found : Expected} {store : List (A .Carrier)}
     (is : found ≡ expected.Met row next)
-    (indexes : Indexes table rows (length store)) where
-  pub peeks-clear : {zero : A .Carrier} → MeetsKind table rows place 16 found → zero ≡ A .zero
-      → Peeks A table rows place store (set store (row .d) zero) next
+    (indexes : Indexes table until (length store)) where
+  pub peeks-clear : {zero : A .Carrier} → MeetsKind table until place 16 found → zero ≡ A .zero
+      → Peeks A table until place store (set store (row .d) zero) next
   peeks-clear meets zeroed =
       let (met, kind) = rw is at meets in
       let there = clear-there place is indexes meets in
       peeks-on met (λ roles constants seeds values turns copied. cleared kind refl (clear-goes zeroed there))
 
-  peeks-sum : {x : A .Carrier} → MeetsKind table rows place 3 found → Evaluates A (sum (row .a) (row .b)) store (through x)
-      → Peeks A table rows place store (set store (row .d) x) next
+  peeks-sum : {x : A .Carrier} → MeetsKind table until place 3 found → Evaluates A (sum (row .a) (row .b)) store (through x)
+      → Peeks A table until place store (set store (row .d) x) next
   peeks-sum meets sums =
       let (met, kind) = rw is at meets in
       let there = sum-there place is indexes meets .0 in
@@ -98,11 +98,11 @@ module _ {A : Arithmetic} {table : List ℕ} {rows : ℕ} {place next : Place} {
       (λ roles constants seeds values turns copied. assigned ahead.Any (says-sum (rowSaid row) kind) refl (sums constants) (assign-goes there))
 
 -- by what a sum's code answers in doubles
-pub peeks-double-sum : {table : List ℕ} {rows : ℕ} {place next : Place} {row : RowWords} {found : Expected} {store : List Float} {result : Outcome} {x : Float}
+pub peeks-double-sum : {table : List ℕ} {until : ℕ} {place next : Place} {row : RowWords} {found : Expected} {store : List Float} {result : Outcome} {x : Float}
     → found ≡ expected.Met row next
-    → Indexes table rows (length store)
-    → MeetsKind table rows place 3 found
+    → Indexes table until (length store)
+    → MeetsKind table until place 3 found
     → Evaluates doubles (sum (row .a) (row .b)) store (fromOutcome (outcomeOf result))
     → result ≡ outcome.Value x
-    → Peeks doubles table rows place store (set store (row .d) x) next
+    → Peeks doubles table until place store (set store (row .d) x) next
 peeks-double-sum is indexes meets sums value = peeks-sum is indexes meets (rw value at sums)

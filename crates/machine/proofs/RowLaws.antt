@@ -23,7 +23,7 @@ use Rattle.machine.specs.declared.Moved.the-variants as moved
 use Rattle.machine.specs.declared.Branch.{Branch}
 use Rattle.machine.specs.declared.Branched.{Branched}
 use Rattle.machine.specs.declared.Branched.the-variants as branched
-use Rattle.machine.proofs.PlaceLaws.{place-there, look-there, look-missing}
+use Rattle.machine.proofs.PlaceLaws.{place-there, look-there}
 use Rattle.machine.proofs.StackLaws.{stack-length, stack-top, stack-pushed, stack-below, pushed-on, taken-off}
 
 pub in-both : {P : Arithmetic → Type 0} → ((A : Arithmetic) → P A) → InBoth P

@@ -13,7 +13,7 @@ use Rattle.machine.specs.Actions.{Memory, Setting}
 use Rattle.machine.specs.Machine.{Repeat, State, Step, goesOn, ended, stops, sticks, step, ifItGoesOn, stateAfter}
 use Rattle.machine.specs.inner.Buffers.{Buffers, Cells, cellsOf, memoryOf, Sound, RoundSizes}
 use Rattle.machine.specs.inner.Runnable.{Shallow, Indexed, Indexes}
-use Rattle.machine.specs.inner.RowSteps.{Nested, Opened, firstPlace, leftAt, buffersAt, stateAt, CopiesOn, Stays, StopsAt, Blocked, GoesTo, StepsStraight, StraightRow, Peeks, CrossedSays, BlockRow}
+use Rattle.machine.specs.inner.RowSteps.{Nested, Opened, Reaches, firstPlace, leftAt, buffersAt, stateAt, CopiesOn, Stays, StopsAt, Blocked, GoesTo, StepsStraight, StraightRow, Peeks, CrossedSays, BlockRow}
 use Rattle.machine.specs.inner.RunsRows.{firstState, Handed, AfterSteps, LeavesBy, Leaves, RunsRows}
 use Rattle.machine.specs.declared.Place.{Place}
 use Rattle.machine.specs.declared.Ahead.{Ahead}
@@ -84,6 +84,15 @@ still-indexed same indexed = rw same indexed
 pub still-indexes : {table : List ℕ} {rows n n′ k : ℕ} → n′ ≡ n → Indexed table rows n k → Indexes table rows n′
 still-indexes {k = k} same indexed = record { constants = k; indexed = still-indexed same indexed }
 
+-- and so have the first of a table's rows
+pub first-indexed : {table : List ℕ} {until rows n k : ℕ} → until ≤ rows → Indexed table rows n k → Indexed table until n k
+first-indexed some indexed =
+    record {
+      within = omega (arith, indexed .within);
+      named = λ p h. indexed .named p (omega arith);
+      compared = λ p h. indexed .compared p (omega arith);
+    }
+
 -- a row leaves every buffer as long as it was
 pub record SameLengths {A : Arithmetic} (before after : Cells A) : Type 0 where
   pub store : length (after .store) ≡ length (before .store)
@@ -115,9 +124,9 @@ module _ {A : Arithmetic} (task : Task A) where
   HandedOver first setting lines start =
       Handed A (task .table) (task .rows) (task .beyond) (task .roles) (task .constants) (task .seeds) first setting lines start
 
-  abbrev Straight : Place → (before after : Cells A) → Acted → Type 0
-  Straight place before after answer =
-      StraightRow A (task .table) (task .rows) (task .roles) (task .constants) (task .seeds) place before after answer
+  abbrev Straight : (until : ℕ) → Place → (before after : Cells A) → Acted → Type 0
+  Straight until place before after answer =
+      StraightRow A (task .table) until (task .roles) (task .constants) (task .seeds) place before after answer
 
   abbrev Block : Place → (before : Cells A) → (bodies toCome turnsAfter bodiesAfter toComeAfter : List ℕ) → Crossed → Type 0
   Block place before bodies toCome turnsAfter bodiesAfter toComeAfter answer =
@@ -138,8 +147,9 @@ module _ {A : Arithmetic} (task : Task A) where
         → Running first setting lines start place cells bodies toCome
 
   -- The inner loop: what held where it began holds on. It can't see the run's first buffers, so it speaks of any.
-  pub record Inner (began : Place) (cellsThen : Cells A) (place : Place) (cells : Cells A) (bodies toCome : List ℕ) : Type 0 where
+  pub record Inner (until : ℕ) (began : Place) (cellsThen : Cells A) (place : Place) (cells : Cells A) (bodies toCome : List ℕ) : Type 0 where
     pub lengths : SameLengths cellsThen cells
+    pub reaches : Reaches until (task .rows) place
     pub fewer : place .left ≤ began .left
     pub still : (first : Cells A) → Invariant first began cellsThen bodies toCome → Invariant first place cells bodies toCome
 
@@ -165,10 +175,12 @@ module _ {A : Arithmetic} (task : Task A) where
             };
       })
 
-  pub inner-starts : (place : Place) (cells : Cells A) (bodies toCome : List ℕ) → Inner place cells place cells bodies toCome
-  inner-starts place cells bodies toCome =
+  pub inner-starts : {until : ℕ} (place : Place) (cells : Cells A) (bodies toCome : List ℕ) → Reaches until (task .rows) place
+      → Inner until place cells place cells bodies toCome
+  inner-starts place cells bodies toCome reaches =
       record {
         lengths = record { store = refl; values = refl; turns = refl; copied = refl };
+        reaches = reaches;
         fewer = omega arith;
         still = λ first now. now;
       }
@@ -253,19 +265,20 @@ module _ {A : Arithmetic} (task : Task A) where
 
   -- ---- the inner loop's row
 
-  module _ {first cells after : Cells A} {place : Place} {bodies toCome : List ℕ} (now : Invariant first place cells bodies toCome) where
+  module _ {first cells after : Cells A} {until : ℕ} {place : Place} {bodies toCome : List ℕ} (reaches : Reaches until (task .rows) place)
+      (now : Invariant first place cells bodies toCome) where
     stepped : (setting : Setting A) (lines : List TableLine) (start : Memory A) → (handed : HandedOver first setting lines start)
         → (answer : Acted)
-        → Straight place cells after answer
+        → Straight until place cells after answer
         → StepsStraight A setting lines place (now .running setting lines start handed .repeats) cells after (now .running setting lines start handed .held) answer
     stepped setting lines start handed answer straight =
         let here = now .running setting lines start handed in
-        straight .steps setting lines (here .repeats) (here .held) (handed .holds) (handed .rows) (handed .suits)
+        straight .steps setting lines (here .repeats) (here .held) (handed .holds) (rw (handed .rows) reaches) (handed .suits)
         (sizes-kept A (task .roles) (task .seeds) (first .store) (first .copied) (cells .store) (cells .copied) (now .lengths .store) (now .lengths .copied)
         (handed .sizes))
         (here .sound)
 
-    straight-on : (next : Place) (ahead : Ahead) → Straight place cells after (acted.On next ahead) → SameLengths cells after
+    straight-on : (next : Place) (ahead : Ahead) → Straight until place cells after (acted.On next ahead) → SameLengths cells after
         → Invariant first next after bodies toCome
     straight-on next ahead straight kept =
         record {
@@ -280,7 +293,7 @@ module _ {A : Arithmetic} (task : Task A) where
 
     -- ---- the block row after it: where no straight row stood, nothing has happened
 
-    module _ (straight : Straight place cells after acted.Block) where
+    module _ (straight : Straight until place cells after acted.Block) where
       module _ (setting : Setting A) (lines : List TableLine) (start : Memory A)
           (handed : HandedOver first setting lines start) where
         rested : Running first setting lines start place after bodies toCome
@@ -343,20 +356,24 @@ module _ {A : Arithmetic} (task : Task A) where
 
   -- ---- what each answer of the code comes to, at the place where the inner loop is
 
-  module _ {cells cellsThen after : Cells A} {place began : Place} {bodies toCome : List ℕ} {answer : Acted}
-      (inner : Inner began cellsThen place cells bodies toCome)
-      (straight : Straight place cells after answer) where
+  module _ {cells cellsThen after : Cells A} {until : ℕ} {place began : Place} {bodies toCome : List ℕ} {answer : Acted}
+      (inner : Inner until began cellsThen place cells bodies toCome)
+      (straight : Straight until place cells after answer) where
     module _ {next : Place} {ahead : Ahead} (is : answer ≡ acted.On next ahead) where
       pub straight-fewer : next .left < place .left
       straight-fewer = omega (arith, (rw is at straight) .left)
 
-      pub inner-goes : SameLengths cells after → Inner began cellsThen next after bodies toCome
+      pub straight-reaches : until ≤ next .at .0 + next .left
+      straight-reaches = let goes = rw is at straight in omega (arith, goes .left, goes .at, inner .reaches)
+
+      pub inner-goes : SameLengths cells after → Inner until began cellsThen next after bodies toCome
       inner-goes kept =
           let goes = rw is at straight in
           record {
             lengths = lengths-on (inner .lengths) kept;
+            reaches = omega (arith, goes .left, goes .at, inner .reaches);
             fewer = omega (arith, goes .left, inner .fewer);
-            still = λ first before. straight-on (inner .still first before) next ahead goes kept;
+            still = λ first before. straight-on (inner .reaches) (inner .still first before) next ahead goes kept;
           }
 
     module _ {first : Cells A} (run : Invariant first began cellsThen bodies toCome) where
@@ -365,7 +382,7 @@ module _ {A : Arithmetic} (task : Task A) where
       straight-stops {row = row} is at answered setting lines start handed =
           let now = inner .still first run in
           let here = now .running setting lines start handed in
-          let stepping = stepped now setting lines start handed acted.Stopped (rw is at straight) in
+          let stepping = stepped (inner .reaches) now setting lines start handed acted.Stopped (rw is at straight) in
           let (some-left, stop, stays) = stepping .says in
           rw answered
           (running-stops first setting lines start place cells bodies toCome here (stepping .held) after bodies toCome stays (here .opened)
@@ -375,21 +392,11 @@ module _ {A : Arithmetic} (task : Task A) where
       straight-sticks is answered setting lines start handed =
           let now = inner .still first run in
           let here = now .running setting lines start handed in
-          let stepping = stepped now setting lines start handed acted.Stuck (rw is at straight) in
+          let stepping = stepped (inner .reaches) now setting lines start handed acted.Stuck (rw is at straight) in
           let (some-left, blocked, stays) = stepping .says in
           rw answered
           (running-sticks first setting lines start place cells bodies toCome here (stepping .held) after bodies toCome stays (here .opened)
           (stepping .copies) (handed .shallow) some-left blocked)
-
-      pub straight-spent : {ran : Ran} → answer ≡ acted.Spent → ran ≡ leftAt place ended-as.Unfinished → Left first after bodies toCome ran
-      straight-spent is answered setting lines start handed =
-          let now = inner .still first run in
-          let here = now .running setting lines start handed in
-          let stepping = stepped now setting lines start handed acted.Spent (rw is at straight) in
-          let (spent, stays) = stepping .says in
-          rw answered
-          (running-spent first setting lines start place cells bodies toCome here (stepping .held) after bodies toCome stays (here .opened)
-          (stepping .copies) spent)
 
       module _ {turnsAfter bodiesAfter toComeAfter : List ℕ} {crossing : Crossed}
           (block : Block place after bodies toCome turnsAfter bodiesAfter toComeAfter crossing) where
@@ -400,29 +407,29 @@ module _ {A : Arithmetic} (task : Task A) where
             → SameLengths cells (cellsOf A (after .store) (after .values) turnsAfter (after .copied))
             → Invariant first next (cellsOf A (after .store) (after .values) turnsAfter (after .copied)) bodiesAfter toComeAfter
         block-goes {next} none is kept =
-            block-on (inner .still first run) (rw none at straight) turnsAfter bodiesAfter toComeAfter next (rw is at block) kept
+            block-on (inner .reaches) (inner .still first run) (rw none at straight) turnsAfter bodiesAfter toComeAfter next (rw is at block) kept
 
         pub block-ends : {ran : Ran} {how : Ended} → answer ≡ acted.Block → crossing ≡ crossed.Out how → ran ≡ leftAt place how
             → Left first (cellsOf A (after .store) (after .values) turnsAfter (after .copied)) bodiesAfter toComeAfter ran
         block-ends {how = how} none is answered =
             subst (λ (r : Ran). Left first (cellsOf A (after .store) (after .values) turnsAfter (after .copied)) bodiesAfter toComeAfter r) (sym answered)
-            (block-out (inner .still first run) (rw none at straight) turnsAfter bodiesAfter toComeAfter how (rw is at block))
+            (block-out (inner .reaches) (inner .still first run) (rw none at straight) turnsAfter bodiesAfter toComeAfter how (rw is at block))
 
   -- ---- what peeking comes to at the place after a row: the inner loop goes on from where it answers
 
-  module _ {store storeAfter : List (A .Carrier)} {place answer : Place}
-      (peek : Peeks A (task .table) (task .rows) place store storeAfter answer) where
+  module _ {store storeAfter : List (A .Carrier)} {until : ℕ} {place answer : Place}
+      (peek : Peeks A (task .table) until place store storeAfter answer) where
     pub inner-peeks : {values copied : List (A .Carrier)} {turns : List ℕ} {began : Place} {cellsThen : Cells A} {bodies toCome : List ℕ}
-        → Inner began cellsThen place (cellsOf A store values turns copied) bodies toCome
+        → Inner until began cellsThen place (cellsOf A store values turns copied) bodies toCome
         → length storeAfter ≡ length store
-        → Inner began cellsThen answer (cellsOf A storeAfter values turns copied) bodies toCome
+        → Inner until began cellsThen answer (cellsOf A storeAfter values turns copied) bodies toCome
     inner-peeks {values} {copied} {turns} {began} {cellsThen} {bodies} {toCome} inner kept =
         by-row (peek .peeks (task .roles) (task .constants) (task .seeds) values turns copied)
       where
         by-row : ((answer ≡ place) × (storeAfter ≡ store))
-            ⊎ Straight place (cellsOf A store values turns copied) (cellsOf A storeAfter values turns copied) (acted.On answer ahead-as.Any)
-            → Inner began cellsThen answer (cellsOf A storeAfter values turns copied) bodies toCome
+            ⊎ Straight until place (cellsOf A store values turns copied) (cellsOf A storeAfter values turns copied) (acted.On answer ahead-as.Any)
+            → Inner until began cellsThen answer (cellsOf A storeAfter values turns copied) bodies toCome
         by-row (inl (is, same)) =
-            subst (λ (p : Place). Inner began cellsThen p (cellsOf A storeAfter values turns copied) bodies toCome) (sym is)
-            (subst (λ (s : List (A .Carrier)). Inner began cellsThen place (cellsOf A s values turns copied) bodies toCome) (sym same) inner)
+            subst (λ (p : Place). Inner until began cellsThen p (cellsOf A storeAfter values turns copied) bodies toCome) (sym is)
+            (subst (λ (s : List (A .Carrier)). Inner until began cellsThen place (cellsOf A s values turns copied) bodies toCome) (sym same) inner)
         by-row (inr straight) = inner-goes inner straight refl (record { store = kept; values = refl; turns = refl; copied = refl })

@@ -25,7 +25,7 @@ use Rattle.machine.specs.Machine.{Repeat, Step, step, stepAt, afterActio
 use Rattle.machine.specs.inner.Buffers.{Buffers, Cells, cellsOf, memoryOf, Sound, Does, Assigns, MovesValues, SavesTurn, Clears, RoundSizes, TurnsRound}
 use Rattle.machine.specs.inner.RowWords.{actionOf}
 use Rattle.machine.specs.inner.Runnable.{Holds, Suits}
-use Rattle.machine.specs.inner.RowSteps.{buffersAt, stateAt, raised, following, actedBy, wentTo, didTo, valuesTo, turnsTo, NoneStraight, ActedLeft, CopiesOn, Acts, ActsBy, ActedSays, Stays, Blocked, StepsStraight, StraightRow}
+use Rattle.machine.specs.inner.RowSteps.{buffersAt, stateAt, raised, following, actedBy, wentTo, didTo, valuesTo, turnsTo, NoneStraight, ActedLeft, ActedAt, Reaches, CopiesOn, Acts, ActsBy, ActedSays, Stays, Blocked, StepsStraight, StraightRow}
 use Rattle.machine.specs.declared.Place.{Place}
 use Rattle.machine.specs.declared.Went.{Went}
 use Rattle.machine.specs.declared.Went.the-variants as went-as
@@ -80,6 +80,11 @@ acted-left (through u) next ahead = refl
 acted-left (halted why) next ahead = tt
 acted-left stuck next ahead = tt
 
+acted-at : {Why : Type 0} (went : Attempt Why (Unit {0})) (next : Place) (ahead : Ahead) → ActedAt (next .at .0) (actedBy went next ahead)
+acted-at (through u) next ahead = refl
+acted-at (halted why) next ahead = tt
+acted-at stuck next ahead = tt
+
 did-answers : (w : Did) (next : Place) (ahead : Ahead)
     → didTo w next ahead ≡ actedBy (whetherDid w) (raised next (next .values) (next .turns)) ahead
 did-answers did-as.On next ahead = refl
@@ -117,6 +122,7 @@ module _ {A : Arithmetic} where
     acts-as {before} {after} action went height turnHeight ahead said answers does =
         record {
           left = rw answers (acted-left went (raised next height turnHeight) ahead);
+          at = rw answers (acted-at went (raised next height turnHeight) ahead);
           acts = λ setting other former told suits sizes sound.
               let both : some action ≡ some other = sym said ∙ told in
               let same : action ≡ other = cc in
@@ -144,6 +150,7 @@ module _ {A : Arithmetic} where
         rw answers
         (record {
           left = tt;
+          at = tt;
           acts = λ setting action former told suits sizes sound.
               let nothing : none ≡ some action = sym said ∙ told in
               let z : _≡_ {A = ℕ} 0 1 = cc in
@@ -276,37 +283,35 @@ module _ {A : Arithmetic} where
         subst (λ (r : Acted). ActedSays A setting lines place repeats before after former held step-there r) (sym is)
         (omega arith, subst (λ (s : Step A). Blocked A s) (sym stays) tt, stays-there height turnHeight held (does .unchanged stuck-apart))
 
-  module _ {table : List ℕ} {rows : ℕ} {roles constants : List ℕ} {seeds : List (A .Carrier)} {place : Place} where
-    pub straight-over : {cells : Cells A} → rows ≤ place .at .0 → StraightRow A table rows roles constants seeds place cells cells acted-as.Block
+  module _ {table : List ℕ} {until : ℕ} {roles constants : List ℕ} {seeds : List (A .Carrier)} {place : Place} where
+    pub straight-over : {cells : Cells A} → until ≤ place .at .0 → StraightRow A table until roles constants seeds place cells cells acted-as.Block
     straight-over over =
         record {
           left = tt;
-          steps = λ setting lines repeats former holds count suits sizes sound.
-              record { held = former; says = (none-beyond lines (place .at .0) (rw count over), refl, refl); copies = inl (refl, refl) };
-        }
-
-    pub straight-spent : {cells : Cells A} → place .left ≡ 0 → StraightRow A table rows roles constants seeds place cells cells acted-as.Spent
-    straight-spent none-left =
-        record {
-          left = tt;
-          steps = λ setting lines repeats former holds count suits sizes sound.
-              record { held = former; says = (none-left, refl); copies = inl (refl, refl) };
+          at = tt;
+          steps = λ setting lines repeats former holds reaches suits sizes sound.
+              record {
+                held = former;
+                says = (λ some-left. none-beyond lines (place .at .0) (omega arith), refl, refl);
+                copies = inl (refl, refl);
+              };
         }
 
     pub straight-acts : {before after : Cells A} {answer : Acted} {words : Row} {to : Place} {left : ℕ}
         → place .left ≡ suc left
-        → place .at .0 < rows
+        → place .at .0 < until
         → words ≡ rowAt table (1 + place .at .0 * limit .rowWords)
         → to ≡ following place (place .at .0 + 1) left
         → ActsBy A words roles constants seeds to before after answer
-        → StraightRow A table rows roles constants seeds place before after answer
+        → StraightRow A table until roles constants seeds place before after answer
     unfolding tableRowOf rowOf
     straight-acts {before} {after} {answer} {words} {to} {left} spends within said follows acts =
         let does = rw follows at acts in
         record {
           left = rw spends (does .left);
-          steps = λ setting lines repeats former holds count suits sizes sound.
-              let there = stands-there lines (place .at .0) (rw count within) in
+          at = subst (λ (n : ℕ). ActedAt n answer) (add-one (place .at .0)) (does .at);
+          steps = λ setting lines repeats former holds reaches suits sizes sound.
+              let there = stands-there lines (place .at .0) (omega arith) in
               let told = words-there table lines (there .rest) (there .line) (place .at .0) words holds said (there .is) in
               by-line setting lines (there .rest) (there .line) repeats former does suits sizes sound (there .is) told (straight-or-not (there .line));
         }
@@ -335,7 +340,7 @@ module _ {A : Arithmetic} where
             let rested = does .other (ap actionOf (sym told) ∙ nothing) in
             let none-straight : NoneStraight (place .at .0) lines =
             λ row more there. apart row (heads line (basic row) rest more (sym here ∙ there)) in
-            rw (rested .0, rested .1) (record { held = former; says = (none-straight, refl, refl); copies = inl (refl, refl) })
+            rw (rested .0, rested .1) (record { held = former; says = (λ some-left. none-straight, refl, refl); copies = inl (refl, refl) })
 
 -- ---- an assignment by what its code answers in each arithmetic
 

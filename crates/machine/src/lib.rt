@@ -1,6 +1,6 @@
-// The row machine's code, in both arithmetics: each single row, held against its written meaning (specs/Actions.antt), and a run of a table's
-// rows, held against the machine's steps (specs/Machine.antt).
-// No row's contract asks that a place be there: where it isn't, the answer is Stuck.
+// The row machine's code in which no arithmetic has a part: places, what stands at a place of a table, the rows of blocks, the turn stack; and what
+// rows answer in either arithmetic. Each row's code is held against its written meaning (specs/Actions.antt), a run of rows, in `double_rows` and
+// `residue_rows`, against the machine's steps (specs/Machine.antt). Where a stack ends, a ninth repeat would open or no jump is noted, the answer is Stuck.
 pub mod blocks;
 pub mod places;
 pub mod rows;
@@ -71,14 +71,13 @@ pub enum Expected {
     Missed,
 }
 
-// What a straight row comes to: the place after it, with what is expected there. `Block` is the answer where no straight row stands, `Spent` where no
-// step is left for it.
+// What a straight row comes to: the place after it, with what is expected there. `Block` is the answer where no straight row stands or no step is left
+// for it.
 pub enum Acted {
     On(Place, Ahead),
     Block,
     Stopped,
     Stuck,
-    Spent,
 }
 
 // What a row of a block comes to: the place after it, or the end of the run.

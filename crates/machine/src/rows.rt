@@ -6,7 +6,7 @@ ghost use Rattle.sheet.specs.Bounds.{limit};
 ghost use Rattle.sheet.specs.Reading.{rowAt};
 ghost use Rattle.sheet.specs.Answers.{rowSaid};
 ghost use Rattle.machine.specs.inner.Runnable.{placeOfRow};
-ghost use Rattle.machine.specs.inner.RowSteps.{Meets, MeetsKind};
+ghost use Rattle.machine.specs.inner.RowSteps.{Meets, MeetsKind, Reaches};
 use super::Ended;
 use super::Expected;
 use super::Met;
@@ -50,18 +50,30 @@ pub fn block_at(table: &[u16], rows: usize, place: Place) -> Met
     Met::Other(row, next)
 }
 
-// The row at a place if it is of this kind and a step is left for it.
-pub fn kind_at(table: &[u16], rows: usize, place: Place, kind: u16) -> Expected
-    requires { ⌜ placeOfRow rows ≤ length (now table) ⌝ }
-    ensures { λ r. ⌜ MeetsKind (now (table .entry)) rows place kind r ⌝ }
+// As far as straight rows may be done from a place with one test for each: to the last row, or as many as steps are left.
+pub fn reach(rows: usize, place: Place) -> usize
+    ensures { λ r. ⌜ Reaches r rows place ⌝ }
 {
     let at = place.at;
     let number = at.0;
     let left = place.left;
-    if left == 0 {
-        return Expected::Missed;
-    }
     if rows <= number {
+        return rows;
+    }
+    if rows - number <= left {
+        return rows;
+    }
+    number + left
+}
+
+// The row at a place if it is of this kind and stands before `until`, as far as steps are left.
+pub fn kind_at(table: &[u16], until: usize, place: Place, kind: u16) -> Expected
+    requires { ⌜ placeOfRow until ≤ length (now table) ⌝ ∗ ⌜ until ≤ place .at .0 + place .left ⌝ }
+    ensures { λ r. ⌜ MeetsKind (now (table .entry)) until place kind r ⌝ }
+{
+    let at = place.at;
+    let number = at.0;
+    if until <= number {
         return Expected::Missed;
     }
     let row = row_of(table, at);
@@ -69,5 +81,6 @@ pub fn kind_at(table: &[u16], rows: usize, place: Place, kind: u16) -> Expected
         return Expected::Missed;
     }
     let after = RowNumber(number + 1);
+    let left = place.left;
     Expected::Met(row, following(place, after, left - 1))
 }

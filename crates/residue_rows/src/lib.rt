@@ -1,7 +1,7 @@
-// Single rows of the row machine in residues.
+// The row machine in residues: its single rows, and a run of a table's rows.
 ghost use mathlib.Core.Bool.{cond};
 ghost use mathlib.Core.Path.{_≡_};
-ghost use Prim.Native.Nat.{_<_, _≤_};
+ghost use Prim.Native.Nat.{_+_, _<_, _≤_};
 ghost use lib.ListN.{length};
 ghost use Rattle.sheet.specs.Bounds.{limit};
 ghost use Rattle.sheet.specs.Answers.{rowSaid};
@@ -33,6 +33,7 @@ use machine::places::turns_to;
 use machine::places::values_to;
 use machine::places::went_to;
 use machine::rows::block_at;
+use machine::rows::reach;
 use machine::rows::row_of;
 use machine::turns::is_first;
 use machine::turns::save_turn;
@@ -236,10 +237,10 @@ fn act(
     }
 }
 
-// The straight row at a place, if one stands there.
+// The straight row at a place, if one stands there before `until`, which is as far as steps are left.
 fn straight_row(
     table: &[u16],
-    rows: usize,
+    until: usize,
     roles: &[u16],
     constants: &[u16],
     seeds: &[u32],
@@ -249,22 +250,19 @@ fn straight_row(
     copied: &mut [u32],
     place: Place,
 ) -> Acted
-    requires { ⌜ Indexed (now table) rows (length (now store)) (length (now constants)) ⌝ }
-    ensures { λ r. ⌜ StraightRow residues (now (table .entry)) rows (now (roles .entry)) (now (constants .entry)) (now (seeds .entry)) place
+    requires { ⌜ Indexed (now table) until (length (now store)) (length (now constants)) ⌝ ∗ ⌜ until ≤ place .at .0 + place .left ⌝ }
+    ensures { λ r. ⌜ StraightRow residues (now (table .entry)) until (now (roles .entry)) (now (constants .entry)) (now (seeds .entry)) place
         (cellsOf residues (now (store .entry)) (now (values .entry)) (now (turns .entry)) (now (copied .entry)))
         (cellsOf residues (now (store .exit)) (now (values .exit)) (now (turns .exit)) (now (copied .exit))) r ⌝ }
 {
-    let left = place.left;
-    if left == 0 {
-        return Acted::Spent;
-    }
     let at = place.at;
     let number = at.0;
-    if rows <= number {
+    if until <= number {
         return Acted::Block;
     }
     let row = row_of(table, at);
     let after = RowNumber(number + 1);
+    let left = place.left;
     let next = following(place, after, left - 1);
     act(
         row,
@@ -327,10 +325,11 @@ pub fn run_rows(
 {
     let mut place = first_place(steps);
     'run: loop {
+        let until = reach(rows, place);
         loop {
             match straight_row(
                 table,
-                rows,
+                until,
                 roles,
                 constants,
                 seeds,
@@ -347,7 +346,6 @@ pub fn run_rows(
                     break 'run left_at(place, Ended::Stopped(at));
                 }
                 Acted::Stuck => break 'run left_at(place, Ended::Stuck),
-                Acted::Spent => break 'run left_at(place, Ended::Unfinished),
             }
         }
         match block_row(table, rows, beyond, store, turns, bodies, to_come, place) {

@@ -22,7 +22,7 @@ mul-store c = search needs
 slice-write-store : tie.Need-slice-write-store
 slice-write-store c =
     let met = c .before .before .before in
-    clear-there _ (met .row .given .1) (met .before .before .before .before .before .pre) (met .before .before .kind-at .ensures)
+    clear-there _ (met .row .given .1) (met .before .before .before .before .before .pre .0) (met .before .before .kind-at .ensures)
 
 same-length : tie.Need-same-length
 same-length c = search needs
@@ -30,7 +30,7 @@ same-length c = search needs
 returns : tie.Need-returns
 returns c =
     let met = c .before .before .before in
-    peeks-clear (met .row .given .1) (met .before .before .before .before .before .pre) (met .before .before .kind-at .ensures) (c .zero .ensures)
+    peeks-clear (met .row .given .1) (met .before .before .before .before .before .pre .0) (met .before .before .kind-at .ensures) (c .zero .ensures)
 
 enum-told : tie.Need-enum-told
 enum-told c = search needs

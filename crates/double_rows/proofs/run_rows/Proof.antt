@@ -5,21 +5,23 @@ use borrow.Author.Needs.{needs}
 use Rattle.number.specs.Doubles.{doubles}
 use Rattle.machine.specs.inner.Buffers.{cellsOf}
 use Rattle.machine.proofs.PeekLaws.{peek-fewer}
-use Rattle.machine.proofs.RunLaws.{still-indexed, still-indexes, Invariant, Inner, run-starts, inner-starts, straight-fewer, inner-goes, inner-peeks, straight-stops, straight-sticks, straight-spent, block-fewer, block-goes, block-ends}
+use Rattle.machine.proofs.RunLaws.{still-indexed, still-indexes, first-indexed, Invariant, Inner, run-starts, inner-starts, straight-fewer, straight-reaches, inner-goes, inner-peeks, straight-stops, straight-sticks, block-fewer, block-goes, block-ends}
 use Rattle.double_rows.proofs.run_rows.Statement.{statement}
 use Rattle.double_rows.proofs.run_rows.Tie as tie
 use Rattle.double_rows.proofs.run_rows.Reads as reads
 use Rattle.double_rows.proofs.run_rows.Lts as lts
 use Rattle.machine.proofs.places.first_place.Reads as first-place-reads
 use Rattle.machine.proofs.places.left_at.Reads as left-at-reads
+use Rattle.machine.proofs.rows.reach.Reads as reach-reads
 use Rattle.double_rows.proofs.straight_row.Reads as straight-row-reads
 use Rattle.double_rows.proofs.peek.Reads as peek-reads
 use Rattle.double_rows.proofs.block_row.Reads as block-row-reads
 
 abbrev Inv-loop : tie.InvT-loop
-Inv-loop table rows beyond roles constants seeds store₀ values₀ turns₀ copied₀ bodies to-come steps place₀ store values turns copied place =
+Inv-loop table rows beyond roles constants seeds store₀ values₀ turns₀ copied₀ bodies to-come steps place₀ until store values turns copied place =
     Inner
     (record { table = table; rows = rows; beyond = beyond; roles = roles; constants = constants; seeds = seeds; steps = steps })
+    until
     place₀
     (cellsOf doubles store₀ values₀ turns₀ copied₀)
     place
@@ -28,7 +30,7 @@ Inv-loop table rows beyond roles constants seeds store₀ values₀ turns₀ cop
     to-come
 
 abbrev μ-loop : tie.MeasureT-loop
-μ-loop table rows beyond roles constants seeds store₀ values₀ turns₀ copied₀ bodies to-come steps place₀ store values turns copied place =
+μ-loop table rows beyond roles constants seeds store₀ values₀ turns₀ copied₀ bodies to-come steps place₀ until store values turns copied place =
     place .left
 
 abbrev Inv-run : tie.InvT-run
@@ -51,6 +53,8 @@ Answered =
     lts.After-straight-row (
       first-place-reads.Asked,
       first-place-reads.Learnt,
+      reach-reads.Asked,
+      reach-reads.Learnt,
       straight-row-reads.Asked,
       straight-row-reads.Learnt,
       peek-reads.Asked,
@@ -67,19 +71,38 @@ Answered =
     Inv-run
     μ-run
 
+-- the inner loop's head, the outer loop's, and the call
+abbrev Turn : Type 0
+Turn = tie.At-loop Inv-loop μ-loop Inv-run μ-run
+
+abbrev turn : Answered → Turn
+turn a = a .before .before .before .before .before
+
+abbrev outer : Turn → tie.At-run Inv-loop μ-loop Inv-run μ-run
+outer t = t .before .before
+
+abbrev start : Turn → tie.Start Inv-loop μ-loop Inv-run μ-run
+start t = outer t .before .before .before .before .before .before .before .before .before .before .before
+
 first-place-requires : tie.Need-first-place-requires Inv-loop μ-loop Inv-run μ-run
 first-place-requires c κs = search needs
 
 run-holds : tie.Need-run-holds Inv-loop μ-loop Inv-run μ-run
 run-holds c = search (run-starts, needs)
 
+reach-requires : tie.Need-reach-requires Inv-loop μ-loop Inv-run μ-run
+reach-requires c κs = search needs
+
 loop-holds : tie.Need-loop-holds Inv-loop μ-loop Inv-run μ-run
 loop-holds c = search (inner-starts, needs)
 
 straight-row-requires : tie.Need-straight-row-requires Inv-loop μ-loop Inv-run μ-run
 straight-row-requires c κs =
-    let inner = c .before .before .before .before in
-    still-indexed (inner .loop .inv .lengths .store ∙ inner .before .run .inv .lengths .store) (inner .before .before .before .before .before .before .before .before .before .before .before .before .pre .0)
+    let t = c .before .before .before .before in
+    let reaches = t .loop .inv .reaches in (
+      still-indexed (t .loop .inv .lengths .store ∙ outer t .run .inv .lengths .store) (first-indexed (omega (arith, reaches)) (start t .pre .0)),
+      omega (arith, reaches),
+    )
 
 enum-known-next : tie.Need-enum-known-next Inv-loop μ-loop Inv-run μ-run
 enum-known-next c = search needs
@@ -87,26 +110,28 @@ enum-known-next c = search needs
 peek-requires : tie.Need-peek-requires Inv-loop μ-loop Inv-run μ-run
 peek-requires c κs =
     let a : Answered = search in
-    let inner = a .before .before .before .before .before in
-    still-indexes (a .straight-row .kept .1 .1 .1 .1 .1 .0 ∙ inner .loop .inv .lengths .store ∙ inner .before .run .inv .lengths .store)
-    (inner .before .before .before .before .before .before .before .before .before .before .before .before .pre .0)
+    let t = turn a in (
+      still-indexes (a .straight-row .kept .1 .1 .1 .1 .1 .0 ∙ t .loop .inv .lengths .store ∙ outer t .run .inv .lengths .store)
+          (first-indexed (omega (arith, t .loop .inv .reaches)) (start t .pre .0)),
+      straight-reaches _ (t .loop .inv) (a .straight-row .ensures) (c .before .before .next .given .1),
+    )
 
 loop-less : tie.Need-loop-less Inv-loop μ-loop Inv-run μ-run
 loop-less c =
     let a : Answered = search in
-    let inner = a .before .before .before .before .before in
+    let t = turn a in
     omega (
       arith,
-      straight-fewer _ (inner .loop .inv) (a .straight-row .ensures) (c .before .before .before .before .before .next .given .1),
+      straight-fewer _ (t .loop .inv) (a .straight-row .ensures) (c .before .before .before .before .before .next .given .1),
       peek-fewer (c .before .before .peek .ensures),
     )
 
 loop-again : tie.Need-loop-again Inv-loop μ-loop Inv-run μ-run
 loop-again c =
     let a : Answered = search in
-    let inner = a .before .before .before .before .before in
+    let t = turn a in
     inner-peeks _ (c .before .before .peek .ensures)
-    (inner-goes _ (inner .loop .inv) (a .straight-row .ensures) (c .before .before .before .before .before .next .given .1)
+    (inner-goes _ (t .loop .inv) (a .straight-row .ensures) (c .before .before .before .before .before .next .given .1)
     (record {
       store = a .straight-row .kept .1 .1 .1 .1 .1 .0;
       values = a .straight-row .kept .1 .1 .1 .1 .1 .1 .0;
@@ -130,18 +155,11 @@ enum-told-3 c = search needs
 left-at-requires-2 : tie.Need-left-at-requires-2 Inv-loop μ-loop Inv-run μ-run
 left-at-requires-2 c κs = search needs
 
-enum-told-4 : tie.Need-enum-told-4 Inv-loop μ-loop Inv-run μ-run
-enum-told-4 c = search needs
-
-left-at-requires-3 : tie.Need-left-at-requires-3 Inv-loop μ-loop Inv-run μ-run
-left-at-requires-3 c κs = search needs
-
 block-row-requires : tie.Need-block-row-requires Inv-loop μ-loop Inv-run μ-run
 block-row-requires c κs =
     let a : Answered = search in
-    let inner = a .before .before .before .before .before in
-    still-indexes (a .straight-row .kept .1 .1 .1 .1 .1 .0 ∙ inner .loop .inv .lengths .store ∙ inner .before .run .inv .lengths .store)
-    (inner .before .before .before .before .before .before .before .before .before .before .before .before .pre .0)
+    let t = turn a in
+    still-indexes (a .straight-row .kept .1 .1 .1 .1 .1 .0 ∙ t .loop .inv .lengths .store ∙ outer t .run .inv .lengths .store) (start t .pre .0)
 
 enum-known-next-2 : tie.Need-enum-known-next-2 Inv-loop μ-loop Inv-run μ-run
 enum-known-next-2 c = search needs
@@ -149,23 +167,23 @@ enum-known-next-2 c = search needs
 run-less : tie.Need-run-less Inv-loop μ-loop Inv-run μ-run
 run-less c =
     let a : Answered = search in
-    block-fewer _ (a .before .before .before .before .before .loop .inv) (a .straight-row .ensures)
-    (a .before .before .before .before .before .before .run .inv) (c .before .before .before .before .before .block-row .ensures)
+    block-fewer _ (turn a .loop .inv) (a .straight-row .ensures)
+    (outer (turn a) .run .inv) (c .before .before .before .before .before .block-row .ensures)
     (c .before .next2 .given .1)
 
 run-again : tie.Need-run-again Inv-loop μ-loop Inv-run μ-run
 run-again c =
     let a : Answered = search in
-    block-goes _ (a .before .before .before .before .before .loop .inv) (a .straight-row .ensures)
-    (a .before .before .before .before .before .before .run .inv) (c .before .before .before .before .before .block-row .ensures)
+    block-goes _ (turn a .loop .inv) (a .straight-row .ensures)
+    (outer (turn a) .run .inv) (c .before .before .before .before .before .block-row .ensures)
     (c .before .before .before .before .before .before .before .before .before .before .enum-told .given .1) (c .before .next2 .given .1)
     (search needs)
 
 enum-known-ended : tie.Need-enum-known-ended Inv-loop μ-loop Inv-run μ-run
 enum-known-ended c = search needs
 
-left-at-requires-4 : tie.Need-left-at-requires-4 Inv-loop μ-loop Inv-run μ-run
-left-at-requires-4 c κs = search needs
+left-at-requires-3 : tie.Need-left-at-requires-3 Inv-loop μ-loop Inv-run μ-run
+left-at-requires-3 c κs = search needs
 
 same-length : tie.Need-same-length Inv-loop μ-loop Inv-run μ-run
 same-length c = search needs
@@ -182,8 +200,8 @@ same-length-4 c = search needs
 returns : tie.Need-returns Inv-loop μ-loop Inv-run μ-run
 returns c =
     let a : Answered = search in
-    straight-stops _ (a .before .before .before .before .before .loop .inv) (a .straight-row .ensures)
-    (a .before .before .before .before .before .before .run .inv) (c .before .before .enum-told2 .given .1) refl (c .left-at .ensures)
+    straight-stops _ (turn a .loop .inv) (a .straight-row .ensures)
+    (outer (turn a) .run .inv) (c .before .before .enum-told2 .given .1) refl (c .left-at .ensures)
 
 same-length-5 : tie.Need-same-length-5 Inv-loop μ-loop Inv-run μ-run
 same-length-5 c = search needs
@@ -200,59 +218,41 @@ same-length-8 c = search needs
 returns-2 : tie.Need-returns-2 Inv-loop μ-loop Inv-run μ-run
 returns-2 c =
     let a : Answered = search in
-    straight-sticks _ (a .before .before .before .before .before .loop .inv) (a .straight-row .ensures)
-    (a .before .before .before .before .before .before .run .inv) (c .before .enum-told3 .given .1) (c .left-at2 .ensures)
+    straight-sticks _ (turn a .loop .inv) (a .straight-row .ensures)
+    (outer (turn a) .run .inv) (c .before .enum-told3 .given .1) (c .left-at2 .ensures)
 
 same-length-9 : tie.Need-same-length-9 Inv-loop μ-loop Inv-run μ-run
-same-length-9 c = search needs
+same-length-9 c =
+    let a : Answered = search in
+    a .straight-row .kept .1 .1 .1 .1 .1 .0 ∙ turn a .loop .inv .lengths .store
+    ∙ outer (turn a) .run .inv .lengths .store
 
 same-length-10 : tie.Need-same-length-10 Inv-loop μ-loop Inv-run μ-run
-same-length-10 c = search needs
+same-length-10 c =
+    let a : Answered = search in
+    a .straight-row .kept .1 .1 .1 .1 .1 .1 .0 ∙ turn a .loop .inv .lengths .values
+    ∙ outer (turn a) .run .inv .lengths .values
 
 same-length-11 : tie.Need-same-length-11 Inv-loop μ-loop Inv-run μ-run
-same-length-11 c = search needs
+same-length-11 c =
+    let a : Answered = search in
+    c .before .before .before .before .before .before .block-row .kept .1 .1 .1 .1 .0
+    ∙ a .straight-row .kept .1 .1 .1 .1 .1 .1 .1 .0 ∙ turn a .loop .inv .lengths .turns
+    ∙ outer (turn a) .run .inv .lengths .turns
 
 same-length-12 : tie.Need-same-length-12 Inv-loop μ-loop Inv-run μ-run
-same-length-12 c = search needs
+same-length-12 c =
+    let a : Answered = search in
+    a .straight-row .kept .1 .1 .1 .1 .1 .1 .1 .1 .0 ∙ turn a .loop .inv .lengths .copied
+    ∙ outer (turn a) .run .inv .lengths .copied
 
 returns-3 : tie.Need-returns-3 Inv-loop μ-loop Inv-run μ-run
 returns-3 c =
     let a : Answered = search in
-    straight-spent _ (a .before .before .before .before .before .loop .inv) (a .straight-row .ensures)
-    (a .before .before .before .before .before .before .run .inv) (c .before .enum-told4 .given .1) (c .left-at3 .ensures)
-
-same-length-13 : tie.Need-same-length-13 Inv-loop μ-loop Inv-run μ-run
-same-length-13 c =
-    let a : Answered = search in
-    a .straight-row .kept .1 .1 .1 .1 .1 .0 ∙ a .before .before .before .before .before .loop .inv .lengths .store
-    ∙ a .before .before .before .before .before .before .run .inv .lengths .store
-
-same-length-14 : tie.Need-same-length-14 Inv-loop μ-loop Inv-run μ-run
-same-length-14 c =
-    let a : Answered = search in
-    a .straight-row .kept .1 .1 .1 .1 .1 .1 .0 ∙ a .before .before .before .before .before .loop .inv .lengths .values
-    ∙ a .before .before .before .before .before .before .run .inv .lengths .values
-
-same-length-15 : tie.Need-same-length-15 Inv-loop μ-loop Inv-run μ-run
-same-length-15 c =
-    let a : Answered = search in
-    c .before .before .before .before .before .before .block-row .kept .1 .1 .1 .1 .0
-    ∙ a .straight-row .kept .1 .1 .1 .1 .1 .1 .1 .0 ∙ a .before .before .before .before .before .loop .inv .lengths .turns
-    ∙ a .before .before .before .before .before .before .run .inv .lengths .turns
-
-same-length-16 : tie.Need-same-length-16 Inv-loop μ-loop Inv-run μ-run
-same-length-16 c =
-    let a : Answered = search in
-    a .straight-row .kept .1 .1 .1 .1 .1 .1 .1 .1 .0 ∙ a .before .before .before .before .before .loop .inv .lengths .copied
-    ∙ a .before .before .before .before .before .before .run .inv .lengths .copied
-
-returns-4 : tie.Need-returns-4 Inv-loop μ-loop Inv-run μ-run
-returns-4 c =
-    let a : Answered = search in
-    block-ends _ (a .before .before .before .before .before .loop .inv) (a .straight-row .ensures)
-    (a .before .before .before .before .before .before .run .inv) (c .before .before .before .before .before .before .block-row .ensures)
+    block-ends _ (turn a .loop .inv) (a .straight-row .ensures)
+    (outer (turn a) .run .inv) (c .before .before .before .before .before .before .block-row .ensures)
     (c .before .before .before .before .before .before .before .before .before .before .before .enum-told .given .1)
-    (c .before .before .ended .given .1) (c .left-at4 .ensures)
+    (c .before .before .ended .given .1) (c .left-at3 .ensures)
 
 pub run-rows-spec : {M : Type 1} → statement M
 run-rows-spec =
@@ -264,6 +264,7 @@ run-rows-spec =
     μ-run
     first-place-requires
     run-holds
+    reach-requires
     loop-holds
     straight-row-requires
     enum-known-next
@@ -275,14 +276,12 @@ run-rows-spec =
     left-at-requires
     enum-told-3
     left-at-requires-2
-    enum-told-4
-    left-at-requires-3
     block-row-requires
     enum-known-next-2
     run-less
     run-again
     enum-known-ended
-    left-at-requires-4
+    left-at-requires-3
     same-length
     same-length-2
     same-length-3
@@ -297,9 +296,4 @@ run-rows-spec =
     same-length-10
     same-length-11
     same-length-12
-    returns-3
-    same-length-13
-    same-length-14
-    same-length-15
-    same-length-16
-    returns-4)
+    returns-3)

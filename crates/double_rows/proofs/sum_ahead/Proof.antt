@@ -28,7 +28,7 @@ cast-b c = search needs
 added-requires : tie.Need-added-requires
 added-requires c κs =
     let met = c .before .before .before .before .before in
-    sum-there _ (met .row .given .1) (met .before .before .before .before .before .pre) (met .before .before .kind-at .ensures) .1
+    sum-there _ (met .row .given .1) (met .before .before .before .before .before .pre .0) (met .before .before .kind-at .ensures) .1
 
 enum-known-x : tie.Need-enum-known-x
 enum-known-x c = search needs
@@ -39,7 +39,7 @@ mul-store c = search needs
 slice-write-store : tie.Need-slice-write-store
 slice-write-store c =
     let met = c .before .before .before .before .before .before .before .before .before in
-    sum-there _ (met .row .given .1) (met .before .before .before .before .before .pre) (met .before .before .kind-at .ensures) .0
+    sum-there _ (met .row .given .1) (met .before .before .before .before .before .pre .0) (met .before .before .kind-at .ensures) .0
 
 same-length : tie.Need-same-length
 same-length c = search needs
@@ -47,7 +47,7 @@ same-length c = search needs
 returns-2 : tie.Need-returns-2
 returns-2 c =
     let met = c .before .before .before .before .before .before .before .before .before in
-    peeks-double-sum (met .row .given .1) (met .before .before .before .before .before .pre) (met .before .before .kind-at .ensures)
+    peeks-double-sum (met .row .given .1) (met .before .before .before .before .before .pre .0) (met .before .before .kind-at .ensures)
     (c .before .before .before .added .ensures) (c .before .x .given .1)
 
 enum-told-2 : tie.Need-enum-told-2

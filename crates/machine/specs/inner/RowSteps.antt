@@ -1,5 +1,5 @@
 -- One row of the code, held against one step of the row machine: what each row's answer says, and what every buffer then stands for.
-use Prim.Native.Nat.{ℕ, zero, suc, pred, _+_, _*_, _≤_, _<_}
+use Prim.Native.Nat.{ℕ, zero, suc, pred, min, _+_, _*_, _≤_, _<_}
 use mathlib.Core.Path.{_≡_}
 use mathlib.Core.List.{List, [], _∷_}
 use mathlib.Core.Option.{none, some}
@@ -108,13 +108,18 @@ actedBy (through u) place ahead = acted.On place ahead
 actedBy (halted why) place ahead = acted.Stopped
 actedBy stuck place ahead = acted.Stuck
 
--- how many steps are left where the row goes on, whatever it does
+-- how many steps are left where the row goes on, whatever it does, and at which row
 abbrev pub ActedLeft : (left : ℕ) → Acted → Type 0
 ActedLeft left (acted.On next ahead) = suc (next .left) ≡ left
 ActedLeft left acted.Block = Unit {0}
 ActedLeft left acted.Stopped = Unit {0}
 ActedLeft left acted.Stuck = Unit {0}
-ActedLeft left acted.Spent = Unit {0}
+
+abbrev pub ActedAt : (at : ℕ) → Acted → Type 0
+ActedAt at (acted.On next ahead) = next .at .0 ≡ at
+ActedAt at acted.Block = Unit {0}
+ActedAt at acted.Stopped = Unit {0}
+ActedAt at acted.Stuck = Unit {0}
 
 abbrev pub CrossedLeft : (left : ℕ) → Crossed → Type 0
 CrossedLeft left (crossed.On next) = suc (next .left) ≡ left
@@ -127,6 +132,14 @@ stuckThere = crossed.Out ended-as.Stuck
 -- no straight row stands at this place
 abbrev pub NoneStraight : (at : ℕ) → List TableLine → Type 0
 NoneStraight at lines = (row : TableRow) (rest : List TableLine) → drop at lines ≡ basic row ∷ rest → ⊥
+
+-- nor is one due, if a step is left at all
+abbrev pub NoneDue : Place → List TableLine → Type 0
+NoneDue place lines = 0 < place .left → NoneStraight (place .at .0) lines
+
+-- how far rows may be done from a place, one after the other: to the last of them, or as many as steps are left
+abbrev pub Reaches : (until rows : ℕ) → Place → Type 0
+Reaches until rows place = until ≡ min rows (place .at .0 + place .left)
 
 -- ---- what is read at a place of a table
 
@@ -239,6 +252,7 @@ module _ (A : Arithmetic) where
   pub record ActsBy (row : Row) (roles constants : List ℕ) (seeds : List (A .Carrier)) (next : Place) (before after : Cells A) (answer : Acted)
       : Type 0 where
     pub left : ActedLeft (suc (next .left)) answer
+    pub at : ActedAt (next .at .0) answer
     pub acts : (setting : Setting A) (action : Action) (former : List (A .Carrier))
         → actionOf row ≡ some action
         → Suits A roles constants seeds setting
@@ -277,12 +291,11 @@ module _ (A : Arithmetic) where
   ActedSays setting lines place repeats before after former held found (acted.On next ahead) =
       (next .depth ≡ place .depth) × GoesTo setting place next repeats after held found
   ActedSays setting lines place repeats before after former held found acted.Block =
-      NoneStraight (place .at .0) lines × (after ≡ before) × (held ≡ former)
+      NoneDue place lines × (after ≡ before) × (held ≡ former)
   ActedSays setting lines place repeats before after former held found acted.Stopped =
       (0 < place .left) × StopsAt (place .at .0) found × Stays place before after former held
   ActedSays setting lines place repeats before after former held found acted.Stuck =
       (0 < place .left) × Blocked found × Stays place before after former held
-  ActedSays setting lines place repeats before after former held found acted.Spent = (place .left ≡ 0) × Stays place before after former held
 
   pub record StepsStraight (setting : Setting A) (lines : List TableLine) (place : Place) (repeats : List Repeat) (before after : Cells A)
       (former : List (A .Carrier)) (answer : Acted) : Type 0 where
@@ -290,23 +303,24 @@ module _ (A : Arithmetic) where
     pub says : ActedSays setting lines place repeats before after former held (step A setting lines (stateAt place repeats before former)) answer
     pub copies : CopiesOn former before held after
 
-  -- a straight row at a place, under whatever setting and lines the table stands for
-  pub record StraightRow (table : List ℕ) (rows : ℕ) (roles constants : List ℕ) (seeds : List (A .Carrier)) (place : Place)
+  -- a straight row at a place, as far as rows may be done, under whatever setting and lines the table stands for
+  pub record StraightRow (table : List ℕ) (until : ℕ) (roles constants : List ℕ) (seeds : List (A .Carrier)) (place : Place)
       (before after : Cells A) (answer : Acted) : Type 0 where
     pub left : ActedLeft (place .left) answer
+    pub at : ActedAt (suc (place .at .0)) answer
     pub steps : (setting : Setting A) (lines : List TableLine) (repeats : List Repeat) (former : List (A .Carrier))
         → Holds table lines
-        → length lines ≡ rows
+        → Reaches until (length lines) place
         → Suits A roles constants seeds setting
         → RoundSizes A roles seeds (before .store) (before .copied)
         → Sound A setting (buffersAt place before former)
         → StepsStraight setting lines place repeats before after former answer
 
   -- Peeking at a place: nothing is done, or the straight row that stands there, which goes on and changes the variables alone.
-  pub record Peeks (table : List ℕ) (rows : ℕ) (place : Place) (store storeAfter : List (A .Carrier)) (answer : Place) : Type 0 where
+  pub record Peeks (table : List ℕ) (until : ℕ) (place : Place) (store storeAfter : List (A .Carrier)) (answer : Place) : Type 0 where
     pub peeks : (roles constants : List ℕ) (seeds values : List (A .Carrier)) (turns : List ℕ) (copied : List (A .Carrier))
         → ((answer ≡ place) × (storeAfter ≡ store))
-        ⊎ StraightRow table rows roles constants seeds place (cellsOf A store values turns copied) (cellsOf A storeAfter values turns copied)
+        ⊎ StraightRow table until roles constants seeds place (cellsOf A store values turns copied) (cellsOf A storeAfter values turns copied)
         (acted.On answer ahead-as.Any)
 
   -- a row of a block goes on with the repeats that are then open
@@ -341,7 +355,7 @@ module _ (A : Arithmetic) where
         → Holds table lines
         → length lines ≡ rows
         → Jumps lines beyond
-        → NoneStraight (place .at .0) lines
+        → NoneDue place lines
         → Opened (place .depth) bodies toCome repeats
         → place .depth ≤ limit .depth
         → Sound A setting (buffersAt place (cellsOf A store values turns copied) held)

@@ -1,20 +1,17 @@
 -- `residue_rows::straight_row` meets its contract.
 use native.Mathlib.Omega.{arith}
 use borrow.Author.Needs.{needs}
-use Rattle.machine.proofs.StraightLaws.{straight-acts, straight-over, straight-spent}
+use Rattle.machine.proofs.StraightLaws.{straight-acts, straight-over}
 use Rattle.residue_rows.proofs.straight_row.Statement.{statement}
 use Rattle.residue_rows.proofs.straight_row.Tie as tie
 
 returns : tie.Need-returns
-returns c = straight-spent (c .if1 .taken)
-
-returns-2 : tie.Need-returns-2
-returns-2 c = straight-over (c .if2 .taken)
+returns c = straight-over (c .if1 .taken)
 
 row-of-requires : tie.Need-row-of-requires
 row-of-requires c κs =
-    let start = c .before .before .before .before .before .before .before .before .before .before .before in
-    omega (arith, start .pre .within)
+    let start = c .before .before .before .before .before .before .before .before .before .before in
+    omega (arith, start .pre .0 .within)
 
 add-following : tie.Need-add-following
 add-following c = search needs
@@ -28,8 +25,8 @@ following-requires c κs = search needs
 act-requires : tie.Need-act-requires
 act-requires c κs =
     let read = c .before .before .before .before .before in
-    let start = read .before .before .before .before .before .before .before .before .before .before .before .before in
-    rw (read .row-of .ensures) (start .pre .named _ (omega arith))
+    let start = read .before .before .before .before .before .before .before .before .before .before .before in
+    rw (read .row-of .ensures) (start .pre .0 .named _ (omega arith))
 
 same-length : tie.Need-same-length
 same-length c = search needs
@@ -43,18 +40,19 @@ same-length-3 c = search needs
 same-length-4 : tie.Need-same-length-4
 same-length-4 c = search needs
 
-returns-3 : tie.Need-returns-3
-returns-3 c =
+returns-2 : tie.Need-returns-2
+returns-2 c =
     let done = c .before .before .before .before .before .before .before .before in
     let next = done .before .before .before .before .before in
-    straight-acts (omega arith) (omega arith) (next .before .row-of .ensures) (next .following .ensures) (done .act .ensures)
+    let there = next .before .before in
+    let start = there .before .before .before .before .before .before .before .before .before .before in
+    straight-acts (omega (arith, start .pre .1, there .if1 .left)) (there .if1 .left) (next .before .row-of .ensures) (next .following .ensures) (done .act .ensures)
 
 pub straight-row-spec : {M : Type 1} → statement M
 straight-row-spec =
     tie.close
     (tie.spec
     returns
-    returns-2
     row-of-requires
     add-following
     sub-following
@@ -64,4 +62,4 @@ straight-row-spec =
     same-length-2
     same-length-3
     same-length-4
-    returns-3)
+    returns-2)

@@ -8,14 +8,11 @@ use Rattle.machine.proofs.rows.kind_at.Tie as tie
 returns : tie.Need-returns
 returns c = search needs
 
-returns-2 : tie.Need-returns-2
-returns-2 c = search needs
-
 row-of-requires : tie.Need-row-of-requires
 row-of-requires c κs = search needs
 
-returns-3 : tie.Need-returns-3
-returns-3 c = search needs
+returns-2 : tie.Need-returns-2
+returns-2 c = search needs
 
 add-following : tie.Need-add-following
 add-following c = search needs
@@ -26,18 +23,17 @@ sub-following c = search needs
 following-requires : tie.Need-following-requires
 following-requires c κs = search needs
 
-returns-4 : tie.Need-returns-4
-returns-4 c = (meets-row (c .before .before .before .row-of .ensures) (omega arith) (omega arith) (c .following .ensures), c .before .if3 .left)
+returns-3 : tie.Need-returns-3
+returns-3 c = (meets-row (c .before .before .before .row-of .ensures) (omega arith) (omega arith) (c .following .ensures), c .before .if2 .left)
 
 pub kind-at-spec : {M : Type 1} → statement M
 kind-at-spec =
     tie.close
     (tie.spec
     returns
-    returns-2
     row-of-requires
-    returns-3
+    returns-2
     add-following
     sub-following
     following-requires
-    returns-4)
+    returns-3)
