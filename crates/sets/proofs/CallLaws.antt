@@ -1,9 +1,10 @@
 -- What mark says, from the reader's answer and from what marking an accepted sheet leaves; and that it says one thing only.
 use Prim.Native.Nat.{ℕ, suc, _+_, _≤_, _<_}
 use native.Mathlib.Omega.{arith}
+use native.Mathlib.Numerals.{add-one}
 use mathlib.Core.Path.{_≡_, sym, ap, subst, _∙_}
 use mathlib.Core.List.{List, _++_}
-use lib.ListN.{length, take, drop, length-take}
+use lib.ListN.{length, take, drop, replicate, length-take}
 use lib.Seq.{take-all}
 use Rattle.sheet.specs.Bounds.{limit}
 use Rattle.sheet.specs.Refusals.{Answer, refused, given}
@@ -14,7 +15,7 @@ use Rattle.sheet.specs.declared.Reading.{Reading}
 use Rattle.sheet.specs.declared.Reading.the-variants as reading
 use Rattle.sheet.proofs.ReadingParts.{same-given}
 use Rattle.sheet.proofs.ReaderLaws.{accepted-shape, one-reading}
-use Rattle.sets.specs.VariableSets.{VariableSet}
+use Rattle.sets.specs.VariableSets.{VariableSet, empty}
 use Rattle.sets.specs.MarkBytes.{markBytes}
 use Rattle.sets.specs.Calls.{Lent, lent, SheetMarks, MarksSaid}
 use Rattle.sets.specs.inner.PartnerPass.{PartnersFound}
@@ -22,6 +23,7 @@ use Rattle.sets.specs.inner.RowEquations.{lineIn}
 use Rattle.sets.specs.inner.Laid.{Laid, AllMarked}
 use Rattle.sets.proofs.MarkByteLaws.{written-first}
 use Rattle.sets.proofs.MarksListed.{bytes-counted}
+use Rattle.sets.proofs.Seeds.{clear-first}
 use Rattle.sets.proofs.SheetMarked.{facts, partners-right}
 
 -- an accepted shape says where its sheet is laid
@@ -44,6 +46,9 @@ module _ {words : List ℕ} {variables first count : ℕ} (laid : Laid words var
 
   pub first-points : (sets : List VariableSet) → limit .rows < length sets → length (take (count + 1) sets) ≡ suc count
   first-points sets long = let few = few-points in simp length-take (omega arith)
+
+  pub first-clear : take (count + 1) (replicate (limit .rows + 1) empty) ≡ replicate (suc count) empty
+  first-clear = clear-first (count + 1) (limit .rows + 1) (omega (arith, few-points)) ∙ ap (λ m. replicate m empty) (add-one count)
 
   -- what marking leaves, whichever sheet the words are said to be
   pub sheet-marks : (v u r : List VariableSet) (marks came goes marks′ came′ goes′ : List ℕ) → count ≤ length marks → count ≤ length came

@@ -7,6 +7,7 @@ use lib.Dec.{eqb}
 use Rattle.sheet.specs.Tree.{basic, ifLine, elseLine, endIf, repeat, endRepeat}
 use Rattle.sheet.specs.Rows.{Assignment, copy, fixed, sum, difference, product, negation, _≔_, Row, rowOfAssignment, SheetLine, sheetRowOf}
 use Rattle.sheet.specs.inner.Kinds.{assigns, formFor, partOf}
+use Rattle.sheet.specs.declared.kinds.Form.{Form}
 use Rattle.sets.specs.declared.transfers.Operation.{Operation}
 use Rattle.sets.specs.VariableSets.{VariableSet, empty, has, _∪_, single, without, hasSome, singleSome}
 use Rattle.sets.specs.Transfers.{anyRead, firstRead, secondRead, reads, variedAfter, usefulBefore}
@@ -17,13 +18,14 @@ use Rattle.sets.proofs.VariableSetLaws.{meets-none, meets-single}
 
 -- ---- from the words of a row
 
-pub row-performed : (operation : Operation) (row : Row) → operation .kind ≡ row .kind → operation .target .0 ≡ row .d
-    → operation .first ≡ namedBy (formFor (row .kind) .1) (row .a) → operation .second ≡ namedBy (formFor (row .kind) .2) (row .b)
+pub row-performed : (operation : Operation) (row : Row) (form : Form) → form ≡ formFor (row .kind) → operation .kind ≡ row .kind
+    → operation .target .0 ≡ row .d → operation .first ≡ namedBy (form .1) (row .a) → operation .second ≡ namedBy (form .2) (row .b)
     → PerformsRow operation row
 unfolding rowOfAssignment firstRead secondRead formFor
-row-performed operation row kind target first second b said =
+row-performed operation row form formed kind target first second b said =
     each b (kind ∙ ap (λ r. r .kind) (sym said)) (target ∙ ap (λ r. r .d) (sym said))
-    (first ∙ ap (λ r. namedBy (formFor (r .kind) .1) (r .a)) (sym said)) (second ∙ ap (λ r. namedBy (formFor (r .kind) .2) (r .b)) (sym said))
+    (first ∙ ap (λ f. namedBy (f .1) (row .a)) formed ∙ ap (λ r. namedBy (formFor (r .kind) .1) (r .a)) (sym said))
+    (second ∙ ap (λ f. namedBy (f .2) (row .b)) formed ∙ ap (λ r. namedBy (formFor (r .kind) .2) (r .b)) (sym said))
   where
     each : (b : Assignment) → let r = rowOfAssignment b in operation .kind ≡ r .kind → operation .target .0 ≡ r .d
         → operation .first ≡ namedBy (formFor (r .kind) .1) (r .a) → operation .second ≡ namedBy (formFor (r .kind) .2) (r .b) → Performs operation b

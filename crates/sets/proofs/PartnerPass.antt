@@ -5,13 +5,12 @@ use mathlib.Core.Path.{_≡_, refl, sym, ap, _∙_}
 use mathlib.Core.List.{List}
 use lib.ListN.{length}
 use Rattle.sheet.specs.Bounds.{wordValues}
-use Rattle.sheet.specs.Answers.{rowSaid}
 use Rattle.sheet.specs.Rows.{SheetLine}
 use Rattle.sheet.specs.inner.Kinds.{partOf}
+use Rattle.sheet.specs.declared.kinds.Form.{Form}
 use Rattle.sheet.specs.declared.kinds.Part.{Part}
-use Rattle.sets.specs.declared.rows.Seen.{Seen}
 use Rattle.sets.specs.inner.PartnerPass.{Found, found, foundBy, foundAt, foundOver, TopsWithin, Findable, Listed, PartnersFound}
-use Rattle.sets.specs.inner.RowEquations.{lineIn, Readable, Sees}
+use Rattle.sets.specs.inner.RowEquations.{lineIn, Readable, Formed}
 use Rattle.sheet.proofs.LinesByPart.{row-part}
 
 -- what holds before a row of the pass
@@ -82,7 +81,6 @@ module _ (line : ℕ → SheetLine) (n : ℕ) (came₀ goes₀ : List ℕ) where
       (ap (λ s. s .came) (found-none row here ∙ same), ap (λ s. s .goes) (found-none row here ∙ same))
 
 -- what a row is to the blocks, as the code reads it, is what its line is
-pub part-read : (words : List ℕ) (first row : ℕ) (seen : Seen) → Readable words first row → Sees words first row seen
-    → seen .form .3 ≡ partOf (lineIn words first row)
-part-read words first row seen r s =
-    ap (λ form. form .3) (s .formed) ∙ sym (row-part (lineIn words first row) (rowSaid (seen .line)) (r .says ∙ sym (s .says)))
+pub part-read : {words : List ℕ} {first row : ℕ} {form : Form} → Readable words first row → Formed words first row form
+    → form .3 ≡ partOf (lineIn words first row)
+part-read {words} {first} {row} readable formed = ap (λ form. form .3) formed ∙ sym (row-part (lineIn words first row) _ (readable .says))

@@ -1,14 +1,13 @@
 -- The variables with a role, found from the last on; and a list of empty sets.
-use Prim.Native.Nat.{ℕ, suc, _+_, _*_, _^_, _≤_, _<_}
+use Prim.Native.Nat.{ℕ, zero, suc, _+_, _*_, _^_, _≤_, _<_}
 use native.Mathlib.Nat.{lt-of-lt-of-le}
-use native.Mathlib.Decide.{ℕ-discrete}
 use native.Mathlib.Omega.{arith}
-use mathlib.Core.Path.{_≡_, refl, sym, ap, subst, _∙_}
+use mathlib.Core.Path.{_≡_, refl, ap, subst, _∙_}
 use mathlib.Core.Bool.{Bool, true, false, cond}
-use mathlib.Core.List.{List, []}
+use mathlib.Core.List.{List, [], _∷_}
 use mir.Val.{boolByte}
-use lib.ListN.{length, getD, set, take, drop, replicate, length-drop, length-set, length-replicate, getD-replicate}
-use lib.Seq.{drop-cons, getD-take, getD-drop, getD-set-same, getD-set-other, ext-getD, length-take-le, drop-length}
+use lib.ListN.{length, getD, take, drop, replicate, length-drop, length-replicate}
+use lib.Seq.{drop-cons, getD-take, getD-drop, length-take-le, drop-length}
 use lib.Pow.{pow-mono}
 use Rattle.sets.specs.declared.Which.{Which}
 use Rattle.sets.specs.VariableSets.{VariableSet, empty, places}
@@ -57,25 +56,11 @@ module _ (which : Which) (words : List ℕ) (v : ℕ) (there : v < length words)
 
 -- ---- empty sets
 
--- the first i are empty
-pub record Cleared (sets₀ sets : List VariableSet) (i : ℕ) : Type 0 where
-  pub long : length sets ≡ length sets₀
-  pub within : i ≤ length sets
-  pub clear : (q : ℕ) → q < i → getD sets q 0 ≡ 0
+pub clear-length : (n : ℕ) (sets : List VariableSet) → sets ≡ replicate n empty → length sets ≡ n
+clear-length n sets clear = ap length clear ∙ length-replicate n empty
 
-pub cleared-on : (sets₀ sets : List VariableSet) (i : ℕ) → Cleared sets₀ sets i → i < length sets → Cleared sets₀ (set sets i 0) (i + 1)
-cleared-on sets₀ sets i c h =
-    record {
-      long = length-set sets i 0 ∙ c .long;
-      within = omega (arith, length-set sets i 0);
-      clear = λ q k. go q k (ℕ-discrete q i);
-    }
-  where
-    go : (q : ℕ) → q < i + 1 → Dec (q ≡ i) → getD (set sets i 0) q 0 ≡ 0
-    go q k (yes e) = rw e (getD-set-same sets i 0 0 h)
-    go q k (no n) = getD-set-other sets i q 0 0 n ∙ c .clear q (omega arith)
-
-pub cleared-all : (sets₀ sets : List VariableSet) (i : ℕ) → Cleared sets₀ sets i → length sets ≤ i → sets ≡ replicate (length sets₀) empty
-cleared-all sets₀ sets i c h =
-    ext-getD 0 sets (replicate (length sets₀) empty) (c .long ∙ sym (length-replicate (length sets₀) empty))
-    (λ q k. c .clear q (omega arith) ∙ sym (getD-replicate (length sets₀) q empty 0 (omega (arith, c .long))))
+-- the first of them are empty too
+pub clear-first : (m n : ℕ) → m ≤ n → take m (replicate n empty) ≡ replicate m empty
+clear-first zero n h = refl
+clear-first (suc m) zero h = absurd (omega arith)
+clear-first (suc m) (suc n) h = ap {B = List VariableSet} (λ sets. empty ∷ sets) (clear-first m n (omega arith))

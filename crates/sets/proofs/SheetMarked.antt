@@ -4,7 +4,7 @@ use native.Mathlib.Omega.{arith}
 use mathlib.Core.Path.{_≡_, refl, sym, ap, subst, _∙_}
 use mathlib.Core.Bool.{Bool, false}
 use mathlib.Core.List.{List, [], _∷_}
-use lib.ListN.{length, getD, take, drop, length-map}
+use lib.ListN.{length, getD, take, drop, replicate, length-map}
 use Rattle.sheet.specs.Bounds.{limit}
 use Rattle.sheet.specs.Tree.{Tree, rows, flat, basic}
 use Rattle.sheet.specs.Rows.{Assignment, Test, _≔_, copy, fixed, sum, difference, product, negation}
@@ -173,37 +173,39 @@ module _ {words : List ℕ} {variables first count : ℕ} (laid : Laid words var
         placed line came′ goes′ count body 0 (omega (arith, laid .rowsAre)) (known .lines) (right .cameFrom) (right .goesTo) p (omega arith)
         (omega (arith, laid .rowsAre))
 
-    settles : (which : Which) (active : ℕ → Bool) (es : List Equation) (partners others : List ℕ) (size : ℕ) → size ≡ suc count → count ≤ length partners
+    settles : (which : Which) (active : ℕ → Bool) (es : List Equation) (partners others : List ℕ) (sets : List VariableSet) → sets ≡ replicate (suc count) empty → count ≤ length partners
         → count ≤ length others → codeEquations which active partners ≡ es → Proper (variablesOf sheet) (points sheet) es
         → Wired which (givenBy words first active partners) others count
-        → Settles which (givenBy words first active partners) others count variables size
+        → Settles which (givenBy words first active partners) others count variables sets
     unfolding points
-    settles which active es partners others size sized lp lo e proper wired =
+    settles which active es partners others sets clear lp lo e proper wired =
         record {
           readable = known .readable;
           variablesSmall = known .variablesSmall;
           rolesThere = known .rolesThere;
-          long = sized;
+          clear = clear;
           partnered = lp;
           othersThere = lo;
           proper = rw (e, laid .variablesAre, laid .rowsAre) proper;
           wired = wired;
         }
 
-    pub settles-varied : (size : ℕ) → size ≡ suc count → Settles Varied (givenBy words first noneActive came′) goes′ count variables size
-    settles-varied size sized =
-        settles Varied noneActive _ came′ goes′ size sized cameRoom goesRoom (varied-all came′ (right .cameFrom))
+    pub settles-varied : (sets : List VariableSet) → sets ≡ replicate (suc count) empty
+        → Settles Varied (givenBy words first noneActive came′) goes′ count variables sets
+    settles-varied sets clear =
+        settles Varied noneActive _ came′ goes′ sets clear cameRoom goesRoom (varied-all came′ (right .cameFrom))
         (varied-proper words sheet (laid .accepted)) (varied-wired words first noneActive came′ goes′ count (known .readable) all-placed)
 
-    pub settles-useful : (size : ℕ) → size ≡ suc count → Settles Useful (givenBy words first noneActive goes′) came′ count variables size
-    settles-useful size sized =
-        settles Useful noneActive _ goes′ came′ size sized goesRoom cameRoom (useful-all goes′ (right .goesTo))
+    pub settles-useful : (sets : List VariableSet) → sets ≡ replicate (suc count) empty
+        → Settles Useful (givenBy words first noneActive goes′) came′ count variables sets
+    settles-useful sets clear =
+        settles Useful noneActive _ goes′ came′ sets clear goesRoom cameRoom (useful-all goes′ (right .goesTo))
         (useful-proper words sheet (laid .accepted)) (useful-wired words first noneActive came′ goes′ count (known .readable) all-placed)
 
-    pub settles-required : (v u : List VariableSet) (size : ℕ) → size ≡ suc count
-        → Settles Required (givenBy words first (activeBy words first v u) came′) goes′ count variables size
-    settles-required v u size sized =
-        settles Required (activeBy words first v u) _ came′ goes′ size sized cameRoom goesRoom (required-all came′ v u (right .cameFrom))
+    pub settles-required : (v u sets : List VariableSet) → sets ≡ replicate (suc count) empty
+        → Settles Required (givenBy words first (activeBy words first v u) came′) goes′ count variables sets
+    settles-required v u sets clear =
+        settles Required (activeBy words first v u) _ came′ goes′ sets clear cameRoom goesRoom (required-all came′ v u (right .cameFrom))
         (required-proper words sheet (laid .accepted) v u)
         (required-wired words first (activeBy words first v u) came′ goes′ count (known .readable) all-placed)
 

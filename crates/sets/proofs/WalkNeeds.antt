@@ -5,28 +5,28 @@ use native.Mathlib.Omega.{arith}
 use mathlib.Core.Path.{_≡_, refl, sym, ap, subst, _∙_}
 use mathlib.Core.Bool.{Bool, true, false}
 use mathlib.Core.List.{List}
-use lib.ListN.{length, getD, set, replicate}
+use lib.ListN.{length, getD, set}
 use lib.Seq.{getD-set-other}
 use Rattle.sheet.specs.Bounds.{wordValues}
-use Rattle.sheet.specs.Answers.{rowSaid}
 use Rattle.sheet.specs.Rows.{Assignment, SheetLine}
-use Rattle.sheet.specs.inner.Kinds.{assigns, formFor, partOf, partFor}
+use Rattle.sheet.specs.inner.Kinds.{assigns, partOf}
+use Rattle.sheet.specs.declared.kinds.Form.{Form}
 use Rattle.sheet.specs.declared.kinds.Part.{Part}
 use Rattle.sheet.specs.declared.kinds.Part.the-variants as part
-use Rattle.sets.specs.declared.rows.Seen.{Seen}
 use Rattle.sets.specs.declared.transfers.Operation.{Operation}
 use Rattle.sets.specs.declared.walk.Reached.{Reached}
 use Rattle.sets.specs.declared.Which.{Which}
 use Rattle.sets.specs.declared.Which.the-variants.{Varied, Useful, Required}
 use Rattle.sets.specs.VariableSets.{VariableSet, empty}
 use Rattle.sets.specs.Equations.{setAt, rightSide, least}
-use Rattle.sets.specs.inner.Operations.{InMask, Performs, PerformsRow}
+use Rattle.sets.specs.inner.Operations.{maskBits, InMask, Performs, PerformsRow}
 use Rattle.sets.specs.inner.RowBytes.{byteAt}
-use Rattle.sets.specs.inner.RowEquations.{Given, lineIn, equationIn, turnOf, rowInTurn, ownPoint, settledPoint, startOf, allEquations, seedIn, Readable, Sees}
+use Rattle.sets.specs.inner.RowEquations.{Given, lineIn, equationIn, turnOf, rowInTurn, ownPoint, settledPoint, startOf, allEquations, seedIn, rowIn, Readable, RowThere, Formed}
 use Rattle.sets.specs.inner.Walks.{placeInTurn, endsRepeat, asksPartner, partIn, Due, onward, backward, Grown, Went, AtBlock, ownSide, Settles}
 use Rattle.sets.proofs.Truths.{never}
 use Rattle.sets.proofs.OperationLaws.{AssignedBy, assigned-by}
 use Rattle.sets.proofs.PartnerPass.{part-read}
+use Rattle.sets.proofs.Seeds.{clear-length}
 use Rattle.sets.proofs.RightSides.{assigned-side, block-side}
 use Rattle.sets.proofs.MarkByteLaws.{Marking, marking-on}
 use Rattle.sets.proofs.Walking.{turn-below, turn-back, own-place, start-place, Walk, leftOf, walk-starts, walked, walk-ends}
@@ -36,24 +36,30 @@ pub record Carried (which : Which) (given : Given) (others : List ℕ) (n v : �
   pub walk : Walk which given others n v (seedIn which (given .words) v) sets (reached .turn)
   pub inHand : reached .own ≡ setAt sets (placeInTurn which n (reached .turn))
 
-module _ {which : Which} {given : Given} {others : List ℕ} {n v size : ℕ} (s : Settles which given others n v size) where
-  pub begun : {long : ℕ} {reached : Reached} {next : List VariableSet} → long ≡ suc n
-      → (reached .turn ≡ 0) × Grown (replicate long empty) (startOf which n) (seedIn which (given .words) v) next (reached .own)
+module _ {which : Which} {given : Given} {others : List ℕ} {n v : ℕ} {sets : List VariableSet} (s : Settles which given others n v sets) where
+  pub points : length sets ≡ suc n
+  points = clear-length (suc n) sets (s .clear)
+
+  pub begin-there : (v ≤ maskBits) × (v < length (given .words)) × (n < length sets)
+  begin-there = (s .variablesSmall, s .rolesThere, omega (arith, points))
+
+  pub begun : {reached : Reached} {next : List VariableSet}
+      → (reached .turn ≡ 0) × Grown sets (startOf which n) (seedIn which (given .words) v) next (reached .own)
       → Carried which given others n v next reached
-  begun {long} {reached} {next} is begins =
+  begun {reached} {next} begins =
       record {
         walk =
             rw (begins .0)
-            (walk-starts which given others n v _ (s .proper) (s .wired) (replicate long empty) next (ap (λ m. replicate m empty) is) (begins .1 .stored));
+            (walk-starts which given others n v _ (s .proper) (s .wired) sets next (s .clear) (begins .1 .stored));
         inHand = begins .1 .stands ∙ ap (setAt next) (start-place which n ∙ ap (placeInTurn which n) (sym (begins .0)));
       }
 
   pub row-there : {i row : ℕ} → i < n → row ≡ rowInTurn which n i → Readable (given .words) (given .first) row
   row-there {i} h is = s .readable _ (rw is (turn-below which n i h))
 
-  pub ended : {sets : List VariableSet} {reached : Reached} → Carried which given others n v sets reached → n ≤ reached .turn
-      → sets ≡ least v (suc n) (allEquations which given n (seedIn which (given .words) v))
-  ended {sets} {reached} carried h = walk-ends which given others n v _ (s .proper) (s .wired) sets (reached .turn) (carried .walk) h
+  pub ended : {left : List VariableSet} {reached : Reached} → Carried which given others n v left reached → n ≤ reached .turn
+      → left ≡ least v (suc n) (allEquations which given n (seedIn which (given .words) v))
+  ended {left} {reached} carried h = walk-ends which given others n v _ (s .proper) (s .wired) left (reached .turn) (carried .walk) h
 
 -- ---- the walk at a row
 
@@ -69,12 +75,12 @@ ends-none which part.EndIf h e = never h
 ends-none which part.Repeat h e = never h
 ends-none which part.EndRepeat h e = never h
 
-pub record AtRow (which : Which) (given : Given) (others : List ℕ) (n v size : ℕ) (sets : List VariableSet) (reached : Reached) (row : ℕ) (seen : Seen) : Type 0 where
-  pub settles : Settles which given others n v size
+pub record AtRow (which : Which) (given : Given) (others : List ℕ) (n v : ℕ) (sets₀ sets : List VariableSet) (reached : Reached) (row : ℕ) (form : Form) : Type 0 where
+  pub settles : Settles which given others n v sets₀
   pub carried : Carried which given others n v sets reached
   pub below : reached .turn < n
   pub inTurn : row ≡ rowInTurn which n (reached .turn)
-  pub sees : Sees (given .words) (given .first) row seen
+  pub formed : Formed (given .words) (given .first) row form
 
 -- the row was passed by the right side of its equation
 pub record Passes (which : Which) (given : Given) (others : List ℕ) (n row : ℕ) (part : Part) (before after : List VariableSet) (reached : Reached) : Type 0 where
@@ -82,8 +88,8 @@ pub record Passes (which : Which) (given : Given) (others : List ℕ) (n row : �
   sideIs : side ≡ rightSide (equationIn which given row) (setAt before)
   went : Went which part side n row others before after reached
 
-module _ {which : Which} {given : Given} {others : List ℕ} {n v size : ℕ} {sets : List VariableSet} {reached : Reached} {row : ℕ} {seen : Seen}
-    (at : AtRow which given others n v size sets reached row seen) where
+module _ {which : Which} {given : Given} {others : List ℕ} {n v : ℕ} {sets₀ sets : List VariableSet} {reached : Reached} {row : ℕ} {form : Form}
+    (at : AtRow which given others n v sets₀ sets reached row form) where
   abbrev line : SheetLine
   line = lineIn (given .words) (given .first) row
 
@@ -93,11 +99,11 @@ module _ {which : Which} {given : Given} {others : List ℕ} {n v size : ℕ} {s
   readable : Readable (given .words) (given .first) row
   readable = at .settles .readable row row-below
 
-  pub line-part : seen .form .3 ≡ partOf line
-  line-part = part-read _ _ _ _ readable (at .sees)
+  pub line-part : form .3 ≡ partOf line
+  line-part = part-read readable (at .formed)
 
-  part-is : seen .form .3 ≡ partIn given row
-  part-is = ap (λ form. form .3) (at .sees .formed) ∙ ap (λ r. partFor (r .kind)) (at .sees .says)
+  part-is : form .3 ≡ partIn given row
+  part-is = ap (λ f. f .3) (at .formed)
 
   turns : reached .turn ≡ rowInTurn which n row
   turns = sym (turn-back which n (reached .turn) (at .below)) ∙ ap (rowInTurn which n) (sym (at .inTurn))
@@ -108,21 +114,22 @@ module _ {which : Which} {given : Given} {others : List ℕ} {n v size : ℕ} {s
 
   -- ---- an assignment
 
-  pub operation-there : assigns (seen .form .3) ≡ true → (seen .form ≡ formFor (seen .line .kind)) × InMask (rowSaid (seen .line))
-  operation-there h = (at .sees .formed, subst InMask (sym (at .sees .says)) (readable .small (ap assigns (sym part-is) ∙ h)))
+  pub operation-there : assigns (form .3) ≡ true
+      → RowThere (given .words) (given .first) row × Formed (given .words) (given .first) row form × InMask (rowIn given row)
+  operation-there h = (readable .there, at .formed, readable .small (ap assigns (sym part-is) ∙ h))
 
   pub assignment-there : {Small : Type 0} → Small → Small × (row < wordValues) × (suc row < length sets) × (reached .turn < wordValues)
   assignment-there small =
       (small, readable .numbered, omega (arith, row-below, at .carried .walk .kept .long), at .settles .readable (reached .turn) (at .below) .numbered)
 
-  pub assigned : {operation : Operation} → assigns (seen .form .3) ≡ true → PerformsRow operation (rowSaid (seen .line)) → AssignedBy operation line
-  assigned h performs = assigned-by performs line (readable .says ∙ sym (at .sees .says)) (ap assigns (sym line-part) ∙ h)
+  pub assigned : {operation : Operation} → assigns (form .3) ≡ true → PerformsRow operation (rowIn given row) → AssignedBy operation line
+  assigned h performs = assigned-by performs line (readable .says) (ap assigns (sym line-part) ∙ h)
 
-  pub assignment-passed : {operation : Operation} {acts : Bool} {next : List VariableSet} {after : Reached} → assigns (seen .form .3) ≡ true
-      → PerformsRow operation (rowSaid (seen .line)) → acts ≡ given .active row
+  pub assignment-passed : {operation : Operation} {acts : Bool} {next : List VariableSet} {after : Reached} → assigns (form .3) ≡ true
+      → PerformsRow operation (rowIn given row) → acts ≡ given .active row
       → (after .turn ≡ reached .turn + 1)
       × ((b : Assignment) → Performs operation b → Grown sets (settledPoint which row) (turnOf which acts b (reached .own)) next (after .own))
-      → Passes which given others n row (seen .form .3) sets next after
+      → Passes which given others n row (form .3) sets next after
   unfolding equationIn
   assignment-passed {operation} {acts} {next} {after} h performs active passed =
       let a = assigned h performs in
@@ -134,7 +141,7 @@ module _ {which : Which} {given : Given} {others : List ℕ} {n v size : ℕ} {s
         went = record {
           due = row;
           more = turnOf which acts (a .assignment) (reached .own);
-          isDue = onward refl refl (ends-none which (seen .form .3) h);
+          isDue = onward refl refl (ends-none which (form .3) h);
           grown = passed .1 (a .assignment) (a .performs);
           turns = passed .0 ∙ ap (λ t. t + 1) turns;
         };
@@ -142,7 +149,7 @@ module _ {which : Which} {given : Given} {others : List ℕ} {n v size : ℕ} {s
 
   -- ---- a row of a block
 
-  pub at-block : AtBlock which (seen .form .3) n row (given .partners) others sets reached
+  pub at-block : AtBlock which (form .3) n row (given .partners) others sets reached
   at-block =
       let below = row-below in
       let long = at .carried .walk .kept .long in
@@ -164,13 +171,13 @@ module _ {which : Which} {given : Given} {others : List ℕ} {n v size : ℕ} {s
         taken = λ e. at .settles .wired .taken row below (ap (asksPartner which) (sym part-is) ∙ e);
       }
 
-  pub block-passed : {next : List VariableSet} {after : Reached} → assigns (seen .form .3) ≡ false
-      → Went which (seen .form .3) (ownSide which (seen .form .3) row (given .partners) sets) n row others sets next after
-      → Passes which given others n row (seen .form .3) sets next after
+  pub block-passed : {next : List VariableSet} {after : Reached} → assigns (form .3) ≡ false
+      → Went which (form .3) (ownSide which (form .3) row (given .partners) sets) n row others sets next after
+      → Passes which given others n row (form .3) sets next after
   unfolding equationIn
   block-passed h went =
       record {
-        side = ownSide which (seen .form .3) row (given .partners) sets;
+        side = ownSide which (form .3) row (given .partners) sets;
         sideIs =
             rw line-part
             (block-side which (given .active row) sets row (getD (given .partners) row 0) line (ap assigns (sym line-part) ∙ h));
@@ -179,10 +186,10 @@ module _ {which : Which} {given : Given} {others : List ℕ} {n v size : ℕ} {s
 
   -- ---- and on
 
-  pub gone-on : {next : List VariableSet} {after : Reached} → Passes which given others n row (seen .form .3) sets next after
+  pub gone-on : {next : List VariableSet} {after : Reached} → Passes which given others n row (form .3) sets next after
       → Carried which given others n v next after × (leftOf v n next (after .turn) < leftOf v n sets (reached .turn))
   gone-on {next} {after} passes =
-      let w = subst (λ q. Went which (seen .form .3) (passes .side) n q others sets next after) (at .inTurn) (passes .went) in
+      let w = subst (λ q. Went which (form .3) (passes .side) n q others sets next after) (at .inTurn) (passes .went) in
       let on = walked which given others n v _ (at .settles .proper) (at .settles .wired) sets (reached .turn) (at .below) (at .carried .walk)
       (part-is ∙ ap (partIn given) (at .inTurn)) (passes .sideIs ∙ ap (λ q. rightSide (equationIn which given q) (setAt sets)) (at .inTurn)) (w .isDue) (w .grown) in
       let next-turn = w .turns ∙ add-one (rowInTurn which n (w .due)) in
@@ -190,10 +197,10 @@ module _ {which : Which} {given : Given} {others : List ℕ} {n v size : ℕ} {s
 
 -- ---- of the required variables, whose walk marks the rows
 
-module _ {given : Given} {others : List ℕ} {n v size : ℕ} {sets : List VariableSet} {reached : Reached} {row : ℕ} {seen : Seen}
-    (at : AtRow Required given others n v size sets reached row seen) where
+module _ {given : Given} {others : List ℕ} {n v : ℕ} {sets₀ sets : List VariableSet} {reached : Reached} {row : ℕ} {form : Form}
+    (at : AtRow Required given others n v sets₀ sets reached row form) where
   pub marked-on : {next : List VariableSet} {after : Reached} (varied useful : List VariableSet) {before marks : List ℕ} {byte : ℕ}
-      → Passes Required given others n row (seen .form .3) sets next after
+      → Passes Required given others n row (form .3) sets next after
       → Marking (lineIn (given .words) (given .first)) varied useful n before sets marks (reached .turn) → n ≤ length before
       → byte ≡ byteAt varied useful sets row (line at) → Marking (lineIn (given .words) (given .first)) varied useful n before next (set marks row byte) (after .turn)
   unfolding rowInTurn settledPoint
@@ -203,10 +210,10 @@ module _ {given : Given} {others : List ℕ} {n v size : ℕ} {sets : List Varia
       (row-below at) room is
       (λ k h. rw (w .grown .stored) (getD-set-other sets _ k _ empty (λ e. omega arith))))
     where
-      w : Went Required (seen .form .3) (passes .side) n row others sets next after
+      w : Went Required (form .3) (passes .side) n row others sets next after
       w = passes .went
 
-      upto : Due Required (seen .form .3) (passes .side) row others sets (w .due) (w .more) → w .due ≤ row
+      upto : Due Required (form .3) (passes .side) row others sets (w .due) (w .more) → w .due ≤ row
       upto (onward e f brought) = omega arith
       upto (backward e f ends more) =
           let near = at .settles .wired .back (reached .turn) (at .below) (rw (at .inTurn) at (ap (endsRepeat Required) (sym (part-is at)) ∙ ends)) in

@@ -41,7 +41,7 @@ struct Extent {
     pub variables: usize,
 }
 
-// Marks every row of an accepted sheet.
+// Marks every row of an accepted sheet. The three lists of sets come empty, as fresh arrays are.
 fn settle_and_mark(
     words: &[u16],
     variables: usize,
@@ -55,8 +55,7 @@ fn settle_and_mark(
     marks: &mut [u8],
 )
     requires { ⌜ Laid (now words) variables first rows
-        × Room rows (length (now came)) (length (now goes))
-        (length (now varied)) (length (now useful)) (length (now required)) (length (now marks)) ⌝ }
+        × Room rows (length (now came)) (length (now goes)) (now varied) (now useful) (now required) (length (now marks)) ⌝ }
     ensures { λ r. ⌜ AllMarked (now (words .entry)) rows
         (now (varied .exit)) (now (useful .exit)) (now (required .exit)) (now (marks .entry)) (now (marks .exit))
         × PartnersFound (lineIn (now (words .entry)) first) rows

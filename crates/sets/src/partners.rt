@@ -85,8 +85,8 @@ pub fn find_partners(words: &[u16], extent: Extent, came: &mut [u16], goes: &mut
     let mut number: usize = 0;
     while number < rows {
         let row = RowNumber(number);
-        let seen = rows::look(forms, words, extent.first, row);
-        let form = seen.form;
+        let kind = rows::kind_of(words, extent.first, row);
+        let form = forms[kind];
         let part = form.3;
         top = partner_step(part, row, top, came, goes);
         number += 1;

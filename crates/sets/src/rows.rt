@@ -1,24 +1,14 @@
-// A row as it is looked up once: its words and what the table of kinds says of its kind.
-ghost use mathlib.Core.Path.{_≡_};
-ghost use Rattle.sheet.specs.inner.Kinds.{allForms};
-ghost use Rattle.sets.specs.inner.RowEquations.{Readable, Sees};
+// A row's kind, by which a pass looks the row up in the table of kinds. A pass reads each word where it needs it: four words that are answered as one
+// struct are packed into one number and taken apart again.
+ghost use Rattle.sets.specs.inner.RowEquations.{Readable, KindRead};
 use sheet::RowNumber;
-use sheet::RowWords;
-use sheet::kinds;
-use sheet::kinds::Form;
 
-pub struct Seen {
-    pub line: RowWords,
-    pub form: Form,
-}
-
-// `forms` is the table of kinds, which a pass takes once. A sheet's rows are all of kinds that it has.
-pub fn look(forms: [Form; kinds::LAST + 1], words: &[u16], first: usize, row: RowNumber) -> Seen
-    requires { ⌜ (forms ≡ allForms) × Readable (now words) first (row .0) ⌝ }
-    ensures { λ r. ⌜ Sees (now (words .entry)) first (row .0) r ⌝ }
+// A sheet's rows are all of kinds that the table has.
+pub fn kind_of(words: &[u16], first: usize, row: RowNumber) -> usize
+    requires { ⌜ Readable (now words) first (row .0) ⌝ }
+    ensures { λ r. ⌜ KindRead (now (words .entry)) first (row .0) r ⌝ }
 {
-    let line = sheet::row_of(words, first, row);
-    let kind = line.kind as usize;
-    let form = forms[kind];
-    Seen { line, form }
+    let number = row.0;
+    let from = first + number * sheet::ROW_WORDS;
+    words[from] as usize
 }

@@ -1,14 +1,12 @@
 // An assignment as the code has it: what it reads, and what it does to each of the three sets.
 ghost use mathlib.Core.Path.{_≡_};
 ghost use Prim.Native.Nat.{_<_};
-ghost use Rattle.sheet.specs.Answers.{rowSaid};
-ghost use Rattle.sheet.specs.inner.Kinds.{formFor};
 ghost use Rattle.sets.specs.Transfers.{anyRead, reads, variedAfter, usefulBefore, activityOf, adjointUse, requiredAfter, recordedBy};
 ghost use Rattle.sets.specs.inner.Operations.{maskBits, InMask, namedBy, sourceOf, PerformsRow, TargetSmall, Gives, GivesKnown};
-ghost use Rattle.sets.specs.inner.RowEquations.{turnOf};
+ghost use Rattle.sets.specs.inner.RowEquations.{numberedRow, turnOf, RowThere, Formed};
 use super::Which;
 use super::masks;
-use sheet::RowWords;
+use sheet::RowNumber;
 use sheet::Variable;
 use sheet::kinds;
 use sheet::kinds::Form;
@@ -33,20 +31,27 @@ fn named(slot: Slot, word: u16) -> u64
     there << place
 }
 
-pub fn operation_of(line: RowWords, form: Form) -> Operation
-    requires { ⌜ (form ≡ formFor (line .kind)) × InMask (rowSaid line) ⌝ }
-    ensures { λ r. ⌜ PerformsRow r (rowSaid line) × TargetSmall r ⌝ }
+// An assignment's operation, `form` being that of its kind.
+pub fn operation_at(words: &[u16], first: usize, row: RowNumber, form: Form) -> Operation
+    requires { ⌜ RowThere (now words) first (row .0) × Formed (now words) first (row .0) form × InMask (numberedRow (now words) first (row .0)) ⌝ }
+    ensures { λ r. ⌜ PerformsRow r (numberedRow (now (words .entry)) first (row .0)) × TargetSmall r ⌝ }
 {
+    let number = row.0;
+    let from = first + number * sheet::ROW_WORDS;
     let of_a = form.1;
     let of_b = form.2;
-    let first = named(of_a, line.a);
-    let second = named(of_b, line.b);
-    let target = Variable(line.d as usize);
+    let kind = words[from];
+    let d = words[from + 1];
+    let a = words[from + 2];
+    let b = words[from + 3];
+    let reads_a = named(of_a, a);
+    let reads_b = named(of_b, b);
+    let target = Variable(d as usize);
     Operation {
-        kind: line.kind,
+        kind,
         target,
-        first,
-        second,
+        first: reads_a,
+        second: reads_b,
     }
 }
 

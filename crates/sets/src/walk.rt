@@ -1,11 +1,10 @@
 // One of the three sets at every point: one walk over the rows in the set's direction, back from the far end of a repeat to its near end where it brings more.
 ghost use mathlib.Core.Path.{_≡_};
 ghost use Prim.Native.Nat.{suc, _+_, _≤_, _<_};
-ghost use lib.ListN.{length, replicate};
+ghost use lib.ListN.{length};
 ghost use Rattle.sheet.specs.Bounds.{wordValues};
 ghost use Rattle.sheet.specs.Rows.{Assignment};
 ghost use Rattle.sets.specs.declared.Which.the-variants.{Varied, Useful, Required};
-ghost use Rattle.sets.specs.VariableSets.{empty};
 ghost use Rattle.sets.specs.Equations.{least};
 ghost use Rattle.sets.specs.inner.Operations.{maskBits, TargetSmall, Performs};
 ghost use Rattle.sets.specs.inner.RowEquations.{givenBy, noneActive, activeBy, lineIn, turnOf, rowInTurn, settledPoint};
@@ -126,23 +125,12 @@ fn seed_of(which: Which, words: &[u16], variables: usize) -> u64
     seed
 }
 
-fn clear(sets: &mut [u64])
-    ensures { λ r. ⌜ now (sets .exit) ≡ replicate (length (now (sets .entry))) empty ⌝ }
-{
-    let mut i: usize = 0;
-    while i < sets.len() {
-        sets[i] = 0;
-        i += 1;
-    }
-}
-
-// All sets empty but that at the start point.
+// Puts into the start point's set what it has from outside the sheet's rows.
 fn begin(which: Which, words: &[u16], extent: Extent, sets: &mut [u64]) -> Reached
     requires { ⌜ (extent .variables ≤ maskBits) × (extent .variables < length (now words)) × (extent .rows < length (now sets)) ⌝ }
-    ensures { λ r. ⌜ (r .turn ≡ 0) × Grown (replicate (length (now (sets .entry))) empty) (startOf which (extent .rows))
+    ensures { λ r. ⌜ (r .turn ≡ 0) × Grown (now (sets .entry)) (startOf which (extent .rows))
         (seedIn which (now (words .entry)) (extent .variables)) (now (sets .exit)) (r .own) ⌝ }
 {
-    clear(sets);
     let seed = seed_of(which, words, extent.variables);
     let start = start_of(which, extent.rows);
     let own = grow(sets, start, seed);
@@ -228,7 +216,7 @@ pub fn settle_varied(
     sets: &mut [u64],
 )
     requires { ⌜ Settles Varied (givenBy (now words) (extent .first) noneActive (now partners)) (now others)
-        (extent .rows) (extent .variables) (length (now sets)) ⌝ }
+        (extent .rows) (extent .variables) (now sets) ⌝ }
     ensures { λ r. ⌜ now (sets .exit) ≡ least (extent .variables) (suc (extent .rows))
         (allEquations Varied (givenBy (now (words .entry)) (extent .first) noneActive (now (partners .entry)))
         (extent .rows) (seedIn Varied (now (words .entry)) (extent .variables))) ⌝ }
@@ -237,11 +225,11 @@ pub fn settle_varied(
     let mut reached = begin(Which::Varied, words, extent, sets);
     while reached.turn < extent.rows {
         let row = row_in_turn(Which::Varied, extent.rows, reached.turn);
-        let seen = rows::look(forms, words, extent.first, row);
-        let form = seen.form;
+        let kind = rows::kind_of(words, extent.first, row);
+        let form = forms[kind];
         let part = form.3;
         if kinds::assigns(part) {
-            let operation = transfers::operation_of(seen.line, form);
+            let operation = transfers::operation_at(words, extent.first, row, form);
             reached = pass_assignment(Which::Varied, row, operation, false, sets, reached);
         } else {
             reached = pass_block_row(
@@ -266,7 +254,7 @@ pub fn settle_useful(
     sets: &mut [u64],
 )
     requires { ⌜ Settles Useful (givenBy (now words) (extent .first) noneActive (now partners)) (now others)
-        (extent .rows) (extent .variables) (length (now sets)) ⌝ }
+        (extent .rows) (extent .variables) (now sets) ⌝ }
     ensures { λ r. ⌜ now (sets .exit) ≡ least (extent .variables) (suc (extent .rows))
         (allEquations Useful (givenBy (now (words .entry)) (extent .first) noneActive (now (partners .entry)))
         (extent .rows) (seedIn Useful (now (words .entry)) (extent .variables))) ⌝ }
@@ -275,11 +263,11 @@ pub fn settle_useful(
     let mut reached = begin(Which::Useful, words, extent, sets);
     while reached.turn < extent.rows {
         let row = row_in_turn(Which::Useful, extent.rows, reached.turn);
-        let seen = rows::look(forms, words, extent.first, row);
-        let form = seen.form;
+        let kind = rows::kind_of(words, extent.first, row);
+        let form = forms[kind];
         let part = form.3;
         if kinds::assigns(part) {
-            let operation = transfers::operation_of(seen.line, form);
+            let operation = transfers::operation_at(words, extent.first, row, form);
             reached = pass_assignment(Which::Useful, row, operation, false, sets, reached);
         } else {
             reached = pass_block_row(
@@ -308,7 +296,7 @@ pub fn settle_required(
     marks: &mut [u8],
 )
     requires { ⌜ Settles Required (givenBy (now words) (extent .first) (activeBy (now words) (extent .first) (now varied) (now useful)) (now partners)) (now others)
-        (extent .rows) (extent .variables) (length (now sets))
+        (extent .rows) (extent .variables) (now sets)
         × (extent .rows < length (now varied)) × (extent .rows < length (now useful)) × (extent .rows ≤ length (now marks)) ⌝ }
     ensures { λ r. ⌜ (now (sets .exit) ≡ least (extent .variables) (suc (extent .rows))
         (allEquations Required (givenBy (now (words .entry)) (extent .first) (activeBy (now (words .entry)) (extent .first) (now (varied .entry)) (now (useful .entry))) (now (partners .entry)))
@@ -321,11 +309,11 @@ pub fn settle_required(
     while reached.turn < extent.rows {
         let row = row_in_turn(Which::Required, extent.rows, reached.turn);
         let number = row.0;
-        let seen = rows::look(forms, words, extent.first, row);
-        let form = seen.form;
+        let kind = rows::kind_of(words, extent.first, row);
+        let form = forms[kind];
         let part = form.3;
         if kinds::assigns(part) {
-            let operation = transfers::operation_of(seen.line, form);
+            let operation = transfers::operation_at(words, extent.first, row, form);
             let byte = marks::byte_at(row, operation, varied, useful, reached.own);
             marks[number] = byte;
             let active = marks::is_active(byte);

@@ -2,7 +2,7 @@
 use native.Mathlib.Omega.{arith}
 use native.Mathlib.Numerals.{add-one}
 use mathlib.Core.Path.{sym, _∙_}
-use Rattle.sets.proofs.CallLaws.{few-points, first-points, sheet-marks}
+use Rattle.sets.proofs.CallLaws.{few-points, first-points, first-clear, sheet-marks}
 use Rattle.sets.proofs.mark_accepted.Statement.{statement}
 use Rattle.sets.proofs.mark_accepted.Tie as tie
 
@@ -31,14 +31,14 @@ settle-and-mark-requires : tie.Need-settle-and-mark-requires
 settle-and-mark-requires c κs =
     let start = c .before .before .before .before .before .before .before .before in
     let few = few-points (start .pre) in
-    let room = first-points (start .pre) in (
+    let clear = first-clear (start .pre) in (
       start .pre,
       record {
         cameRoom = omega arith;
         goesRoom = omega arith;
-        variedRoom = room _ (omega arith);
-        usefulRoom = room _ (omega arith);
-        requiredRoom = room _ (omega arith);
+        variedClear = clear;
+        usefulClear = clear;
+        requiredClear = clear;
         marksRoom = omega arith;
       },
     )

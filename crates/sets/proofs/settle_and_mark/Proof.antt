@@ -1,10 +1,11 @@
 -- `sets::settle_and_mark` meets its contract: with the partners found the code's equations are the definitions', and so are the sets.
-use Prim.Native.Nat.{_≤_}
+use Prim.Native.Nat.{suc, _≤_}
 use borrow.Author.Needs.{needs}
 use native.Mathlib.Omega.{arith}
 use denote.Ref.{now}
 use lib.ListN.{length}
 use Rattle.sets.specs.inner.Laid.{Laid}
+use Rattle.sets.proofs.Seeds.{clear-length}
 use Rattle.sets.proofs.TopsWithin.{findable}
 use Rattle.sets.proofs.SheetMarked.{facts, PartnersAre, partners-right, settles-varied, settles-useful, settles-required}
 use Rattle.sets.proofs.SheetMarked.{varied-settled, useful-settled, required-settled, all-marked}
@@ -56,13 +57,13 @@ settle-varied-requires : tie.Need-settle-varied-requires
 settle-varied-requires c κs =
     let found = c .before .before .before .before .before .before .before in
     let start = atStart found in
-    settles-varied (handed start) (partners-are found) (came-room found) (goes-room found) _ (start .pre .1 .variedRoom)
+    settles-varied (handed start) (partners-are found) (came-room found) (goes-room found) _ (start .pre .1 .variedClear)
 
 settle-useful-requires : tie.Need-settle-useful-requires
 settle-useful-requires c κs =
     let found = atPartners (c .before .before .before .before .before) in
     let start = atStart found in
-    settles-useful (handed start) (partners-are found) (came-room found) (goes-room found) _ (start .pre .1 .usefulRoom)
+    settles-useful (handed start) (partners-are found) (came-room found) (goes-room found) _ (start .pre .1 .usefulClear)
 
 settle-required-requires : tie.Need-settle-required-requires
 settle-required-requires c κs =
@@ -71,9 +72,9 @@ settle-required-requires c κs =
     let found = atPartners first in
     let start = atStart found in (
       settles-required (handed start) (partners-are found) (came-room found) (goes-room found) (first .settle-varied .last .1 .1 .1 .1 .0)
-          (second .settle-useful .last .1 .1 .1 .1 .0) _ (start .pre .1 .requiredRoom),
-      omega (arith, first .settle-varied .kept .1 .1 .1 .1 .0, start .pre .1 .variedRoom),
-      omega (arith, second .settle-useful .kept .1 .1 .1 .1 .0, start .pre .1 .usefulRoom),
+          (second .settle-useful .last .1 .1 .1 .1 .0) _ (start .pre .1 .requiredClear),
+      omega (arith, first .settle-varied .kept .1 .1 .1 .1 .0, clear-length (suc (start .args .rows)) _ (start .pre .1 .variedClear)),
+      omega (arith, second .settle-useful .kept .1 .1 .1 .1 .0, clear-length (suc (start .args .rows)) _ (start .pre .1 .usefulClear)),
       start .pre .1 .marksRoom,
     )
 

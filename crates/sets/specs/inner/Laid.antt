@@ -2,11 +2,11 @@
 use Prim.Native.Nat.{ℕ, suc, _+_, _≤_}
 use mathlib.Core.Path.{_≡_}
 use mathlib.Core.List.{List}
-use lib.ListN.{length, getD}
+use lib.ListN.{length, getD, replicate}
 use Rattle.sheet.specs.Tree.{rows}
 use Rattle.sheet.specs.Refusals.{given}
 use Rattle.sheet.specs.Reading.{Sheet, read}
-use Rattle.sets.specs.VariableSets.{VariableSet}
+use Rattle.sets.specs.VariableSets.{VariableSet, empty}
 use Rattle.sets.specs.Marks.{varied, useful, required}
 use Rattle.sets.specs.MarkBytes.{markBytes}
 use Rattle.sets.specs.inner.RowBytes.{written}
@@ -30,11 +30,11 @@ abbrev pub AllMarked : (words : List ℕ) (count : ℕ) (sets₁ sets₂ sets₃
 AllMarked words count sets₁ sets₂ sets₃ before after =
     (sheet : Sheet) → read words ≡ given sheet → MarksLeft sheet count sets₁ sets₂ sets₃ before after
 
--- the lengths of what is lent: partners and marks for every row, sets for every point
-pub record Room (count came goes sets₁ sets₂ sets₃ marks : ℕ) : Type 0 where
+-- what is lent: room for every row's partners and marks, and an empty set at every point
+pub record Room (count came goes : ℕ) (sets₁ sets₂ sets₃ : List VariableSet) (marks : ℕ) : Type 0 where
   pub cameRoom : count ≤ came
   pub goesRoom : count ≤ goes
-  pub variedRoom : sets₁ ≡ suc count
-  pub usefulRoom : sets₂ ≡ suc count
-  pub requiredRoom : sets₃ ≡ suc count
+  pub variedClear : sets₁ ≡ replicate (suc count) empty
+  pub usefulClear : sets₂ ≡ replicate (suc count) empty
+  pub requiredClear : sets₃ ≡ replicate (suc count) empty
   pub marksRoom : count ≤ marks

@@ -7,14 +7,13 @@ use mathlib.Core.List.{List, [], _∷_}
 use lib.ListN.{getD, take, drop, length as List·length}
 use Rattle.sheet.specs.Bounds.{limit, wordValues}
 use Rattle.sheet.specs.Tree.{basic, ifLine, elseLine, endIf, repeat, endRepeat}
-use Rattle.sheet.specs.Rows.{Assignment, SheetLine, Row, sheetRowOf, isIndependent, isDependent}
+use Rattle.sheet.specs.Rows.{Assignment, SheetLine, Row, sheetRowOf, kinds, isIndependent, isDependent}
 use Rattle.sheet.specs.inner.RowLines.{lineOfRow}
 use Rattle.sheet.specs.inner.Kinds.{assigns, formFor, partFor}
-use Rattle.sheet.specs.Answers.{rowSaid}
 use Rattle.sheet.specs.Reading.{rowAt}
+use Rattle.sheet.specs.declared.kinds.Form.{Form}
 use Rattle.sheet.specs.declared.kinds.Part.{Part}
 use Rattle.sheet.specs.declared.kinds.Part.the-variants as part
-use Rattle.sets.specs.declared.rows.Seen.{Seen}
 use Rattle.sets.specs.declared.Which.{Which}
 use Rattle.sets.specs.declared.Which.the-variants.{Varied, Useful, Required}
 use Rattle.sets.specs.VariableSets.{VariableSet, places, _∪_}
@@ -22,9 +21,12 @@ use Rattle.sets.specs.Equations.{Equation, starts, passes, joins, unchan
 use Rattle.sets.specs.Transfers.{variedAfter, usefulBefore, requiredAfter, activityOf}
 use Rattle.sets.specs.inner.Operations.{InMask}
 
--- the line of a sheet's row
+-- a sheet's row by its number, and its line
+abbrev pub numberedRow : List ℕ → (first row : ℕ) → Row
+numberedRow words first p = rowAt words (first + p * limit .rowWords)
+
 abbrev pub lineIn : List ℕ → (first row : ℕ) → SheetLine
-lineIn words first p = lineOfRow (rowAt words (first + p * limit .rowWords))
+lineIn words first p = lineOfRow (numberedRow words first p)
 
 -- ---- one row's equation
 
@@ -86,7 +88,7 @@ abbrev pub activeBy : (words : List ℕ) (first : ℕ) (varied useful : List Var
 activeBy words first varied useful p = activeLine (setAt varied p) (setAt useful (suc p)) (lineIn words first p)
 
 abbrev pub rowIn : Given → ℕ → Row
-rowIn given p = rowAt (given .words) (given .first + p * limit .rowWords)
+rowIn given p = numberedRow (given .words) (given .first) p
 
 unfoldable pub equationIn : Which → Given → ℕ → Equation
 unfolding lineOfRow equationOf
@@ -173,18 +175,22 @@ RowThere words first p = first + (p + 1) * limit .rowWords ≤ List·length word
 
 -- the words of a row are there, say its line, and name no variable or constant beyond a mask's bits
 pub record Readable (words : List ℕ) (first row : ℕ) : Type 0 where
-  pub says : let r = rowAt words (first + row * limit .rowWords) in sheetRowOf (lineOfRow r) ≡ r
-  pub small : Small (rowAt words (first + row * limit .rowWords))
+  pub says : let r = numberedRow words first row in sheetRowOf (lineOfRow r) ≡ r
+  pub small : Small (numberedRow words first row)
   pub numbered : row < wordValues
   pub there : RowThere words first row
 
 abbrev pub AllReadable : List ℕ → (first rows : ℕ) → Type 0
 AllReadable words first rows = (p : ℕ) → p < rows → Readable words first p
 
--- a row was looked up: these are its words, and its form is its kind's
-pub record Sees (words : List ℕ) (first row : ℕ) (seen : Seen) : Type 0 where
-  pub says : rowSaid (seen .line) ≡ rowAt words (first + row * limit .rowWords)
-  pub formed : seen .form ≡ formFor (seen .line .kind)
+-- a row's kind was read: it is one of the table's
+pub record KindRead (words : List ℕ) (first row kind : ℕ) : Type 0 where
+  pub is : kind ≡ numberedRow words first row .kind
+  pub inTable : kind ≤ List·length kinds
+
+-- its form was looked up in the table
+abbrev pub Formed : (words : List ℕ) (first row : ℕ) → Form → Type 0
+Formed words first row form = form ≡ formFor (numberedRow words first row .kind)
 
 -- ---- the start
 

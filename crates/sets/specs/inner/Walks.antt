@@ -4,14 +4,14 @@ use Prim.Native.Nat.{ℕ, suc, _+_, _-_, _≤_, _<_}
 use mathlib.Core.Path.{_≡_}
 use mathlib.Core.Bool.{Bool, true, false, _||_}
 use mathlib.Core.List.{List}
-use lib.ListN.{getD, set, length as List·length}
+use lib.ListN.{getD, set, replicate, length as List·length}
 use Rattle.sheet.specs.inner.Kinds.{partFor}
 use Rattle.sheet.specs.declared.kinds.Part.{Part}
 use Rattle.sheet.specs.declared.kinds.Part.the-variants as part
 use Rattle.sets.specs.declared.walk.Reached.{Reached}
 use Rattle.sets.specs.declared.Which.{Which}
 use Rattle.sets.specs.declared.Which.the-variants.{Varied, Useful, Required}
-use Rattle.sets.specs.VariableSets.{VariableSet, _∪_}
+use Rattle.sets.specs.VariableSets.{VariableSet, empty, _∪_}
 use Rattle.sets.specs.Equations.{Equation, joins, rightSide, setAt}
 use Rattle.sets.specs.inner.ProperEquations.{Proper}
 use Rattle.sets.specs.inner.Operations.{maskBits}
@@ -132,11 +132,12 @@ abbrev pub ownSide : Which → Part → (row : ℕ) (partners : List ℕ) → Li
 ownSide which part row partners sets = blockSide which part (setAt sets (ownPoint which row)) (setAt sets (ownPoint which (getD partners row 0)))
 
 -- what the code needs to settle the sets
-pub record Settles (which : Which) (given : Given) (others : List ℕ) (rows variables length : ℕ) : Type 0 where
+pub record Settles (which : Which) (given : Given) (others : List ℕ) (rows variables : ℕ) (sets : List VariableSet) : Type 0 where
   pub readable : AllReadable (given .words) (given .first) rows
   pub variablesSmall : variables ≤ maskBits
   pub rolesThere : variables < List·length (given .words)
-  pub long : length ≡ suc rows
+  -- nothing is found yet: an empty set at every point
+  pub clear : sets ≡ replicate (suc rows) empty
   pub partnered : rows ≤ List·length (given .partners)
   pub othersThere : rows ≤ List·length others
   pub proper : Proper variables (suc rows) (allEquations which given rows (seedIn which (given .words) variables))

@@ -4,6 +4,7 @@ use Prim.Native.Nat.{_-_}
 use native.Mathlib.Omega.{arith}
 use Rattle.sets.specs.inner.RowEquations.{lineIn}
 use Rattle.sets.proofs.PartnerPass.{Finding, finding-starts, both-listed, finding-on, found-all, part-read}
+use Rattle.sets.proofs.SheetRows.{form-read}
 use Rattle.sets.proofs.partners.find_partners.Statement.{statement}
 use Rattle.sets.proofs.partners.find_partners.Tie as tie
 
@@ -22,11 +23,14 @@ loop-holds c =
     let start : tie.Start Inv-loop μ-loop = search in
     finding-starts _ _ _ _ (start .pre .1)
 
-look-requires : tie.Need-look-requires Inv-loop μ-loop
-look-requires c κs =
-    let forms = c .before .before in
-    let start = forms .before .before .before .before in
-    (forms .forms .ensures, start .pre .0 _ (c .loop-test .taken))
+kind-of-requires : tie.Need-kind-of-requires Inv-loop μ-loop
+kind-of-requires c κs = c .before .before .before .before .before .before .pre .0 _ (c .loop-test .taken)
+
+mul-form : tie.Need-mul-form Inv-loop μ-loop
+mul-form c = omega (arith, c .kind-of .ensures .inTable)
+
+array-copy-out-form : tie.Need-array-copy-out-form Inv-loop μ-loop
+array-copy-out-form c = omega (arith, c .kind-of .ensures .inTable)
 
 partner-step-requires : tie.Need-partner-step-requires Inv-loop μ-loop
 partner-step-requires c κs =
@@ -48,9 +52,10 @@ loop-again c =
     let step = c .before .before .before .before in
     let read = step .before .before .before .before in
     let inside = read .before in
+    let forms = inside .before .before in
     let start = inside .before .before .before .before .before .before in
     finding-on _ _ _ _ _ _ _ _ (inside .before .loop .inv) (inside .loop-test .taken) _
-    (part-read _ _ _ _ (start .pre .0 _ (inside .loop-test .taken)) (read .look .ensures)) _ _ _ (step .partner-step .ensures)
+    (part-read (start .pre .0 _ (inside .loop-test .taken)) (form-read (forms .forms .ensures) (read .kind-of .ensures))) _ _ _ (step .partner-step .ensures)
     (step .partner-step .kept .1 .1 .1 .0) (step .partner-step .kept .1 .1 .1 .1 .0)
 
 same-length : tie.Need-same-length Inv-loop μ-loop
@@ -70,7 +75,9 @@ find-partners-spec =
     μ-loop
     forms-requires
     loop-holds
-    look-requires
+    kind-of-requires
+    mul-form
+    array-copy-out-form
     partner-step-requires
     add-number
     loop-less

@@ -7,13 +7,15 @@ use mathlib.Core.Bool.{true}
 use denote.Ref.{now}
 use lib.ListN.{length}
 use Rattle.sheet.specs.inner.Kinds.{assigns}
+use Rattle.sheet.specs.declared.kinds.Form.{Form}
 use Rattle.sets.specs.declared.Which.the-variants.{Required}
 use Rattle.sets.specs.MarkBytes.{weight, bitOf}
 use Rattle.sets.specs.inner.RowBytes.{byteAt}
 use Rattle.sets.specs.inner.RowEquations.{givenBy, activeBy, lineIn, ownPoint}
 use Rattle.sets.proofs.MarkByteLaws.{no-byte, assigned-byte, byte-active, Marking, marking-starts, marking-ends}
+use Rattle.sets.proofs.SheetRows.{formIn, form-read}
 use Rattle.sets.proofs.Walking.{leftOf}
-use Rattle.sets.proofs.WalkNeeds.{Carried, begun, row-there, ended, AtRow, row-below, line-part, in-hand, operation-there, assignment-there, assigned}
+use Rattle.sets.proofs.WalkNeeds.{Carried, points, begin-there, begun, row-there, ended, AtRow, row-below, line-part, in-hand, operation-there, assignment-there, assigned}
 use Rattle.sets.proofs.WalkNeeds.{assignment-passed, at-block, block-passed, gone-on, marked-on}
 use Rattle.sets.proofs.walk.settle_required.Statement.{statement}
 use Rattle.sets.proofs.walk.settle_required.Tie as tie
@@ -32,17 +34,18 @@ formed c = c .before .before .before .before .before
 abbrev start : tie.At-loop Inv-loop μ-loop → tie.Start Inv-loop μ-loop
 start c = formed c .before .before .before .before .before .before .before .before
 
-abbrev looked : tie.After-assigns Inv-loop μ-loop → tie.After-look Inv-loop μ-loop
-looked c = c .before .before
-
-abbrev loop : tie.After-look Inv-loop μ-loop → tie.At-loop Inv-loop μ-loop
+abbrev loop : tie.After-kind-of Inv-loop μ-loop → tie.At-loop Inv-loop μ-loop
 loop c = c .before .before .before .before .before
 
-at : (c : tie.After-look Inv-loop μ-loop) → let args = start (loop c) .args in
+-- what the table has for the row's kind
+abbrev form : tie.After-kind-of Inv-loop μ-loop → Form
+form c = formIn (formed (loop c) .forms .result) (c .kind-of .result)
+
+at : (c : tie.After-kind-of Inv-loop μ-loop) → let args = start (loop c) .args in
     AtRow Required
     (givenBy (now (args .words)) (args .extent .first) (activeBy (now (args .words)) (args .extent .first) (now (args .varied)) (now (args .useful))) (now (args .partners)))
-    (now (args .others)) (args .extent .rows) (args .extent .variables) (length (now (args .sets))) (loop c .loop .sets) (loop c .loop .reached)
-    (c .before .row-in-turn .result .0) (c .look .result)
+    (now (args .others)) (args .extent .rows) (args .extent .variables) (now (args .sets)) (loop c .loop .sets) (loop c .loop .reached)
+    (c .before .row-in-turn .result .0) (form c)
 at c =
     let turned = c .before in
     record {
@@ -50,17 +53,20 @@ at c =
       carried = loop c .loop .inv .0;
       below = turned .before .if1 .taken;
       inTurn = turned .row-in-turn .ensures;
-      sees = c .look .ensures;
+      formed = form-read (formed (loop c) .forms .ensures) (c .kind-of .ensures);
     }
 
 -- the row has a place among the marks
-marks-there : (c : tie.After-look Inv-loop μ-loop) → c .before .row-in-turn .result .0 < length (loop c .loop .marks)
+marks-there : (c : tie.After-kind-of Inv-loop μ-loop) → c .before .row-in-turn .result .0 < length (loop c .loop .marks)
 marks-there c = omega (arith, row-below (at c), loop c .loop .inv .1 .long, start (loop c) .pre .3)
 
-abbrev judged : tie.After-operation-of Inv-loop μ-loop → tie.After-assigns Inv-loop μ-loop
+abbrev looked : tie.After-assigns Inv-loop μ-loop → tie.After-kind-of Inv-loop μ-loop
+looked c = c .before .before
+
+abbrev judged : tie.After-operation-at Inv-loop μ-loop → tie.After-assigns Inv-loop μ-loop
 judged c = c .before .before
 
-is-assigned : (c : tie.After-operation-of Inv-loop μ-loop) → assigns (looked (judged c) .look .result .form .3) ≡ true
+is-assigned : (c : tie.After-operation-at Inv-loop μ-loop) → assigns (form (looked (judged c)) .3) ≡ true
 is-assigned c = sym (judged c .assigns .ensures) ∙ c .before .if2 .taken
 
 -- an assignment's byte is its line's
@@ -71,7 +77,7 @@ unfolding ownPoint
 byte-is c =
     let made = c .before in
     let row = at (looked (judged made)) in
-    assigned-byte _ _ _ _ (assigned row (is-assigned made) (made .operation-of .ensures .0)) (in-hand row) (c .byte-at .ensures)
+    assigned-byte _ _ _ _ (assigned row (is-assigned made) (made .operation-at .ensures .0)) (in-hand row) (c .byte-at .ensures)
 
 -- and says whether it is active
 active-is : (c : tie.After-is-active Inv-loop μ-loop) → let here = looked (judged (c .before .before)) in let args = start (loop here) .args in
@@ -82,35 +88,37 @@ forms-requires : tie.Need-forms-requires Inv-loop μ-loop
 forms-requires c κs = tt
 
 begin-requires : tie.Need-begin-requires Inv-loop μ-loop
-begin-requires c κs =
-    let pre = c .before .before .before .before .before .before .before .before .before .pre .0 in
-    (pre .variablesSmall, pre .rolesThere, omega (arith, pre .long))
+begin-requires c κs = begin-there (c .before .before .before .before .before .before .before .before .before .pre .0)
 
 loop-holds : tie.Need-loop-holds Inv-loop μ-loop
 loop-holds c =
     let begins = c .before .before in
     let pre = begins .before .before .before .before .before .before .before .before .before .before .pre .0 in
-    (begun pre (pre .long) (begins .begin .ensures), rw (begins .begin .ensures .0) (marking-starts _ _ _ _ _ _))
+    (begun pre (begins .begin .ensures), rw (begins .begin .ensures .0) (marking-starts _ _ _ _ _ _))
 
 row-in-turn-requires : tie.Need-row-in-turn-requires Inv-loop μ-loop
 row-in-turn-requires c κs = c .if1 .taken
 
-look-requires : tie.Need-look-requires Inv-loop μ-loop
-look-requires c κs =
-    let here = c .before .before .before .before in
-    (formed here .forms .ensures, row-there (start here .pre .0) (c .before .if1 .taken) (c .row-in-turn .ensures))
+kind-of-requires : tie.Need-kind-of-requires Inv-loop μ-loop
+kind-of-requires c κs = row-there (start (c .before .before .before .before) .pre .0) (c .before .if1 .taken) (c .row-in-turn .ensures)
+
+mul-form : tie.Need-mul-form Inv-loop μ-loop
+mul-form c = omega (arith, c .kind-of .ensures .inTable)
+
+array-copy-out-form : tie.Need-array-copy-out-form Inv-loop μ-loop
+array-copy-out-form c = omega (arith, c .kind-of .ensures .inTable)
 
 assigns-requires : tie.Need-assigns-requires Inv-loop μ-loop
 assigns-requires c κs = tt
 
-operation-of-requires : tie.Need-operation-of-requires Inv-loop μ-loop
-operation-of-requires c κs = operation-there (at (looked (c .before))) (sym (c .before .assigns .ensures) ∙ c .if2 .taken)
+operation-at-requires : tie.Need-operation-at-requires Inv-loop μ-loop
+operation-at-requires c κs = operation-there (at (looked (c .before))) (sym (c .before .assigns .ensures) ∙ c .if2 .taken)
 
 byte-at-requires : tie.Need-byte-at-requires Inv-loop μ-loop
 byte-at-requires c κs =
     let here = looked (judged c) in
     let below = row-below (at here) in
-    (c .operation-of .ensures .1, omega (arith, below, start (loop here) .pre .1), omega (arith, below, start (loop here) .pre .2))
+    (c .operation-at .ensures .1, omega (arith, below, start (loop here) .pre .1), omega (arith, below, start (loop here) .pre .2))
 
 slice-write-marks : tie.Need-slice-write-marks Inv-loop μ-loop
 slice-write-marks c = marks-there (looked (judged (c .before)))
@@ -121,7 +129,7 @@ is-active-requires c κs = tt
 pass-assignment-requires : tie.Need-pass-assignment-requires Inv-loop μ-loop
 pass-assignment-requires c κs =
     let made = c .before .before .before in
-    assignment-there (at (looked (judged made))) (made .operation-of .ensures .1)
+    assignment-there (at (looked (judged made))) (made .operation-at .ensures .1)
 
 loop-less : tie.Need-loop-less Inv-loop μ-loop
 loop-less c =
@@ -129,7 +137,7 @@ loop-less c =
     let acts = passed .before .before in
     let made = acts .before .before in
     let row = at (looked (judged made)) in
-    gone-on row (assignment-passed row (is-assigned made) (made .operation-of .ensures .0) (active-is acts) (passed .pass-assignment .ensures)) .1
+    gone-on row (assignment-passed row (is-assigned made) (made .operation-at .ensures .0) (active-is acts) (passed .pass-assignment .ensures)) .1
 
 loop-again : tie.Need-loop-again Inv-loop μ-loop
 loop-again c =
@@ -138,7 +146,7 @@ loop-again c =
     let made = acts .before .before in
     let here = looked (judged made) in
     let row = at here in
-    let passes = assignment-passed row (is-assigned made) (made .operation-of .ensures .0) (active-is acts) (passed .pass-assignment .ensures) in
+    let passes = assignment-passed row (is-assigned made) (made .operation-at .ensures .0) (active-is acts) (passed .pass-assignment .ensures) in
     (gone-on row passes .0, marked-on row _ _ passes (loop here .loop .inv .1) (start (loop here) .pre .3) (byte-is (acts .before)))
 
 slice-write-marks-2 : tie.Need-slice-write-marks-2 Inv-loop μ-loop
@@ -167,7 +175,7 @@ loop-again-2 c =
     )
 
 same-length : tie.Need-same-length Inv-loop μ-loop
-same-length c = let loop = c .before .before .before in loop .loop .inv .0 .walk .kept .long ∙ sym (start loop .pre .0 .long)
+same-length c = let loop = c .before .before .before in loop .loop .inv .0 .walk .kept .long ∙ sym (points (start loop .pre .0))
 
 same-length-2 : tie.Need-same-length-2 Inv-loop μ-loop
 same-length-2 c = c .before .before .before .loop .inv .1 .long
@@ -187,9 +195,11 @@ settle-required-spec =
     begin-requires
     loop-holds
     row-in-turn-requires
-    look-requires
+    kind-of-requires
+    mul-form
+    array-copy-out-form
     assigns-requires
-    operation-of-requires
+    operation-at-requires
     byte-at-requires
     slice-write-marks
     is-active-requires

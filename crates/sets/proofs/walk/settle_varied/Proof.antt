@@ -4,12 +4,13 @@ use native.Mathlib.Omega.{arith}
 use mathlib.Core.Path.{_≡_, refl, sym, _∙_}
 use mathlib.Core.Bool.{true}
 use denote.Ref.{now}
-use lib.ListN.{length}
 use Rattle.sheet.specs.inner.Kinds.{assigns}
+use Rattle.sheet.specs.declared.kinds.Form.{Form}
 use Rattle.sets.specs.declared.Which.the-variants.{Varied}
 use Rattle.sets.specs.inner.RowEquations.{givenBy, noneActive}
+use Rattle.sets.proofs.SheetRows.{formIn, form-read}
 use Rattle.sets.proofs.Walking.{leftOf}
-use Rattle.sets.proofs.WalkNeeds.{Carried, begun, row-there, ended, AtRow, operation-there, assignment-there, assignment-passed, at-block, block-passed, gone-on}
+use Rattle.sets.proofs.WalkNeeds.{Carried, points, begin-there, begun, row-there, ended, AtRow, operation-there, assignment-there, assignment-passed, at-block, block-passed, gone-on}
 use Rattle.sets.proofs.walk.settle_varied.Statement.{statement}
 use Rattle.sets.proofs.walk.settle_varied.Tie as tie
 
@@ -26,15 +27,16 @@ formed c = c .before .before .before .before .before
 abbrev start : tie.At-loop Inv-loop μ-loop → tie.Start Inv-loop μ-loop
 start c = formed c .before .before .before .before .before
 
-abbrev looked : tie.After-assigns Inv-loop μ-loop → tie.After-look Inv-loop μ-loop
-looked c = c .before .before
-
-abbrev loop : tie.After-look Inv-loop μ-loop → tie.At-loop Inv-loop μ-loop
+abbrev loop : tie.After-kind-of Inv-loop μ-loop → tie.At-loop Inv-loop μ-loop
 loop c = c .before .before .before .before .before
 
-at : (c : tie.After-look Inv-loop μ-loop) → let args = start (loop c) .args in
+-- what the table has for the row's kind
+abbrev form : tie.After-kind-of Inv-loop μ-loop → Form
+form c = formIn (formed (loop c) .forms .result) (c .kind-of .result)
+
+at : (c : tie.After-kind-of Inv-loop μ-loop) → let args = start (loop c) .args in
     AtRow Varied (givenBy (now (args .words)) (args .extent .first) noneActive (now (args .partners))) (now (args .others)) (args .extent .rows)
-    (args .extent .variables) (length (now (args .sets))) (loop c .loop .sets) (loop c .loop .reached) (c .before .row-in-turn .result .0) (c .look .result)
+    (args .extent .variables) (now (args .sets)) (loop c .loop .sets) (loop c .loop .reached) (c .before .row-in-turn .result .0) (form c)
 at c =
     let turned = c .before in
     record {
@@ -42,59 +44,66 @@ at c =
       carried = loop c .loop .inv;
       below = turned .before .if1 .taken;
       inTurn = turned .row-in-turn .ensures;
-      sees = c .look .ensures;
+      formed = form-read (formed (loop c) .forms .ensures) (c .kind-of .ensures);
     }
 
-abbrev judged : tie.After-operation-of Inv-loop μ-loop → tie.After-assigns Inv-loop μ-loop
+abbrev looked : tie.After-assigns Inv-loop μ-loop → tie.After-kind-of Inv-loop μ-loop
+looked c = c .before .before
+
+abbrev judged : tie.After-operation-at Inv-loop μ-loop → tie.After-assigns Inv-loop μ-loop
 judged c = c .before .before
 
-is-assigned : (c : tie.After-operation-of Inv-loop μ-loop) → assigns (looked (judged c) .look .result .form .3) ≡ true
+is-assigned : (c : tie.After-operation-at Inv-loop μ-loop) → assigns (form (looked (judged c)) .3) ≡ true
 is-assigned c = sym (judged c .assigns .ensures) ∙ c .before .if2 .taken
 
 forms-requires : tie.Need-forms-requires Inv-loop μ-loop
 forms-requires c κs = tt
 
 begin-requires : tie.Need-begin-requires Inv-loop μ-loop
-begin-requires c κs = let pre = c .before .before .before .before .before .before .pre in (pre .variablesSmall, pre .rolesThere, omega (arith, pre .long))
+begin-requires c κs = begin-there (c .before .before .before .before .before .before .pre)
 
 loop-holds : tie.Need-loop-holds Inv-loop μ-loop
 loop-holds c =
     let begins = c .before .before in
     let pre = begins .before .before .before .before .before .before .before .pre in
-    begun pre (pre .long) (begins .begin .ensures)
+    begun pre (begins .begin .ensures)
 
 row-in-turn-requires : tie.Need-row-in-turn-requires Inv-loop μ-loop
 row-in-turn-requires c κs = c .if1 .taken
 
-look-requires : tie.Need-look-requires Inv-loop μ-loop
-look-requires c κs =
-    let here = c .before .before .before .before in
-    (formed here .forms .ensures, row-there (start here .pre) (c .before .if1 .taken) (c .row-in-turn .ensures))
+kind-of-requires : tie.Need-kind-of-requires Inv-loop μ-loop
+kind-of-requires c κs = row-there (start (c .before .before .before .before) .pre) (c .before .if1 .taken) (c .row-in-turn .ensures)
+
+mul-form : tie.Need-mul-form Inv-loop μ-loop
+mul-form c = omega (arith, c .kind-of .ensures .inTable)
+
+array-copy-out-form : tie.Need-array-copy-out-form Inv-loop μ-loop
+array-copy-out-form c = omega (arith, c .kind-of .ensures .inTable)
 
 assigns-requires : tie.Need-assigns-requires Inv-loop μ-loop
 assigns-requires c κs = tt
 
-operation-of-requires : tie.Need-operation-of-requires Inv-loop μ-loop
-operation-of-requires c κs = operation-there (at (looked (c .before))) (sym (c .before .assigns .ensures) ∙ c .if2 .taken)
+operation-at-requires : tie.Need-operation-at-requires Inv-loop μ-loop
+operation-at-requires c κs = operation-there (at (looked (c .before))) (sym (c .before .assigns .ensures) ∙ c .if2 .taken)
 
 pass-assignment-requires : tie.Need-pass-assignment-requires Inv-loop μ-loop
 pass-assignment-requires c κs =
     let made = c .before in
-    assignment-there (at (looked (judged made))) (made .operation-of .ensures .1)
+    assignment-there (at (looked (judged made))) (made .operation-at .ensures .1)
 
 loop-less : tie.Need-loop-less Inv-loop μ-loop
 loop-less c =
     let passed = c .before .before in
     let made = passed .before .before in
     let row = at (looked (judged made)) in
-    gone-on row (assignment-passed row (is-assigned made) (made .operation-of .ensures .0) refl (passed .pass-assignment .ensures)) .1
+    gone-on row (assignment-passed row (is-assigned made) (made .operation-at .ensures .0) refl (passed .pass-assignment .ensures)) .1
 
 loop-again : tie.Need-loop-again Inv-loop μ-loop
 loop-again c =
     let passed = c .before .before in
     let made = passed .before .before in
     let row = at (looked (judged made)) in
-    gone-on row (assignment-passed row (is-assigned made) (made .operation-of .ensures .0) refl (passed .pass-assignment .ensures)) .0
+    gone-on row (assignment-passed row (is-assigned made) (made .operation-at .ensures .0) refl (passed .pass-assignment .ensures)) .0
 
 pass-block-row-requires : tie.Need-pass-block-row-requires Inv-loop μ-loop
 pass-block-row-requires c κs = at-block (at (looked (c .before .before)))
@@ -114,7 +123,7 @@ loop-again-2 c =
     gone-on row (block-passed row (sym (other .before .assigns .ensures) ∙ other .if2 .left) (passed .pass-block-row .ensures)) .0
 
 same-length : tie.Need-same-length Inv-loop μ-loop
-same-length c = let loop = c .before .before .before in loop .loop .inv .walk .kept .long ∙ sym (start loop .pre .long)
+same-length c = let loop = c .before .before .before in loop .loop .inv .walk .kept .long ∙ sym (points (start loop .pre))
 
 returns : tie.Need-returns Inv-loop μ-loop
 returns c = let loop = c .before .before .before in ended (start loop .pre) (loop .loop .inv) (c .if1 .left)
@@ -129,9 +138,11 @@ settle-varied-spec =
     begin-requires
     loop-holds
     row-in-turn-requires
-    look-requires
+    kind-of-requires
+    mul-form
+    array-copy-out-form
     assigns-requires
-    operation-of-requires
+    operation-at-requires
     pass-assignment-requires
     loop-less
     loop-again
