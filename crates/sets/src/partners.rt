@@ -5,7 +5,7 @@ ghost use Prim.Native.Nat.{_<_};
 ghost use lib.ListN.{getD, set, length};
 ghost use Rattle.sheet.specs.Bounds.{wordValues};
 ghost use Rattle.sets.specs.inner.RowEquations.{AllReadable, lineIn};
-ghost use Rattle.sets.specs.inner.PartnerPass.{found, foundBy, Findable, Listed, PartnersFound};
+ghost use Rattle.sets.specs.inner.PartnerPass.{found, paired, foundBy, Findable, Listed, PartnersFound};
 use super::Extent;
 use super::rows;
 use sheet::RowNumber;
@@ -29,6 +29,24 @@ fn put(list: &mut [u16], row: RowNumber, partner: RowNumber)
     list[place] = partner.0 as u16;
 }
 
+// Two rows become partners: `to` came from `from`. The answer is the row that was innermost outside `top`, the innermost open one until now.
+fn pair(
+    to: RowNumber,
+    from: RowNumber,
+    top: RowNumber,
+    came: &mut [u16],
+    goes: &mut [u16],
+) -> RowNumber
+    requires { ⌜ Listed (now came) (now goes) (to .0) × Listed (now came) (now goes) (from .0) × (top .0 < length (now goes)) ⌝ }
+    ensures { λ r. ⌜ (found (r .0) (now (came .exit)) (now (goes .exit))
+        ≡ paired (to .0) (from .0) (found (top .0) (now (came .entry)) (now (goes .entry)))) × (r .0 < wordValues) ⌝ }
+{
+    let outer = partner_there(goes, top);
+    put(came, to, from);
+    put(goes, from, to);
+    outer
+}
+
 // One row: `top` is the innermost open block's last row so far, and the answer is the same after this row.
 fn partner_step(
     part: Part,
@@ -48,28 +66,16 @@ fn partner_step(
             row
         }
         Part::Else => {
-            let outer = partner_there(goes, top);
-            put(came, row, top);
-            put(goes, top, row);
+            let outer = pair(row, top, top, came, goes);
             put(goes, row, outer);
             row
         }
-        Part::EndIf => {
-            let outer = partner_there(goes, top);
-            put(came, row, top);
-            put(goes, top, row);
-            outer
-        }
+        Part::EndIf => pair(row, top, top, came, goes),
         Part::Repeat => {
             put(goes, row, top);
             row
         }
-        Part::EndRepeat => {
-            let outer = partner_there(goes, top);
-            put(came, top, row);
-            put(goes, row, top);
-            outer
-        }
+        Part::EndRepeat => pair(top, row, top, came, goes),
     }
 }
 

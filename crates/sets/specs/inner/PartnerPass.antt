@@ -19,14 +19,22 @@ pub record Found : Type 0 where
 abbrev pub found : (top : ℕ) (came goes : List ℕ) → Found
 found top came goes = record { top = top; came = came; goes = goes }
 
+-- a row opens a block or a branch, and keeps the row that was innermost
+abbrev pub opened : (row : ℕ) → Found → Found
+opened p s = found p (s .came) (set (s .goes) p (s .top))
+
+-- two rows become partners, and the row that was innermost outside them is so again
+abbrev pub paired : (to from : ℕ) → Found → Found
+paired to from s = found (getD (s .goes) (s .top) 0) (set (s .came) to from) (set (s .goes) from to)
+
 -- what one row does, by what it is to the blocks
 unfoldable pub foundBy : Part → (row : ℕ) → Found → Found
 foundBy part.Assignment p s = s
-foundBy part.If p s = found p (s .came) (set (s .goes) p (s .top))
-foundBy part.Else p s = found p (set (s .came) p (s .top)) (set (set (s .goes) (s .top) p) p (getD (s .goes) (s .top) 0))
-foundBy part.EndIf p s = found (getD (s .goes) (s .top) 0) (set (s .came) p (s .top)) (set (s .goes) (s .top) p)
-foundBy part.Repeat p s = found p (s .came) (set (s .goes) p (s .top))
-foundBy part.EndRepeat p s = found (getD (s .goes) (s .top) 0) (set (s .came) (s .top) p) (set (s .goes) p (s .top))
+foundBy part.If p s = opened p s
+foundBy part.Else p s = opened p (paired p (s .top) s)
+foundBy part.EndIf p s = paired p (s .top) s
+foundBy part.Repeat p s = opened p s
+foundBy part.EndRepeat p s = paired (s .top) p s
 
 -- and so by its line
 unfoldable pub foundAt : SheetLine → (row : ℕ) → Found → Found
