@@ -16,7 +16,7 @@ fn check(words: &[u16]) -> table::Checked
 fn write(words: &[u16], table: &mut [u16]) -> table::Answer
     ensures { λ r. ⌜ WriteExactly (now (words .entry)) (now (table .entry)) (writtenOf r (now (table .exit))) ⌝ }
 {
-    table::write(words, table)
+    writer::write(words, table)
 }
 
 fn run_double(

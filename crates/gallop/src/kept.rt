@@ -27,10 +27,10 @@ pub fn printed(number: u16, asked: u64) -> usize {
     0
 }
 
-// `table::write` into the start of a buffer.
+// `writer::write` into the start of a buffer.
 pub fn write_lent(words: &[u16], room: u64, table: &mut [u16]) -> Answer {
     let count = lend::lent(room, table.len());
-    table::write(words, &mut table[..count])
+    writer::write(words, &mut table[..count])
 }
 
 fn same_words(left: &[u16; TABLE_WORDS], right: &[u16; TABLE_WORDS]) -> bool {
@@ -44,7 +44,7 @@ fn same_words(left: &[u16; TABLE_WORDS], right: &[u16; TABLE_WORDS]) -> bool {
     true
 }
 
-// Whether the table's buffer holds what `table::write` makes of one like it, or what it held before.
+// Whether the table's buffer holds what `writer::write` makes of one like it, or what it held before.
 pub fn table_stands(words: &[u16], number: u16, room: u64, table: &[u16; TABLE_WORDS]) -> bool {
     let mut written = [0u16; TABLE_WORDS];
     pattern::fill_words(&mut written);

@@ -14,7 +14,6 @@ pub mod PeekLaws
 pub mod CrossLaws
 pub mod RunLaws
 pub mod RunPinned
--- the jumps of a table
+-- a table's lines
 pub mod LinesPassed
 pub mod LinesStand
-pub mod JumpsRight

@@ -14,7 +14,7 @@ use Rattle.sheet.proofs.Judgements.{bind-assoc}
 use Rattle.sheet.proofs.ReadingParts.{bound, passed}
 use Rattle.table.specs.Sizes.{mostTableRows}
 use Rattle.table.specs.Calls.{readFor}
-use Rattle.table.specs.inner.JumpsNoted.{TableNoted}
+use Rattle.writer.specs.inner.JumpsNoted.{TableNoted}
 use Rattle.table.specs.inner.Plans.{PlanMade}
 use Rattle.table.specs.declared.Answer as answered
 use Rattle.table.specs.declared.Plan.{Plan}

@@ -2,6 +2,7 @@
 pub mod FillingLaws
 pub mod AdmittedLaws
 -- the machine on a table
+pub mod JumpsRight
 pub mod RunsCopy
 pub mod MachineFollows
 pub mod RunEnds

@@ -18,11 +18,11 @@ use Rattle.sheet.proofs.NamesPresent.{counts, count-judged}
 use Rattle.table.specs.TableRows.{linesOf, tableVariables}
 use Rattle.table.specs.Adjoint.{tableOf}
 use Rattle.table.specs.Sizes.{tableRows, mostTableRows}
-use Rattle.table.specs.inner.JumpsNoted.{TableNoted}
+use Rattle.writer.specs.inner.JumpsNoted.{TableNoted}
 use Rattle.table.specs.declared.Plan.{Plan}
 use Rattle.table.proofs.PlanLaws.{planned-few}
 use Rattle.machine.specs.inner.Runnable.{Holds, Indexed}
-use Rattle.machine.proofs.JumpsRight.{jumps-right}
+use Rattle.run.proofs.JumpsRight.{jumps-right}
 use Rattle.run.specs.declared.Rooms.{Rooms}
 use Rattle.run.specs.inner.CallSteps.{HasRoom}
 use Rattle.run.specs.inner.CallAnswers.{Written, SheetRoom, Ready, RunRoom}

@@ -160,7 +160,7 @@ pub fn run_audit(
         Judged::No(answer) => answer,
         Judged::HasRoom(plan) => {
             let mut beyond = [0u16; MAX_TABLE_ROWS];
-            table::write_planned(words, plan, &marks, &came, &goes, table, &mut beyond);
+            writer::write_planned(words, plan, &marks, &came, &goes, table, &mut beyond);
             run_written(
                 words,
                 plan,

@@ -164,7 +164,7 @@ pub fn run_double(
                 return refusals::answer_no(why);
             }
             let mut beyond = [0u16; MAX_TABLE_ROWS];
-            table::write_planned(words, plan, &marks, &came, &goes, table, &mut beyond);
+            writer::write_planned(words, plan, &marks, &came, &goes, table, &mut beyond);
             run_written(
                 words,
                 plan,

@@ -33,7 +33,7 @@ pub const STUCK: u16 = 65535;
 fn table_fits(rows: usize, room: usize) -> Fit
     ensures { λ r. ⌜ fitSaid r ≡ tableFits rows room ⌝ }
 {
-    if table::has_room(rows, room) {
+    if writer::has_room(rows, room) {
         return Fit::Fits;
     }
     Fit::No(Unfit::SmallTable)

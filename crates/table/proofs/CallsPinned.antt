@@ -1,4 +1,4 @@
--- Any two results that the contracts of check, write and plan_sheet permit coincide.
+-- Any two results that the contracts of check and plan_sheet permit coincide.
 use Prim.Native.Nat.{ℕ}
 use mathlib.Core.Path.{_≡_, sym, ap, _∙_}
 use mathlib.Core.List.{List}
@@ -14,12 +14,11 @@ use Rattle.sets.specs.Marks.{marked}
 use Rattle.sets.specs.Calls.{Lent, MarksSaid}
 use Rattle.sets.proofs.CallLaws.{same-lent}
 use Rattle.table.specs.declared.Checked as declared
-use Rattle.table.specs.declared.Answer.{Answer}
 use Rattle.table.specs.declared.Plan.{Plan}
 use Rattle.table.specs.declared.Planned.{Planned}
 use Rattle.table.specs.declared.Planned.the-variants as planned
 use Rattle.table.specs.Sizes.{tableRows, valuesNeeded, turnsNeeded}
-use Rattle.table.specs.Calls.{Checked, checkedSaid, check, Written, writtenOf, write}
+use Rattle.table.specs.Calls.{Checked, checkedSaid, check}
 use Rattle.table.specs.inner.Plans.{PlanMade, PlanSays}
 
 -- the answer that says these sizes
@@ -37,19 +36,6 @@ checkedBy c =
 pub one-check : (words : List ℕ) (r r′ : declared.Checked) → checkedSaid r ≡ check words → checkedSaid r′ ≡ check words → r ≡ r′
 unfolding checkedBy
 one-check words r r′ e e′ = ap checkedBy (e ∙ sym e′)
-
--- an answer with what the buffer then holds
-pub record Left : Type 0 where
-  pub answer : Answer
-  pub table : List ℕ
-
-leftBy : Written → Left
-leftBy w = record { answer = record { number = w .number; place = w .place }; table = w .table }
-
-pub one-write : (words buffer : List ℕ) (left left′ : Left) → writtenOf (left .answer) (left .table) ≡ write words buffer
-    → writtenOf (left′ .answer) (left′ .table) ≡ write words buffer → left ≡ left′
-unfolding leftBy
-one-write words buffer left left′ e e′ = ap leftBy (e ∙ sym e′)
 
 -- ---- the plan
 

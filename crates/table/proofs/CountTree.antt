@@ -15,11 +15,9 @@ use Rattle.table.specs.Adjoint.{put, forwardRow, forwardPart, backwardOf
 use Rattle.table.specs.Sizes.{tableRows}
 use Rattle.table.specs.inner.MarkedRows.{rowsIn, rowNumbered, forwardOfLine, backwardOfLine, bothParts, countRows, MarkSays, Noted}
 use Rattle.sheet.proofs.RowsBack.{line-back}
-use Rattle.table.proofs.TreeRows.{StandsAt, tree-stands, stands-after}
-use Rattle.table.proofs.ForwardTree.{marked-forward}
-use Rattle.table.proofs.BackwardTree.{marked-backward}
-use Rattle.table.proofs.WalkTree.{rows-of-tree}
-use Rattle.table.proofs.WholeTable.{table-rows-counted}
+use Rattle.table.proofs.TreeRows.{StandsAt, tree-stands, stands-after, rows-of-tree}
+use Rattle.table.proofs.MarkedAssignment.{marked-forward, marked-backward}
+use Rattle.table.proofs.TableLength.{table-rows-counted}
 
 forward-count : {byte : ℕ} {b : Assignment} {m : Marked} → MarkSays byte b m → (rest : Table)
     → rows (forwardRow m rest) ≡ length (forwardOfLine byte (basic b)) + rows rest

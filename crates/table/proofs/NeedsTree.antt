@@ -20,8 +20,7 @@ use Rattle.table.specs.declared.needs.Need.{Need}
 use Rattle.table.specs.declared.needs.Level.{Level}
 use Rattle.table.specs.inner.MarkedRows.{savedBy, rowNumbered, Noted}
 use Rattle.table.specs.inner.Needs.{needing, nothing, opened, split, Takes, Comes}
-use Rattle.table.proofs.TreeRows.{StandsAt, tree-stands, stands-after}
-use Rattle.table.proofs.WalkTree.{rows-of-tree}
+use Rattle.table.proofs.TreeRows.{StandsAt, tree-stands, stands-after, rows-of-tree}
 use Rattle.table.proofs.TableBounds.{values-within-run, turns-within-run, marked-run}
 
 module _ (words : List ℕ) (first : ℕ) (marks came goes : List ℕ) (mark : ℕ → Assignment → Marked) (total : Need) where

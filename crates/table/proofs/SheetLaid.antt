@@ -27,7 +27,7 @@ use Rattle.table.specs.Calls.{tableRoom}
 use Rattle.table.specs.inner.MarkedRows.{rowNumbered, Small}
 use Rattle.table.proofs.TableLength.{table-length}
 use Rattle.table.proofs.TableBounds.{table-rows-bound}
-use Rattle.table.proofs.WalkTree.{rows-of-tree}
+use Rattle.table.proofs.TreeRows.{rows-of-tree}
 use Rattle.table.proofs.RowsSmall.{rows-small}
 
 pub record Lies (words : List ℕ) (sheet : Sheet) (shape : Shape) : Type 0 where

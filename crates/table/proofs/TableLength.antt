@@ -1,6 +1,6 @@
--- How many words rows have, and that a table has 1 + 4R words.
+-- How many rows a table has, how many words rows have, and that a table has 1 + 4R words.
 use Prim.Native.Nat.{_*_}
-use mathlib.Core.Path.{_≡_, refl}
+use mathlib.Core.Path.{_≡_, refl, _∙_}
 use mathlib.Core.List.{List, [], _∷_, map}
 use lib.ListN.{length, length-map}
 use native.Mathlib.Omega.{arith}
@@ -14,6 +14,12 @@ use Rattle.table.specs.TableRows.{Table, linesOf, tableRowOf, wordsOf, t
 use Rattle.table.specs.Adjoint.{tableOf}
 use Rattle.table.specs.Sizes.{tableRows}
 use Rattle.table.specs.Calls.{tableRoom}
+use Rattle.table.specs.inner.MarkedRows.{rowsIn}
+
+-- R
+pub table-rows-counted : (table : Table) → length (rowsIn table) ≡ rows table
+unfolding rowsIn linesOf
+table-rows-counted table = length-map (linesOf table) tableRowOf ∙ lines-counted table
 
 pub words-counted : (rs : List Row) → length (wordsOf rs) ≡ limit .rowWords * length rs
 unfolding wordsOf

@@ -1,16 +1,17 @@
--- A tree's rows one after another, and what the rows of a table's tree are.
-use Prim.Native.Nat.{ℕ, zero, suc, _+_, _*_}
+-- A sheet's tree in its words: its rows stand there one after another, each says a line, and they are as many as the tree has.
+use Prim.Native.Nat.{ℕ, zero, suc, _+_, _*_, _<_}
 use mathlib.Core.Path.{_≡_, refl, sym, ap, _∙_, subst}
-use mathlib.Core.List.{List, [], _∷_, _++_, append-assoc, map}
+use mathlib.Core.List.{List, [], _∷_, map}
 use native.Mathlib.Omega.{arith}
+use lib.ListN.{length, length-map}
 use Rattle.sheet.specs.Bounds.{limit}
-use Rattle.sheet.specs.Tree.{Tree, done, one, fork, again, Line, elseLine, endIf, endRepeat, flat, rows}
-use Rattle.sheet.specs.Rows.{Assignment, Test, SheetLine, Row, rowOf, sheetRowOf, treeRows}
+use Rattle.sheet.specs.Tree.{Tree, done, one, fork, again, flat, rows}
+use Rattle.sheet.specs.Rows.{Assignment, Test, SheetLine, Row, sheetRowOf, treeRows}
 use Rattle.sheet.specs.Reading.{rowAt, rowsAt}
-use Rattle.table.specs.TableRows.{Table, TableRow, TableLine, TableTest, linesOf, tableRowOf, rowOfAction, rowOfTableTest}
-use Rattle.table.specs.inner.MarkedRows.{rowWith, rowsIn, rowNumbered}
-
--- ---- the sheet's rows
+use Rattle.sheet.specs.inner.RowLines.{lineOfRow}
+use Rattle.sheet.proofs.RowsCounted.{lines-counted, rows-counted}
+use Rattle.sheet.proofs.RowsBack.{line-back}
+use Rattle.table.specs.inner.MarkedRows.{rowNumbered, Says}
 
 -- lines stand in the words from row p on
 unfoldable pub StandsAt : (words : List ℕ) (first : ℕ) → List SheetLine → (p : ℕ) → Type 0
@@ -45,45 +46,25 @@ stands-after words first (again m a k) rest p h s =
     let end = stands-after words first a _ (suc p) refl (s .1) in
     stands-after words first k rest (suc (suc p + rows a)) (omega arith) (end .1)
 
--- ---- the table's rows
+-- ---- each row says a line
 
-module _ {B F : Type 0} where
-  lines-append : (t : Tree B F) (xs ys : List (Line B F)) → flat t (xs ++ ys) ≡ flat t xs ++ ys
-  unfolding flat
-  lines-append done xs ys = refl
-  lines-append (one b k) xs ys = rw (lines-append k xs ys)
-  lines-append (fork f a b k) xs ys =
-      rw (lines-append k xs ys, lines-append b (endIf ∷ flat k xs) ys, lines-append a (elseLine ∷ flat b (endIf ∷ flat k xs)) ys)
-  lines-append (again m a k) xs ys = rw (lines-append k xs ys, lines-append a (endRepeat ∷ flat k xs) ys)
+line-says : {r : Row} (l : SheetLine) → r ≡ sheetRowOf l → Says r
+line-says l e = record { back = ap sheetRowOf (ap lineOfRow e ∙ line-back l) ∙ sym e }
 
-map-append : (xs ys : List TableLine) → map tableRowOf (xs ++ ys) ≡ map tableRowOf xs ++ map tableRowOf ys
-map-append [] ys = refl
-map-append (x ∷ xs) ys = rw (map-append xs ys)
+stands-say : (words : List ℕ) (first : ℕ) (ls : List SheetLine) (p q r : ℕ) → r ≡ p + q → q < length ls → StandsAt words first ls p
+    → Says (rowNumbered words first r)
+unfolding StandsAt
+stands-say words first [] p q r e h s = absurd (omega arith)
+stands-say words first (l ∷ ls) p zero r e h s = let here : r ≡ p = omega arith in rw here (line-says l (s .0))
+stands-say words first (l ∷ ls) p (suc q) r e h s = stands-say words first ls (suc p) q r (omega arith) (omega arith) (s .1)
 
-rows-before : (t : Table) (rest : List TableLine) → map tableRowOf (flat t rest) ≡ rowsIn t ++ map tableRowOf rest
-unfolding rowsIn linesOf
-rows-before t rest = ap (map tableRowOf) (lines-append t [] rest) ∙ map-append (flat t []) rest
+pub rows-of-tree : (words : List ℕ) (first n : ℕ) (t : Tree Assignment Test) → treeRows t ≡ rowsAt words first n → n ≡ rows t
+unfolding treeRows
+rows-of-tree words first n t e =
+    sym (rows-counted words first n) ∙ ap length (sym e) ∙ length-map (flat t []) sheetRowOf ∙ lines-counted t
 
-pub rows-of-one : (r : TableRow) (k : Table) → rowsIn (one r k) ≡ rowOfAction (r .action) ∷ rowsIn k
-unfolding rowsIn linesOf tableRowOf flat rowOf
-rows-of-one r k = refl
-
-pub rows-of-fork : (f : TableTest) (a b k : Table)
-    → rowsIn (fork f a b k) ≡ rowOfTableTest f ∷ (rowsIn a ++ (rowWith 8 0 0 0 ∷ (rowsIn b ++ (rowWith 9 0 0 0 ∷ rowsIn k))))
-unfolding rowsIn linesOf tableRowOf flat rowOf
-rows-of-fork f a b k =
-    ap (λ rs. rowOfTableTest f ∷ rs)
-    (rows-before a (elseLine ∷ flat b (endIf ∷ flat k [])) ∙ ap (λ rs. rowsIn a ++ (rowWith 8 0 0 0 ∷ rs)) (rows-before b (endIf ∷ flat k [])))
-
-pub rows-of-again : (m : ℕ) (a k : Table) → rowsIn (again m a k) ≡ rowWith 10 0 (suc m) 0 ∷ (rowsIn a ++ (rowWith 11 0 0 0 ∷ rowsIn k))
-unfolding rowsIn linesOf tableRowOf flat rowOf
-rows-of-again m a k = ap (λ rs. rowWith 10 0 (suc m) 0 ∷ rs) (rows-before a (endRepeat ∷ flat k []))
-
--- the same before other rows
-pub fork-before : (f : TableTest) (a b k : Table) (after : List Row)
-    → rowsIn (fork f a b k) ++ after ≡ rowOfTableTest f ∷ (rowsIn a ++ (rowWith 8 0 0 0 ∷ (rowsIn b ++ (rowWith 9 0 0 0 ∷ (rowsIn k ++ after)))))
-fork-before f a b k after = rw (rows-of-fork f a b k) (simp append-assoc)
-
-pub again-before : (m : ℕ) (a k : Table) (after : List Row)
-    → rowsIn (again m a k) ++ after ≡ rowWith 10 0 (suc m) 0 ∷ (rowsIn a ++ (rowWith 11 0 0 0 ∷ (rowsIn k ++ after)))
-again-before m a k after = rw (rows-of-again m a k) (simp append-assoc)
+pub tree-says : (words : List ℕ) (first n : ℕ) (t : Tree Assignment Test) → treeRows t ≡ rowsAt words first n
+    → (p : ℕ) → p < n → Says (rowNumbered words first p)
+tree-says words first n t e p h =
+    stands-say words first (flat t []) 0 p p (omega arith) (omega (arith, rows-of-tree words first n t e, lines-counted t))
+    (tree-stands words first n t e)

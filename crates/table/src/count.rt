@@ -6,7 +6,7 @@ ghost use Rattle.sheet.specs.inner.RowLines.{lineOfRow};
 ghost use Rattle.sheet.specs.Answers.{rowSaid};
 ghost use Rattle.table.specs.Sizes.{mostParts, mostBackward, mostRowsEach};
 ghost use Rattle.table.specs.inner.MarkedRows.{Assigns, SaysPart, partRows, assignmentBack, bothParts, Counted};
-use super::rows;
+use super::marks;
 use sheet::RowWords;
 use sheet::kinds;
 use sheet::kinds::Part;
@@ -29,8 +29,8 @@ fn parts_count(row: RowWords, mark: u8) -> usize
     let has_b = (row.kind == kinds::SUM)
         | (row.kind == kinds::DIFFERENCE)
         | (row.kind == kinds::PRODUCT);
-    let first = has_a & rows::bit(mark, sets::VARIED_A);
-    let second = has_b & rows::bit(mark, sets::VARIED_B);
+    let first = has_a & marks::bit(mark, sets::VARIED_A);
+    let second = has_b & marks::bit(mark, sets::VARIED_B);
     let operands = one_if(first) + one_if(second);
     if row.kind == kinds::PRODUCT {
         return 2 * operands;
@@ -43,8 +43,8 @@ fn assignment_count(row: RowWords, mark: u8) -> usize
     requires { ⌜ Assigns (row .kind) ⌝ }
     ensures { λ r. ⌜ Counted mostBackward r (λ v. assignmentBack v (rowSaid row) mark) ⌝ }
 {
-    let saved = rows::bit(mark, sets::SAVED);
-    let active = rows::bit(mark, sets::ACTIVE);
+    let saved = marks::bit(mark, sets::SAVED);
+    let active = marks::bit(mark, sets::ACTIVE);
     let taken = one_if(saved);
     let parts = parts_count(row, mark);
     if active {
@@ -60,7 +60,7 @@ pub fn row_count(row: RowWords, part: Part, mark: u8) -> usize
 {
     match part {
         Part::Assignment => {
-            let saved = rows::bit(mark, sets::SAVED);
+            let saved = marks::bit(mark, sets::SAVED);
             let forward = one_if(saved);
             let backward = assignment_count(row, mark);
             forward + 1 + backward

@@ -4,7 +4,7 @@ ghost use Prim.Native.Nat.{max};
 ghost use Rattle.table.specs.inner.MarkedRows.{savedBy};
 ghost use Rattle.table.specs.inner.Needs.{Few, withSaved, opened, split, afterIf, afterRepeat};
 use super::count;
-use super::rows;
+use super::marks;
 
 // Of the value stack and of the turn stack: S and T of the rows.
 pub struct Need {
@@ -35,7 +35,7 @@ pub fn with_saved(need: Need, mark: u8) -> Need
     requires { ⌜ Few (withSaved (savedBy mark) need) ⌝ }
     ensures { λ r. ⌜ r ≡ withSaved (savedBy mark) need ⌝ }
 {
-    let saved = rows::bit(mark, sets::SAVED);
+    let saved = marks::bit(mark, sets::SAVED);
     let more = count::one_if(saved);
     let turns = need.turns;
     Need {

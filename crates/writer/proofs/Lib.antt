@@ -1,0 +1,14 @@
+-- What is proved of the writer.
+pub mod WritingLaws
+pub mod PartsApart
+pub mod TableTree
+pub mod JumpLaws
+pub mod ForwardOver
+pub mod BackwardOver
+pub mod ForwardTree
+pub mod BackwardTree
+pub mod WalkTree
+pub mod WholeTable
+pub mod PlanWritten
+pub mod CallLaws
+pub mod CallsPinned

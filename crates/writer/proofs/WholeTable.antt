@@ -1,0 +1,72 @@
+-- The whole table's words in the buffer: what the writer leaves is what `write` promises.
+use Prim.Native.Nat.{ℕ, _+_, _≤_}
+use mathlib.Core.Path.{_≡_, sym, ap, _∙_}
+use mathlib.Core.Bool.{true, false}
+use mathlib.Core.List.{List, _∷_, _++_, append-assoc}
+use lib.ListN.{length, set, drop}
+use lib.Seq.{sets-eq}
+use native.Mathlib.Omega.{arith}
+use Rattle.sheet.specs.Tree.{Tree, done, one, fork, again, rows}
+use Rattle.sheet.specs.Rows.{Assignment, Test, treeRows}
+use Rattle.sheet.specs.Reading.{rowsAt}
+use Rattle.sheet.proofs.RowsCounted.{lines-counted}
+use Rattle.sets.specs.Marks.{Marked, numbered}
+use Rattle.table.specs.TableRows.{Table, TableRow, linesOf, wordsOf, tableWords, rowOfAction, whether, turnRound, ofTurningRound, saveTurn, turning}
+use Rattle.table.specs.Adjoint.{Body, put, forwardPart, backwardPart, adjointTable}
+use Rattle.table.specs.Calls.{overwritten}
+use Rattle.table.specs.inner.MarkedRows.{rowWith, rowsIn, Noted}
+use Rattle.writer.specs.inner.RowsWritten.{Room, Wrote, Handed, wholeRows}
+use Rattle.table.proofs.AssignmentRows.{rows-of-done}
+use Rattle.table.proofs.TableLength.{words-counted}
+use Rattle.table.proofs.MarkedAssignment.{forward-row}
+use Rattle.table.proofs.TreeRows.{rows-of-tree}
+use Rattle.writer.proofs.TableTree.{rows-of-one, rows-of-fork, rows-of-again}
+use Rattle.writer.proofs.ForwardTree.{forward-is-forward-part}
+use Rattle.writer.proofs.BackwardTree.{backward-is-backward-part}
+
+-- the forward part puts its rows before the rest
+forward-before : (t : Body) (rest : Table) → rowsIn (forwardPart t rest) ≡ rowsIn (forwardPart t done) ++ rowsIn rest
+unfolding forwardPart
+forward-before done rest = sym (ap (λ rs. rs ++ rowsIn rest) rows-of-done)
+forward-before (one m k) rest =
+    rw (forward-row m (forwardPart k rest), forward-row m (forwardPart k done), forward-before k rest) (simp append-assoc)
+forward-before (fork f a b k) rest =
+    let A = forwardPart a (put (f .row) turning (saveTurn true) done) in
+    let B = forwardPart b (put (f .row) turning (saveTurn false) done) in
+    rw (rows-of-fork (whether (f .test)) A B (forwardPart k rest), rows-of-fork (whether (f .test)) A B (forwardPart k done), forward-before k rest)
+    (simp append-assoc)
+forward-before (again n a k) rest =
+    rw (rows-of-again n (forwardPart a done) (forwardPart k rest), rows-of-again n (forwardPart a done) (forwardPart k done), forward-before k rest)
+    (simp append-assoc)
+
+adjoint-rows : (v : ℕ) (t : Body)
+    → rowsIn (adjointTable v t) ≡ rowsIn (forwardPart t done) ++ (rowWith 17 0 0 0 ∷ rowsIn (backwardPart v t done))
+unfolding adjointTable rowOfAction
+adjoint-rows v t =
+    let turning-row : TableRow = record { origin = ofTurningRound; action = turnRound } in
+    let back = backwardPart v t done in
+    forward-before t (one turning-row back) ∙ ap (λ rs. rowsIn (forwardPart t done) ++ rs) (rows-of-one turning-row back)
+
+-- the rows that the writer puts are the adjoint table's
+pub whole-is-table : (given : Handed) (mark : ℕ → Assignment → Marked) (t : Tree Assignment Test)
+    → treeRows t ≡ rowsAt (given .words) (given .first) (given .rows) → Noted (given .marks) (given .came) (given .goes) mark t 0
+    → wholeRows given ≡ rowsIn (adjointTable (given .variables) (numbered mark t 0))
+unfolding wholeRows
+whole-is-table given mark t says noted =
+    let counted = rows-of-tree (given .words) (given .first) (given .rows) t says in
+    rw (
+      forward-is-forward-part (given .words) (given .first) (given .marks) (given .came) (given .goes) mark (given .rows) t says counted noted,
+      backward-is-backward-part given mark t says counted noted,
+    )
+    (sym (adjoint-rows (given .variables) (numbered mark t 0)))
+
+-- the count and the rows, written from word 0 on, are the table over the buffer
+pub buffer-overwritten : (buffer after : List ℕ) (count next : ℕ) (table : Table) → count ≡ rows table → Room buffer 1 (rowsIn table)
+    → Wrote (set buffer 0 count) 1 (rowsIn table) after next → after ≡ overwritten (tableWords table) buffer
+unfolding overwritten tableWords rowsIn linesOf
+buffer-overwritten buffer after count next table counted room wrote =
+    let ws = wordsOf (rowsIn table) in
+    let n : length (linesOf table) ≡ count = lines-counted table ∙ sym counted in
+    let fits : 0 + length (count ∷ ws) ≤ length buffer = omega (arith, room .fits, words-counted (rowsIn table)) in
+    let zero-first : 0 + length (count ∷ ws) ≡ length (count ∷ ws) = omega arith in
+    rw n (wrote .words ∙ sets-eq (count ∷ ws) buffer 0 fits ∙ ap (λ k. (count ∷ ws) ++ drop k buffer) zero-first)

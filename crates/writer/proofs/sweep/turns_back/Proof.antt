@@ -1,0 +1,35 @@
+-- `writer::sweep::turns_back` meets its contract.
+use mathlib.Core.Path.{sym, ap, _∙_}
+use Rattle.table.specs.inner.MarkedRows.{rowNumbered}
+use Rattle.writer.specs.inner.RowsWritten.{leadsOn, turnsBack}
+use Rattle.writer.proofs.PartsApart.{not-end-repeat}
+use borrow.Author.Needs.{needs}
+use native.Mathlib.Omega.{arith}
+use Rattle.writer.proofs.sweep.turns_back.Statement.{statement}
+use Rattle.writer.proofs.sweep.turns_back.Tie as tie
+
+enum-told : tie.Need-enum-told
+enum-told c = search needs
+
+partner-requires : tie.Need-partner-requires
+partner-requires c κs = let start : tie.Start = search in start .pre .0
+
+row-of-requires : tie.Need-row-of-requires
+row-of-requires c κs =
+    let start : tie.Start = search in
+    omega (arith, c .partner .ensures, start .pre .1 (ap leadsOn (c .before .enum-told .given .1)))
+
+returns : tie.Need-returns
+unfolding turnsBack
+returns c =
+    let told = c .before .before in
+    let x = told .before .before .before .before .args in
+    let opened = ap (λ r. r .a) (c .row-of .ensures) ∙ ap (λ p. rowNumbered (x .words .now) (x .first) p .a) (c .before .partner .ensures) in
+    rw (told .enum-told .given .1) opened
+
+returns-2 : tie.Need-returns-2
+returns-2 c = sym (not-end-repeat _ _ _ _ (c .before .before .before .args .part) (c .match .keys2))
+
+pub turns-back-spec : {M : Type 1} → statement M
+turns-back-spec =
+    tie.close (tie.spec enum-told partner-requires row-of-requires returns returns-2)

@@ -1,0 +1,42 @@
+-- `writer::write_planned` meets its contract: the plan's sheet is the words', so the rows that are written are its table's.
+use mathlib.Core.Path.{sym, _∙_}
+use native.Mathlib.Omega.{arith}
+use borrow.Author.Needs.{needs}
+use Rattle.sheet.proofs.ReadingParts.{same-given}
+use Rattle.table.proofs.PlanLaws.{readable, planned-lies, planned-few}
+use Rattle.writer.proofs.PlanWritten.{walkable, room-right, rows-numbered, table-noted}
+use Rattle.writer.proofs.write_planned.Statement.{statement}
+use Rattle.writer.proofs.write_planned.Tie as tie
+
+write-table-requires : tie.Need-write-table-requires
+write-table-requires c κs =
+    let start = c .before .before .before .before .before .before .before in
+    let made = start .pre .0 in
+    let lies = planned-lies made in
+    let few = lies .fewRows in (
+      room-right lies _ _ _ (made .planned .noted) _ _ (made .planned .rows) (start .pre .1),
+      (
+        rows-numbered lies _ _ _ (made .planned .noted) _ (made .planned .rows) (planned-few made),
+        (readable lies _ (omega arith), (walkable lies _ _ _ (made .planned .noted) (omega arith) (omega arith), planned-few made)),
+      ),
+    )
+
+same-length : tie.Need-same-length
+same-length c = search needs
+
+returns : tie.Need-returns
+returns c =
+    let wrote = c .before .before in
+    let start = wrote .before .before .before .before .before .before .before .before in
+    let made = start .pre .0 in
+    let noted =
+    table-noted (planned-lies made) _ _ _ (made .planned .noted) _ (made .planned .rows) (start .pre .1) (wrote .write-table .ensures) in
+    λ sheet e. rw (sym (same-given (sym (made .accepted) ∙ e))) noted
+
+pub write-planned-spec : {M : Type 1} → statement M
+write-planned-spec =
+    tie.close
+    (tie.spec
+    write-table-requires
+    same-length
+    returns)
