@@ -1,4 +1,4 @@
--- `table::partners::part_of` meets its contract: the table has the row's kind, and its form there.
+-- `table::parts::part_of` meets its contract: the table has the row's kind, and its form there.
 use Prim.Native.Nat.{_≤_}
 use mathlib.Core.Path.{ap, _∙_}
 use borrow.Author.Needs.{needs}
