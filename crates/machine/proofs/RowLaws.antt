@@ -1,21 +1,21 @@
 -- What each row makes of the buffers, over the arithmetic: the row's code has only to say which case it is in.
 use Prim.Native.Nat.{ℕ, suc, _+_, _≤_, _<_}
-use mathlib.Core.Path.{_≡_, refl, sym, ap, _∙_}
+use mathlib.Core.Path.{_≡_, refl, sym}
 use mathlib.Core.Bool.{Bool, true, false}
-use mathlib.Core.List.{List, [], _∷_}
-use mathlib.Core.Option.{Option, none, some}
+use mathlib.Core.List.{List, []}
+use mathlib.Core.Option.{none, some}
 use native.Mathlib.Omega.{arith}
 use native.Mathlib.Numerals.{add-one}
 use borrow.Author.Tests.{lt-ltb, le-ltb}
 use lib.Dec.{eqb}
-use lib.ListN.{length, getD, getElem?, set, length-set}
+use lib.ListN.{length, getD, set, length-set}
 use Rattle.number.specs.Arithmetic.{Arithmetic}
 use Rattle.number.specs.Doubles.{doubles}
 use Rattle.number.specs.Residues.{residues}
 use Rattle.sheet.specs.Rows.{_≔_}
 use Rattle.table.specs.TableRows.{Action, save, takeBack, saveTurn, clear, assign, turnWord}
-use Rattle.machine.specs.Attempts.{through, halted, stuck, _>>=_, present, look}
-use Rattle.machine.specs.Actions.{Memory, Setting, Try, acted, lessOf, tested, compared, restored}
+use Rattle.machine.specs.Attempts.{through, halted, stuck, _>>=_}
+use Rattle.machine.specs.Actions.{Setting, acted, tested, compared}
 use Rattle.machine.specs.inner.RowAnswers.{branchOf, turnOf, heightBranched}
 use Rattle.machine.specs.inner.Buffers.{Buffers, memoryOf, Sound, Does, InBoth, Assigns, Clears, MovesValues, SavesTurn, Compares, TakesTurn, stackOf}
 use Rattle.machine.specs.declared.Went.the-variants as went

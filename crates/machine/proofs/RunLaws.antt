@@ -1,6 +1,6 @@
 -- The runner's two loops over the arithmetic: at every place on the way the run stands in the machine's state after the steps that it has taken, and
 -- is left there by what the next step comes to.
-use Prim.Native.Nat.{ℕ, zero, suc, _+_, _≤_, _<_}
+use Prim.Native.Nat.{ℕ, _+_, _≤_, _<_}
 use mathlib.Core.Path.{_≡_, refl, sym, ap, _∙_, subst}
 use mathlib.Core.Logic.{_⊎_, inl, inr}
 use mathlib.Core.List.{List, []}

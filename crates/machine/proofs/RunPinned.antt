@@ -1,6 +1,6 @@
 -- The runner's contract settles, for every number of steps, the answer with its place, the open repeats and every cell of every buffer: any two
 -- results that it permits coincide.
-use Prim.Native.Nat.{ℕ, zero, suc, _+_, _-_, _≤_, _<_}
+use Prim.Native.Nat.{ℕ, zero, suc, _+_, _-_, _<_}
 use mathlib.Core.Path.{_≡_, refl, sym, ap, _∙_}
 use mathlib.Core.Logic.{inl, inr}
 use mathlib.Core.List.{List}
@@ -13,7 +13,7 @@ use Rattle.machine.specs.Actions.{Memory, Setting}
 use Rattle.machine.specs.Machine.{Repeat, State, Step, goesOn, ended, stops, sticks, step, ifItGoesOn, stateAfter}
 use Rattle.machine.specs.inner.Buffers.{Buffers, Cells}
 use Rattle.machine.specs.inner.RowSteps.{buffersAt, stateAt, CopiesOn}
-use Rattle.machine.specs.inner.RunsRows.{firstState, AfterSteps, LeavesBy, Leaves}
+use Rattle.machine.specs.inner.RunsRows.{firstState, LeavesBy, Leaves}
 use Rattle.machine.specs.declared.Place.{Place}
 use Rattle.machine.specs.declared.Ended.{Ended}
 use Rattle.machine.specs.declared.Ended.the-variants as ended-as

@@ -1,5 +1,5 @@
 -- How a run ends, from where its steps in turn leave it: what the calls read off.
-use Prim.Native.Nat.{ℕ, zero, suc, _+_, _<_}
+use Prim.Native.Nat.{ℕ, zero, suc, _<_}
 use mathlib.Core.Path.{_≡_, refl, sym, ap, _∙_}
 use mathlib.Core.Logic.{_⊎_, inl, inr}
 use mathlib.Core.List.{List}
@@ -7,7 +7,7 @@ use native.Mathlib.Omega.{arith}
 use Rattle.number.specs.Arithmetic.{Arithmetic}
 use Rattle.table.specs.TableRows.{TableLine, Origin}
 use Rattle.machine.specs.Actions.{Memory, Setting}
-use Rattle.machine.specs.Machine.{State, Step, goesOn, step, Ending, finished, stoppedAt, gotStuck, outOfFuel, runFor}
+use Rattle.machine.specs.Machine.{State, Step, step, Ending, finished, stoppedAt, gotStuck, outOfFuel, runFor}
 use Rattle.machine.specs.inner.Buffers.{Cells, memoryOf}
 use Rattle.machine.specs.inner.RowSteps.{buffersAt, stateAt, CopiesOn}
 use Rattle.machine.specs.inner.RunsRows.{firstState, LeavesBy, Leaves}

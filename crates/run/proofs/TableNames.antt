@@ -1,22 +1,22 @@
 -- Every variable and every constant that a straight row or a comparison of an accepted sheet's table names is there: an original, an adjoint, t or u,
 -- and one of the sheet's constants.
-use Prim.Native.Nat.{ℕ, zero, suc, _+_, _*_, _<_}
+use Prim.Native.Nat.{ℕ, suc, _+_, _*_, _<_}
 use mathlib.Core.Path.{_≡_, refl, sym, ap, subst, _∙_}
 use mathlib.Core.Bool.{Bool, true, false}
 use mathlib.Core.Logic.{_⊎_, inl, inr}
 use mathlib.Core.List.{List, [], _∷_}
-use mathlib.Core.Option.{Option, none, some}
+use mathlib.Core.Option.{none}
 use native.Mathlib.Omega.{arith}
-use lib.ListN.{length, drop}
+use lib.ListN.{length}
 use Rattle.sheet.specs.Bounds.{limit}
 use Rattle.sheet.specs.Tree.{Tree, done, one, fork, again, rows, flat, basic, ifLine, elseLine, endIf, repeat, endRepeat, RowNumber}
 use Rattle.sheet.specs.Rows.{Assignment, _≔_, Source, copy, fixed, sum, difference, product, negation, Test, less, rowOf, rowOfTest}
 use Rattle.sheet.specs.Names.{SourcePresent, AssignmentPresent, TestPresent, Present}
 use Rattle.sheet.specs.Refusals.{given}
-use Rattle.sheet.specs.Reading.{Sheet, variablesOf, read, rowAt}
+use Rattle.sheet.specs.Reading.{Sheet, read, rowAt}
 use Rattle.sheet.proofs.NamesPresent.{names-present}
 use Rattle.sets.specs.Transfers.{Activity}
-use Rattle.sets.specs.Marks.{Marked, MarkedTest, numbered, markBy, marked, varied, useful, required}
+use Rattle.sets.specs.Marks.{Marked, numbered, markBy, marked, varied, useful, required}
 use Rattle.table.specs.TableRows.{Table, TableLine, TableRow, Action, assign, save, takeBack, saveTurn, clear, turnRound, Operation, turning, TableTest, whether, onTurn, tableVariables, rowOfAction, rowOfTableTest, tableRowOf, linesOf}
 use Rattle.table.specs.Adjoint.{Body, put, putIf, forwardRow, forwardPart, partsOf, derivativeRows, backwardOf, backwardPart, adjointTable, tableOf}
 use Rattle.machine.specs.inner.RowWords.{actionOf, ActionPresent, Named}

@@ -1,5 +1,5 @@
 -- W up to one above its bound: sums, products and the larger of two can be taken of it as of W.
-use Prim.Native.Nat.{ℕ, suc, _+_, _*_, _≤_, _<_, min, max}
+use Prim.Native.Nat.{ℕ, suc, _+_, _*_, _≤_, _<_, max}
 use mathlib.Core.Path.{_≡_}
 use native.Mathlib.Decide.{decLe}
 use native.Mathlib.Omega.{arith}
