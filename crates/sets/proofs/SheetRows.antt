@@ -4,7 +4,7 @@ use native.Mathlib.Omega.{arith}
 use mathlib.Core.Path.{_≡_, refl, sym, ap, subst, _∙_}
 use mathlib.Core.Bool.{true, false}
 use mathlib.Core.List.{List, [], _∷_, map}
-use lib.ListN.{length, getD}
+use lib.ListN.{length}
 use Rattle.sheet.specs.Bounds.{limit, wordValues}
 use Rattle.sheet.specs.Tree.{Tree, done, one, fork, again, rows, flat, basic, ifLine, elseLine, endIf, repeat, endRepeat}
 use Rattle.sheet.specs.Rows.{Assignment, _≔_, copy, fixed, sum, difference, product, negation, less, Test, SheetLine}
@@ -12,11 +12,9 @@ use Rattle.sheet.specs.Rows.{rowOfAssignment, sheetRowOf, treeRows, kinds}
 use Rattle.sheet.specs.inner.RowLines.{lineOfRow}
 use Rattle.sheet.specs.inner.Kinds.{formFor, allForms}
 use Rattle.sheet.specs.declared.kinds.Form.{Form}
-use Rattle.sheet.specs.declared.kinds.Slot.the-variants as slot
-use Rattle.sheet.specs.declared.kinds.Part.the-variants as part
 use Rattle.sheet.specs.Names.{SourcePresent, AssignmentPresent, Present}
 use Rattle.sheet.specs.Reading.{rowAt, rowsAt}
-use Rattle.sheet.proofs.PartsRead.{form-there}
+use Rattle.sheet.proofs.PartsRead.{form-there, formIn}
 use Rattle.sheet.proofs.RowsBack.{line-back}
 use Rattle.sheet.proofs.RowsCounted.{lines-counted}
 use Rattle.sets.specs.inner.Operations.{maskBits, InMask}
@@ -83,10 +81,6 @@ line-kind endRepeat = omega arith
 -- a row's kind is one of the table's
 pub kind-there : {words : List ℕ} {first p : ℕ} → Readable words first p → numberedRow words first p .kind ≤ length kinds
 kind-there {words} {first} {p} r = subst (λ row. row .kind ≤ length kinds) (r .says) (line-kind (lineIn words first p))
-
--- as the code looks a form up: beyond the table each part would be its type's first
-abbrev pub formIn : List Form → (kind : ℕ) → Form
-formIn forms kind = getD forms kind (record { 0 = slot.Variable; 1 = slot.Variable; 2 = slot.Variable; 3 = part.Assignment })
 
 -- what the table has for a row's kind is the row's form
 pub form-read : {words : List ℕ} {first p kind : ℕ} {forms : List Form} → forms ≡ allForms → KindRead words first p kind

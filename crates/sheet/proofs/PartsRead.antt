@@ -20,6 +20,7 @@ use Rattle.sheet.specs.inner.Steps.{leastOf, beyondOf, ruleOf, noRule, r
 use Rattle.sheet.specs.declared.kinds.Form.{Form}
 use Rattle.sheet.specs.declared.Rule.{Rule}
 use Rattle.sheet.specs.declared.Level.{Level}
+use Rattle.sheet.specs.declared.kinds.Slot.the-variants as slot
 use Rattle.sheet.specs.declared.kinds.Part.the-variants as part
 use Rattle.sheet.proofs.EachKind.{each-kind, _then_, end}
 use Rattle.sheet.proofs.RowsBack.{each-fits, turns-above-0}
@@ -52,6 +53,14 @@ in-all-forms (suc i) other l = in-table kinds i other (omega arith)
 
 pub form-there : (forms : List Form) (n : ℕ) (other : Form) → forms ≡ allForms → n ≤ length kinds → getD forms n other ≡ formFor n
 form-there forms n other e l = rw e (in-all-forms n other l)
+
+-- as the code looks a form up: beyond the table each part would be its type's first
+abbrev pub formIn : List Form → (kind : ℕ) → Form
+formIn forms kind = getD forms kind (record { 0 = slot.Variable; 1 = slot.Variable; 2 = slot.Variable; 3 = part.Assignment })
+
+-- what the table has for a row's kind says what the row is to the blocks
+pub part-there : {forms : List Form} {n kind : ℕ} → forms ≡ allForms → n ≡ kind → kind ≤ length kinds → formIn forms n .3 ≡ partFor kind
+part-there table is inTable = ap (λ form. form .3) (form-there _ _ _ table (rw is inTable)) ∙ ap partFor is
 
 record There (n : ℕ) : Type 0 where
   kind : Kind

@@ -12,7 +12,6 @@ mod count;
 pub mod kinds;
 pub mod marks;
 mod needs;
-pub mod parts;
 mod sizes;
 
 // "Hence R is at most": for each of a sheet's rows these forward and backward, the parts among the latter, and row 17.

@@ -4,7 +4,6 @@ ghost use Rattle.table.specs.inner.Needs.{Sized, SizesFound};
 use super::count;
 use super::needs;
 use super::needs::Need;
-use super::parts;
 use sheet::RowNumber;
 use sheet::kinds;
 use sheet::kinds::Part;
@@ -27,7 +26,9 @@ pub fn sizes_of(words: &[u16], shape: sheet::Shape, marks: &[u8]) -> Sizes
     let mut p: usize = 0;
     while p < shape.rows {
         let row = sheet::row_of(words, shape.first_row, RowNumber(p));
-        let part = parts::part_of(forms, row.kind);
+        let kind = sheet::wide(row.kind);
+        let form = forms[kind];
+        let part = form.3;
         let mark = marks[p];
         rows += count::row_count(row, part, mark);
         p += 1;

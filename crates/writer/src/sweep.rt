@@ -17,7 +17,6 @@ use sheet::kinds::Part;
 use table::MAX_TABLE_ROWS;
 use table::Plan;
 use table::kinds;
-use table::parts;
 
 // Where the writer is: the place after the last row, and the innermost open branch's row.
 pub struct Reached {
@@ -47,7 +46,9 @@ fn forward_part(
     let mut p: usize = 0;
     while p < rows {
         let row = sheet::row_of(words, shape.first_row, RowNumber(p));
-        let part = parts::part_of(forms, row.kind);
+        let kind = sheet::wide(row.kind);
+        let form = forms[kind];
+        let part = form.3;
         next = rows::forward_row(table, next, row, part, marks[p]);
         let what = jumps::forward(part);
         top = jumps::note(what, next, top, beyond);
@@ -123,7 +124,9 @@ fn backward_part(
     while 0 < left {
         let q = end - 1;
         let row = sheet::row_of(words, shape.first_row, RowNumber(q));
-        let part = parts::part_of(forms, row.kind);
+        let kind = sheet::wide(row.kind);
+        let form = forms[kind];
+        let part = form.3;
         let turns = turns_back(words, shape.first_row, goes, RowNumber(q), part);
         next = rows::backward_row(table, next, variables, row, part, marks[q], turns);
         let what = jumps::backward(part);

@@ -13,7 +13,8 @@ use Rattle.sets.specs.MarkBytes.{weight, bitOf}
 use Rattle.sets.specs.inner.RowBytes.{byteAt}
 use Rattle.sets.specs.inner.RowEquations.{givenBy, activeBy, lineIn, ownPoint}
 use Rattle.sets.proofs.MarkByteLaws.{no-byte, assigned-byte, byte-active, Marking, marking-starts, marking-ends}
-use Rattle.sets.proofs.SheetRows.{formIn, form-read}
+use Rattle.sheet.proofs.PartsRead.{formIn}
+use Rattle.sets.proofs.SheetRows.{form-read}
 use Rattle.sets.proofs.Walking.{leftOf}
 use Rattle.sets.proofs.WalkNeeds.{Carried, points, begin-there, begun, row-there, ended, AtRow, row-below, line-part, in-hand, operation-there, assignment-there, assigned}
 use Rattle.sets.proofs.WalkNeeds.{assignment-passed, at-block, block-passed, gone-on, marked-on}

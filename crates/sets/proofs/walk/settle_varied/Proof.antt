@@ -8,7 +8,8 @@ use Rattle.sheet.specs.inner.Kinds.{assigns}
 use Rattle.sheet.specs.declared.kinds.Form.{Form}
 use Rattle.sets.specs.declared.Which.the-variants.{Varied}
 use Rattle.sets.specs.inner.RowEquations.{givenBy, noneActive}
-use Rattle.sets.proofs.SheetRows.{formIn, form-read}
+use Rattle.sheet.proofs.PartsRead.{formIn}
+use Rattle.sets.proofs.SheetRows.{form-read}
 use Rattle.sets.proofs.Walking.{leftOf}
 use Rattle.sets.proofs.WalkNeeds.{Carried, points, begin-there, begun, row-there, ended, AtRow, operation-there, assignment-there, assignment-passed, at-block, block-passed, gone-on}
 use Rattle.sets.proofs.walk.settle_varied.Statement.{statement}

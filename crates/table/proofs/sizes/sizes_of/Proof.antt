@@ -3,11 +3,15 @@
 use Prim.Native.Nat.{ℕ, _+_, _*_, _-_, _≤_, _<_}
 use mathlib.Core.Path.{_≡_, refl, ap, sym, subst}
 use mathlib.Core.List.{List}
+use lib.ListN.{length}
 use borrow.Author.Needs.{needs}
 use native.Mathlib.Omega.{arith}
 use Rattle.sheet.specs.declared.Shape.{Shape}
 use Rattle.sheet.specs.Answers.{rowSaid}
+use Rattle.sheet.specs.Rows.{kinds}
 use Rattle.sheet.specs.inner.Kinds.{partFor}
+use Rattle.sheet.specs.declared.kinds.Part.{Part}
+use Rattle.sheet.proofs.PartsRead.{formIn, part-there}
 use Rattle.table.specs.Sizes.{mostRowsEach}
 use Rattle.table.specs.inner.MarkedRows.{Says, SaysPart, rowNumbered, countRows, countAll}
 use Rattle.table.specs.inner.Needs.{Sized}
@@ -34,15 +38,30 @@ abbrev μ-loop : tie.MeasureT-loop
 abbrev start : tie.At-loop Inv-loop μ-loop → tie.Start Inv-loop μ-loop
 start c = c .before .before .before .before
 
--- the row that was read says a line
-said : (c : tie.After-part-of Inv-loop μ-loop) → SaysPart (rowSaid (c .before .row-of .result)) (c .part-of .result)
-said c =
-    let turn = c .before .before in
-    says-part _ _ (subst Says (sym (c .before .row-of .ensures)) (start (turn .before .before) .pre .0 .says _ (turn .if1 .taken))) (c .part-of .ensures)
+module _ (c : tie.After-wide Inv-loop μ-loop) where
+  abbrev turn : tie.Then1 Inv-loop μ-loop
+  turn = c .before .before
+
+  abbrev table : tie.After-forms Inv-loop μ-loop
+  table = turn .before .before .before
+
+  in-table : c .before .row-of .result .kind ≤ length kinds
+  in-table = says-kind (c .before .row-of .ensures) (start (turn .before .before) .pre .0 .says _ (turn .if1 .taken))
+
+  -- what the row is to the blocks, as the table has it for its kind
+  abbrev part : Part
+  part = formIn (table .forms .result) (c .wide .result) .3
+
+  part-found : part ≡ partFor (c .before .row-of .result .kind)
+  part-found = part-there (table .forms .ensures) (c .wide .ensures .0) in-table
+
+  -- the row that was read says a line
+  said : SaysPart (rowSaid (c .before .row-of .result)) part
+  said = says-part _ _ (subst Says (sym (c .before .row-of .ensures)) (start (turn .before .before) .pre .0 .says _ (turn .if1 .taken))) part-found
 
 module _ (c : tie.After-row-count Inv-loop μ-loop) where
   abbrev row : tie.After-row-of Inv-loop μ-loop
-  row = c .before .before .before
+  row = c .before .before .before .before
 
   abbrev head : tie.At-loop Inv-loop μ-loop
   head = row .before .before .before
@@ -60,8 +79,8 @@ module _ (c : tie.After-row-count Inv-loop μ-loop) where
   abbrev read : let x = start head .args in rowSaid (row .row-of .result) ≡ rowNumbered (x .words .now) (x .shape .«first_row») (head .loop .p)
   read = row .row-of .ensures
 
-  abbrev found : c .before .before .part-of .result ≡ partFor (row .row-of .result .kind)
-  found = c .before .before .part-of .ensures
+  abbrev found : part (c .before .before .before) ≡ partFor (row .row-of .result .kind)
+  found = part-found (c .before .before .before)
 
   counted : let x = start head .args in
       Counting (x .words .now) (x .shape) (x .marks .now) (head .loop .rows + c .row-count .result) (head .loop .p + 1)
@@ -96,18 +115,22 @@ loop-holds c =
 row-of-requires : tie.Need-row-of-requires Inv-loop μ-loop
 row-of-requires c κs = omega (arith, start (c .before .before) .pre .0 .there, c .if1 .taken)
 
-part-of-requires : tie.Need-part-of-requires Inv-loop μ-loop
-part-of-requires c κs =
-    let head = c .before .before .before in
-    (head .before .forms .ensures, says-kind (c .row-of .ensures) (start head .pre .0 .says _ (c .before .if1 .taken)))
+wide-requires : tie.Need-wide-requires Inv-loop μ-loop
+wide-requires c κs = search needs
+
+mul-form : tie.Need-mul-form Inv-loop μ-loop
+mul-form c = omega (arith, c .wide .ensures .0, in-table c)
+
+array-copy-out-form : tie.Need-array-copy-out-form Inv-loop μ-loop
+array-copy-out-form c = omega (arith, c .wide .ensures .0, in-table c)
 
 shared-slice-read-mark : tie.Need-shared-slice-read-mark Inv-loop μ-loop
 shared-slice-read-mark c =
-    let turn = c .before .before .before in
-    omega (arith, start (turn .before .before) .pre .0 .marked, turn .if1 .taken)
+    let here = turn (c .before .before) in
+    omega (arith, start (here .before .before) .pre .0 .marked, here .if1 .taken)
 
 row-count-requires : tie.Need-row-count-requires Inv-loop μ-loop
-row-count-requires c κs = said (c .before)
+row-count-requires c κs = said (c .before .before)
 
 add-rows : tie.Need-add-rows Inv-loop μ-loop
 add-rows c = omega (arith, head c .loop .inv .0 .few, c .row-count .ensures .within, below c, start (head c) .pre .0 .few)
@@ -207,8 +230,8 @@ enum-told-5 c = search needs
 add-depth-2 : tie.Need-add-depth-2 Inv-loop μ-loop
 add-depth-2 c = omega (arith, going (c .before .before) .within)
 
-wide-requires : tie.Need-wide-requires Inv-loop μ-loop
-wide-requires c κs = search needs
+wide-requires-2 : tie.Need-wide-requires-2 Inv-loop μ-loop
+wide-requires-2 c κs = search needs
 
 opened-requires-2 : tie.Need-opened-requires-2 Inv-loop μ-loop
 opened-requires-2 c κs = search needs
@@ -225,7 +248,7 @@ loop-less-5 c = omega (arith, below (c .before .before .before .before))
 loop-again-5 : tie.Need-loop-again-5 Inv-loop μ-loop
 loop-again-5 c =
     let at = c .before .before .before .before in
-    (counted at, rw (c .opened2 .ensures, c .before .wide .ensures .0) (goes-into-repeat (going at) (sized at) (below at) (read at) (found at) (c .before .before .enum-told5 .given .1)))
+    (counted at, rw (c .opened2 .ensures, c .before .wide2 .ensures .0) (goes-into-repeat (going at) (sized at) (below at) (read at) (found at) (c .before .before .enum-told5 .given .1)))
 
 enum-told-6 : tie.Need-enum-told-6 Inv-loop μ-loop
 enum-told-6 c = search needs
@@ -269,7 +292,9 @@ sizes-of-spec =
     forms-requires
     loop-holds
     row-of-requires
-    part-of-requires
+    wide-requires
+    mul-form
+    array-copy-out-form
     shared-slice-read-mark
     row-count-requires
     add-rows
@@ -302,7 +327,7 @@ sizes-of-spec =
     loop-again-4
     enum-told-5
     add-depth-2
-    wide-requires
+    wide-requires-2
     opened-requires-2
     mul-levels-3
     array-set-from-levels-3

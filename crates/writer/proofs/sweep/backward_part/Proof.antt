@@ -1,9 +1,9 @@
 -- `writer::sweep::backward_part` meets its contract. The invariant: the walk stays on the rows, and what is written and noted and what the rest of
 -- the walk gives make up the whole.
-use Prim.Native.Nat.{_<_, _-_}
+use Prim.Native.Nat.{_-_, _≤_, _<_}
 use mathlib.Core.Path.{_≡_, refl, sym, ap, subst, _∙_}
 use mathlib.Core.Bool.{true}
-use lib.ListN.{getD}
+use lib.ListN.{length, getD}
 use borrow.Author.Needs.{needs}
 use native.Mathlib.Omega.{arith}
 use Rattle.table.specs.inner.MarkedRows.{Says, SaysPart, Small}
@@ -12,6 +12,9 @@ use Rattle.writer.specs.inner.JumpsNoted.{noting}
 use Rattle.writer.proofs.WritingLaws.{Underway, underway-start, underway-room, underway-next, underway-end, underway-length, room-first}
 use Rattle.writer.proofs.JumpLaws.{Jumping, jumping-start, backward-ends, row-ends, jumping-next, jumping-end}
 use Rattle.sheet.specs.Answers.{rowSaid}
+use Rattle.sheet.specs.Rows.{kinds}
+use Rattle.sheet.specs.declared.kinds.Part.{Part}
+use Rattle.sheet.proofs.PartsRead.{formIn, part-there}
 use Rattle.sheet.specs.inner.RowLines.{lineOfRow}
 use Rattle.sheet.specs.inner.Kinds.{partOf}
 use Rattle.table.proofs.LineRows.{says-kind, says-part}
@@ -41,14 +44,24 @@ visit c = visit-now (handedTo c) _ _ (c .loop-test .taken) (c .before .loop .inv
 there : (c : tie.In-loop Inv-loop μ-loop) → c .before .loop .end - 1 < handedTo c .rows
 there c = omega (arith, visit c)
 
--- the row's line, and what that is to the blocks
-said : (c : tie.After-part-of Inv-loop μ-loop) → SaysPart (rowSaid (c .before .row-of .result)) (c .part-of .result)
+in-table : (c : tie.After-wide Inv-loop μ-loop) → c .before .row-of .result .kind ≤ length kinds
+in-table c =
+    let turn = c .before .before in
+    says-kind (c .before .row-of .ensures) (start turn .pre .1 .1 .0 .says _ (there turn))
+
+-- what the row is to the blocks, as the table has it for its kind
+abbrev part : tie.After-wide Inv-loop μ-loop → Part
+part c = formIn (c .before .before .before .before .forms .result) (c .wide .result) .3
+
+-- and what its line is
+said : (c : tie.After-wide Inv-loop μ-loop) → SaysPart (rowSaid (c .before .row-of .result)) (part c)
 said c =
     let turn = c .before .before in
-    says-part _ _ (subst Says (sym (c .before .row-of .ensures)) (start turn .pre .1 .1 .0 .says _ (there turn))) (c .part-of .ensures)
+    says-part _ _ (subst Says (sym (c .before .row-of .ensures)) (start turn .pre .1 .1 .0 .says _ (there turn)))
+    (part-there (turn .before .before .forms .ensures) (c .wide .ensures .0) (in-table c))
 
 -- the row that it leads to is there
-leads : (c : tie.After-part-of Inv-loop μ-loop) → leadsOn (c .part-of .result) ≡ true
+leads : (c : tie.After-wide Inv-loop μ-loop) → leadsOn (part c) ≡ true
     → let turn = c .before .before in getD (handedTo turn .goes) (turn .before .loop .end - 1) 0 < handedTo turn .rows
 leads c e = visit (c .before .before) .leads (ap leadsOn (sym (said c .is ∙ ap (λ r. partOf (lineOfRow r)) (c .before .row-of .ensures))) ∙ e)
 
@@ -69,25 +82,30 @@ sub-q c = omega (arith, visit c)
 row-of-requires : tie.Need-row-of-requires Inv-loop μ-loop
 row-of-requires c κs = omega (arith, visit c, start c .pre .1 .1 .0 .there)
 
-part-of-requires : tie.Need-part-of-requires Inv-loop μ-loop
-part-of-requires c κs =
-    let turn = c .before in
-    (turn .before .before .forms .ensures, says-kind (c .row-of .ensures) (start turn .pre .1 .1 .0 .says _ (there turn)))
+wide-requires : tie.Need-wide-requires Inv-loop μ-loop
+wide-requires c κs = search needs
+
+mul-form : tie.Need-mul-form Inv-loop μ-loop
+mul-form c = omega (arith, c .wide .ensures .0, in-table c)
+
+array-copy-out-form : tie.Need-array-copy-out-form Inv-loop μ-loop
+array-copy-out-form c = omega (arith, c .wide .ensures .0, in-table c)
 
 turns-back-requires : tie.Need-turns-back-requires Inv-loop μ-loop
 turns-back-requires c κs =
-    let turn = c .before .before in
+    let row = c .before in
+    let turn = row .before .before in
     let given = start turn .pre .1 .1 in
-    (omega (arith, there turn, given .1 .goesThere), λ e. omega (arith, leads c e, given .0 .there))
+    (omega (arith, there turn, given .1 .goesThere), λ e. omega (arith, leads row e, given .0 .there))
 
 shared-slice-read-backward-row : tie.Need-shared-slice-read-backward-row Inv-loop μ-loop
 shared-slice-read-backward-row c =
-    let turn = c .before .before .before .before .before in
+    let turn = c .before .before .before .before .before .before in
     omega (arith, visit turn, start turn .pre .1 .1 .0 .marked)
 
 backward-row-requires : tie.Need-backward-row-requires Inv-loop μ-loop
 backward-row-requires c κs =
-    let row = c .before .before .before in
+    let row = c .before .before .before .before in
     let turn = row .before .before in
     let is = row .before .row-of .ensures in
     let given = start turn .pre in
@@ -102,7 +120,7 @@ backward-requires c κs = search needs
 note-requires : tie.Need-note-requires Inv-loop μ-loop
 note-requires c κs =
     let wrote = c .before .before .before .before in
-    let row = wrote .before .before .before .before in
+    let row = wrote .before .before .before .before .before in
     let turn = row .before .before in
     let turns = wrote .before .before .before .turns-back .ensures in
     let left = backward-next (handedTo turn) _ _ (turn .loop-test .taken) (row .before .row-of .ensures) (said row .is) turns refl in
@@ -110,23 +128,23 @@ note-requires c κs =
 
 step-back-requires : tie.Need-step-back-requires Inv-loop μ-loop
 step-back-requires c κs =
-    let row : tie.After-part-of Inv-loop μ-loop = search in
+    let row : tie.After-wide Inv-loop μ-loop = search in
     let turn = row .before .before in
     let given = start turn .pre .1 .1 .1 in
     let here = there turn in
     (omega (arith, here, given .cameThere), omega (arith, here, given .goesThere), λ e. omega (arith, leads row e, given .goesThere))
 
 sub-left : tie.Need-sub-left Inv-loop μ-loop
-sub-left c = omega (arith, c .before .before .before .before .before .before .before .before .before .before .before .before .loop-test .taken)
+sub-left c = omega (arith, c .before .before .before .before .before .before .before .before .before .before .before .before .before .loop-test .taken)
 
 loop-less : tie.Need-loop-less Inv-loop μ-loop
-loop-less c = omega (arith, c .before .before .before .before .before .before .before .before .before .before .before .before .loop-test .taken)
+loop-less c = omega (arith, c .before .before .before .before .before .before .before .before .before .before .before .before .before .loop-test .taken)
 
 loop-again : tie.Need-loop-again Inv-loop μ-loop
 loop-again c =
     let noted = c .before in
     let wrote = noted .before .before .before .before .before in
-    let row = wrote .before .before .before .before in
+    let row = wrote .before .before .before .before .before in
     let turn = row .before .before in
     let held = turn .before .loop .inv in
     let some = turn .loop-test .taken in
@@ -160,7 +178,9 @@ backward-part-spec =
     loop-holds
     sub-q
     row-of-requires
-    part-of-requires
+    wide-requires
+    mul-form
+    array-copy-out-form
     turns-back-requires
     shared-slice-read-backward-row
     backward-row-requires

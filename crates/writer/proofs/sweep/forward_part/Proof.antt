@@ -2,10 +2,13 @@
 use Prim.Native.Nat.{_+_, _-_, _≤_}
 use mathlib.Core.Path.{_≡_, ap, sym, subst}
 use mathlib.Core.List.{_++_}
-use lib.ListN.{getD}
+use lib.ListN.{length, getD}
 use borrow.Author.Needs.{needs}
 use native.Mathlib.Omega.{arith}
 use Rattle.sheet.specs.Answers.{rowSaid}
+use Rattle.sheet.specs.Rows.{kinds}
+use Rattle.sheet.specs.declared.kinds.Part.{Part}
+use Rattle.sheet.proofs.PartsRead.{formIn, part-there}
 use Rattle.sheet.specs.inner.RowLines.{lineOfRow}
 use Rattle.table.specs.inner.MarkedRows.{Says, SaysPart, forwardOfLine}
 use Rattle.writer.specs.inner.RowsWritten.{forwardRows, forwardAll}
@@ -29,11 +32,21 @@ abbrev μ-loop : tie.MeasureT-loop
 abbrev start : tie.In-loop Inv-loop μ-loop → tie.Start Inv-loop μ-loop
 start c = c .before .before .before .before .before .before
 
--- the row's line, and what that is to the blocks
-said : (c : tie.After-part-of Inv-loop μ-loop) → SaysPart (rowSaid (c .before .row-of .result)) (c .part-of .result)
+in-table : (c : tie.After-wide Inv-loop μ-loop) → c .before .row-of .result .kind ≤ length kinds
+in-table c =
+    let turn = c .before .before in
+    says-kind (c .before .row-of .ensures) (start turn .pre .1 .1 .says _ (turn .loop-test .taken))
+
+-- what the row is to the blocks, as the table has it for its kind
+abbrev part : tie.After-wide Inv-loop μ-loop → Part
+part c = formIn (c .before .before .before .before .forms .result) (c .wide .result) .3
+
+-- and what its line is
+said : (c : tie.After-wide Inv-loop μ-loop) → SaysPart (rowSaid (c .before .row-of .result)) (part c)
 said c =
     let turn = c .before .before in
-    says-part _ _ (subst Says (sym (c .before .row-of .ensures)) (start turn .pre .1 .1 .says _ (turn .loop-test .taken))) (c .part-of .ensures)
+    says-part _ _ (subst Says (sym (c .before .row-of .ensures)) (start turn .pre .1 .1 .says _ (turn .loop-test .taken)))
+    (part-there (turn .before .before .forms .ensures) (c .wide .ensures .0) (in-table c))
 
 -- the row's rows before those of the rest
 left : (c : tie.After-row-of Inv-loop μ-loop) → let x = start (c .before) .args in let p = c .before .before .loop .p in
@@ -57,19 +70,23 @@ loop-holds c =
 row-of-requires : tie.Need-row-of-requires Inv-loop μ-loop
 row-of-requires c κs = omega (arith, start c .pre .1 .1 .there, c .loop-test .taken)
 
-part-of-requires : tie.Need-part-of-requires Inv-loop μ-loop
-part-of-requires c κs =
-    let turn = c .before in
-    (turn .before .before .forms .ensures, says-kind (c .row-of .ensures) (start turn .pre .1 .1 .says _ (turn .loop-test .taken)))
+wide-requires : tie.Need-wide-requires Inv-loop μ-loop
+wide-requires c κs = search needs
+
+mul-form : tie.Need-mul-form Inv-loop μ-loop
+mul-form c = omega (arith, c .wide .ensures .0, in-table c)
+
+array-copy-out-form : tie.Need-array-copy-out-form Inv-loop μ-loop
+array-copy-out-form c = omega (arith, c .wide .ensures .0, in-table c)
 
 shared-slice-read-forward-row : tie.Need-shared-slice-read-forward-row Inv-loop μ-loop
 shared-slice-read-forward-row c =
-    let turn = c .before .before .before .before in
+    let turn = c .before .before .before .before .before in
     omega (arith, start turn .pre .1 .1 .marked, turn .loop-test .taken)
 
 forward-row-requires : tie.Need-forward-row-requires Inv-loop μ-loop
 forward-row-requires c κs =
-    let found = c .before .before in
+    let found = c .before .before .before in
     let turn = found .before .before in
     (room-first _ _ (rw (left (found .before)) at (underway-room (turn .before .loop .inv .1) (start turn .pre .0))), said found)
 
@@ -79,24 +96,24 @@ forward-requires c κs = search needs
 note-requires : tie.Need-note-requires Inv-loop μ-loop
 note-requires c κs =
     let wrote = c .before .before .before .before in
-    let found = wrote .before .before .before in
+    let found = wrote .before .before .before .before in
     let turn = found .before .before in
     row-ends (turn .before .loop .inv .2) _ (left (found .before)) (wrote .forward-row .ensures)
     (forward-ends (said found) _ (c .before .forward .ensures))
 
 add-p : tie.Need-add-p Inv-loop μ-loop
 add-p c =
-    let turn = c .before .before .before .before .before .before .before .before .before .before in
+    let turn = c .before .before .before .before .before .before .before .before .before .before .before in
     omega (arith, turn .loop-test .taken, start turn .pre .1 .1 .few)
 
 loop-less : tie.Need-loop-less Inv-loop μ-loop
-loop-less c = omega (arith, c .before .before .before .before .before .before .before .before .before .before .loop-test .taken)
+loop-less c = omega (arith, c .before .before .before .before .before .before .before .before .before .before .before .loop-test .taken)
 
 loop-again : tie.Need-loop-again Inv-loop μ-loop
 loop-again c =
     let noted = c .before .before in
     let wrote = noted .before .before .before in
-    let found = wrote .before .before .before in
+    let found = wrote .before .before .before .before in
     let held = found .before .before .before .loop .inv in
     let rows = wrote .forward-row .ensures in (
       omega (arith, found .before .before .loop-test .taken),
@@ -122,7 +139,9 @@ forward-part-spec =
     forms-requires
     loop-holds
     row-of-requires
-    part-of-requires
+    wide-requires
+    mul-form
+    array-copy-out-form
     shared-slice-read-forward-row
     forward-row-requires
     forward-requires
