@@ -14,7 +14,7 @@ ghost use Rattle.machine.specs.Attempts.{fromOutcome};
 ghost use Rattle.machine.specs.inner.Buffers.{cellsOf, Evaluates, EvaluatesFixed, Assigns, Clears, MovesValues, Compares, TurnsRound};
 ghost use Rattle.machine.specs.inner.Runnable.{Indexed, Indexes};
 ghost use Rattle.machine.specs.inner.RowWords.{actionOf, Named};
-ghost use Rattle.machine.specs.inner.RowSteps.{ActsBy, StraightRow, Peeks, BlockRow};
+ghost use Rattle.machine.specs.inner.RowSteps.{ActsBy, StraightRow, Peeks, PeeksOn, BlockRow};
 ghost use Rattle.machine.specs.inner.RunsRows.{RunsRows};
 use machine::Acted;
 use machine::Ahead;
@@ -266,8 +266,12 @@ fn act(
             next,
             Ahead::Any,
         ),
-        table::kinds::SAVE => values_to(save(store, d, values, next.values), next),
-        table::kinds::TAKE_BACK => values_to(take_back(store, d, values, next.values), next),
+        table::kinds::SAVE => values_to(save(store, d, values, next.values), next, Ahead::Any),
+        table::kinds::TAKE_BACK => values_to(
+            take_back(store, d, values, next.values),
+            next,
+            Ahead::Copy,
+        ),
         table::kinds::SAVE_TURN => turns_to(save_turn(is_first(word), turns, next.turns), next),
         table::kinds::CLEAR => went_to(clear(store, d), next),
         table::kinds::TURN_ROUND => went_to(turn_round(roles, seeds, store, copied), next),
@@ -361,7 +365,28 @@ fn clear_ahead(table: &[u16], until: usize, store: &mut [f64], place: Place) -> 
     }
 }
 
-// The same of a sum. One whose result isn't finite is left for the runner to stop at.
+// The same of a copy.
+fn copy_ahead(table: &[u16], until: usize, store: &mut [f64], place: Place) -> Place
+    requires { ⌜ Indexes (now table) until (length (now store)) ⌝ ∗ ⌜ until ≤ place .at .0 + place .left ⌝ }
+    ensures { λ r. ⌜ Peeks doubles (now (table .entry)) until place (now (store .entry)) (now (store .exit)) r ⌝ }
+{
+    let Expected::Met(row, next) = kind_at(table, until, place, kinds::COPY) else {
+        return place;
+    };
+    let to = row.d as usize;
+    let a = row.a as usize;
+    match copy_of(store, Variable(a)) {
+        Outcome::Value(x) => {
+            store[to] = x;
+            return next;
+        }
+        Outcome::Stop => {
+            return place;
+        }
+    }
+}
+
+// And of a sum. One whose result isn't finite is left for the runner to stop at.
 fn sum_ahead(table: &[u16], until: usize, store: &mut [f64], place: Place) -> Place
     requires { ⌜ Indexes (now table) until (length (now store)) ⌝ ∗ ⌜ until ≤ place .at .0 + place .left ⌝ }
     ensures { λ r. ⌜ Peeks doubles (now (table .entry)) until place (now (store .entry)) (now (store .exit)) r ⌝ }
@@ -387,12 +412,16 @@ fn sum_ahead(table: &[u16], until: usize, store: &mut [f64], place: Place) -> Pl
 // the ordinary way, so that peeking never stops, sticks or runs out of steps.
 fn peek(table: &[u16], until: usize, store: &mut [f64], ahead: Ahead, place: Place) -> Place
     requires { ⌜ Indexes (now table) until (length (now store)) ⌝ ∗ ⌜ until ≤ place .at .0 + place .left ⌝ }
-    ensures { λ r. ⌜ Peeks doubles (now (table .entry)) until place (now (store .entry)) (now (store .exit)) r ⌝ }
+    ensures { λ r. ⌜ PeeksOn doubles (now (table .entry)) until place (now (store .entry)) (now (store .exit)) r ⌝ }
 {
     match ahead {
         Ahead::Any => place,
         Ahead::Clear => clear_ahead(table, until, store, place),
         Ahead::Sum => sum_ahead(table, until, store, place),
+        Ahead::Copy => {
+            let copied = copy_ahead(table, until, store, place);
+            clear_ahead(table, until, store, copied)
+        }
     }
 }
 

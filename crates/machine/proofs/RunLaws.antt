@@ -13,7 +13,7 @@ use Rattle.machine.specs.Actions.{Memory, Setting}
 use Rattle.machine.specs.Machine.{Repeat, State, Step, goesOn, ended, stops, sticks, step, ifItGoesOn, stateAfter}
 use Rattle.machine.specs.inner.Buffers.{Buffers, Cells, cellsOf, memoryOf, Sound, RoundSizes}
 use Rattle.machine.specs.inner.Runnable.{Shallow, Indexed, Indexes}
-use Rattle.machine.specs.inner.RowSteps.{Nested, Opened, Reaches, firstPlace, leftAt, buffersAt, stateAt, CopiesOn, Stays, StopsAt, Blocked, GoesTo, StepsStraight, StraightRow, Peeks, CrossedSays, BlockRow}
+use Rattle.machine.specs.inner.RowSteps.{Nested, Opened, Reaches, firstPlace, leftAt, buffersAt, stateAt, CopiesOn, Stays, StopsAt, Blocked, GoesTo, StepsStraight, StraightRow, Peeks, PeeksOn, CrossedSays, BlockRow}
 use Rattle.machine.specs.inner.RunsRows.{firstState, Handed, AfterSteps, LeavesBy, Leaves, RunsRows}
 use Rattle.machine.specs.declared.Place.{Place}
 use Rattle.machine.specs.declared.Ahead.{Ahead}
@@ -419,7 +419,7 @@ module _ {A : Arithmetic} (task : Task A) where
 
   module _ {store storeAfter : List (A .Carrier)} {until : ℕ} {place answer : Place}
       (peek : Peeks A (task .table) until place store storeAfter answer) where
-    pub inner-peeks : {values copied : List (A .Carrier)} {turns : List ℕ} {began : Place} {cellsThen : Cells A} {bodies toCome : List ℕ}
+    inner-peeks : {values copied : List (A .Carrier)} {turns : List ℕ} {began : Place} {cellsThen : Cells A} {bodies toCome : List ℕ}
         → Inner until began cellsThen place (cellsOf A store values turns copied) bodies toCome
         → length storeAfter ≡ length store
         → Inner until began cellsThen answer (cellsOf A storeAfter values turns copied) bodies toCome
@@ -433,3 +433,13 @@ module _ {A : Arithmetic} (task : Task A) where
             subst (λ (p : Place). Inner until began cellsThen p (cellsOf A storeAfter values turns copied) bodies toCome) (sym is)
             (subst (λ (s : List (A .Carrier)). Inner until began cellsThen place (cellsOf A s values turns copied) bodies toCome) (sym same) inner)
         by-row (inr straight) = inner-goes inner straight refl (record { store = kept; values = refl; turns = refl; copied = refl })
+
+  -- and peeking there once more
+
+  module _ {store storeAfter : List (A .Carrier)} {until : ℕ} {place answer : Place}
+      (peeks : PeeksOn A (task .table) until place store storeAfter answer) where
+    pub inner-peeks-on : {values copied : List (A .Carrier)} {turns : List ℕ} {began : Place} {cellsThen : Cells A} {bodies toCome : List ℕ}
+        → Inner until began cellsThen place (cellsOf A store values turns copied) bodies toCome
+        → length storeAfter ≡ length store
+        → Inner until began cellsThen answer (cellsOf A storeAfter values turns copied) bodies toCome
+    inner-peeks-on inner kept = inner-peeks (peeks .second) (inner-peeks (peeks .first) inner (peeks .long)) (kept ∙ sym (peeks .long))

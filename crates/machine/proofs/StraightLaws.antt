@@ -96,10 +96,10 @@ module _ (Why : Type 0) where
   went-answers went-as.On next = refl
   went-answers went-as.Stuck next = refl
 
-  values-answer : (m : Moved) (next : Place)
-      → valuesTo m next ≡ actedBy (whetherMoved {Why = Why} m) (raised next (heightAfter m (next .values)) (next .turns)) ahead-as.Any
-  values-answer (moved.To height) next = refl
-  values-answer moved.Stuck next = refl
+  values-answer : (m : Moved) (next : Place) (ahead : Ahead)
+      → valuesTo m next ahead ≡ actedBy (whetherMoved {Why = Why} m) (raised next (heightAfter m (next .values)) (next .turns)) ahead
+  values-answer (moved.To height) next ahead = refl
+  values-answer moved.Stuck next ahead = refl
 
   turns-answer : (m : Moved) (next : Place)
       → turnsTo m next ≡ actedBy (whetherMoved {Why = Why} m) (raised next (next .values) (heightAfter m (next .turns))) ahead-as.Any
@@ -159,23 +159,23 @@ module _ {A : Arithmetic} where
         })
 
     module _ {store values : List (A .Carrier)} {turns : List ℕ} {copied : List (A .Carrier)} where
-      values-move : {action : Action} {m : Moved} {storeAfter valuesAfter : List (A .Carrier)} → actionOf row ≡ some action
-          → answer ≡ valuesTo m next
+      values-move : {action : Action} {m : Moved} (ahead : Ahead) {storeAfter valuesAfter : List (A .Carrier)} → actionOf row ≡ some action
+          → answer ≡ valuesTo m next ahead
           → MovesValues A action store values (next .values) storeAfter valuesAfter m
           → ActsBy A row roles constants seeds next (cellsOf A store values turns copied) (cellsOf A storeAfter valuesAfter turns copied) answer
-      values-move {action} {m} said answers moves =
-          acts-as action (whetherMoved m) (heightAfter m (next .values)) (next .turns) ahead-as.Any said (answers ∙ values-answer (A .Why) m next)
+      values-move {action} {m} ahead said answers moves =
+          acts-as action (whetherMoved m) (heightAfter m (next .values)) (next .turns) ahead said (answers ∙ values-answer (A .Why) m next ahead)
           (λ setting former suits sizes sound. (former, moves .does setting turns (next .turns) former sound, inl (refl, refl)))
 
-      pub saved : {m : Moved} {valuesAfter : List (A .Carrier)} → row .kind ≡ 12 → answer ≡ valuesTo m next
+      pub saved : {m : Moved} (ahead : Ahead) {valuesAfter : List (A .Carrier)} → row .kind ≡ 12 → answer ≡ valuesTo m next ahead
           → MovesValues A (save (row .d)) store values (next .values) store valuesAfter m
           → ActsBy A row roles constants seeds next (cellsOf A store values turns copied) (cellsOf A store valuesAfter turns copied) answer
-      saved kind answers moves = values-move (says-save row kind) answers moves
+      saved ahead kind answers moves = values-move ahead (says-save row kind) answers moves
 
-      pub taken-back : {m : Moved} {storeAfter valuesAfter : List (A .Carrier)} → row .kind ≡ 13 → answer ≡ valuesTo m next
+      pub taken-back : {m : Moved} (ahead : Ahead) {storeAfter valuesAfter : List (A .Carrier)} → row .kind ≡ 13 → answer ≡ valuesTo m next ahead
           → MovesValues A (takeBack (row .d)) store values (next .values) storeAfter valuesAfter m
           → ActsBy A row roles constants seeds next (cellsOf A store values turns copied) (cellsOf A storeAfter valuesAfter turns copied) answer
-      taken-back kind answers moves = values-move (says-take-back row kind) answers moves
+      taken-back ahead kind answers moves = values-move ahead (says-take-back row kind) answers moves
 
       pub turn-saved : {first : Bool} {m : Moved} {turnsAfter : List ℕ} → row .kind ≡ 14 → first ≡ eqb (row .a) 1 → answer ≡ turnsTo m next
           → SavesTurn A first turns (next .turns) turnsAfter m

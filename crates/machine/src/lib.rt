@@ -57,12 +57,13 @@ pub enum Met {
     Other(RowWords, Place),
 }
 
-// The row that is expected after one that was done: a clear after a copy, a sum after a product. A runner may look there for it first: this spares
-// it the choice among all kinds. The expectation says nothing of the row that stands there.
+// The row that is expected after one that was done: a clear after a copy, a sum after a product, a copy and its clear after a value was taken back. A runner may
+// look there for it first: this spares it the choice among all kinds. The expectation says nothing of the row that stands there.
 pub enum Ahead {
     Any,
     Clear,
     Sum,
+    Copy,
 }
 
 // What stands where a row of one kind is expected: it, with the place after it, or that it isn't there or has no step left.

@@ -30,11 +30,11 @@ pub fn did_to(did: Did, next: Place, ahead: Ahead) -> Acted
 }
 
 // A row that moved the value stack.
-pub fn values_to(moved: Moved, next: Place) -> Acted
-    ensures { λ r. ⌜ r ≡ valuesTo moved next ⌝ }
+pub fn values_to(moved: Moved, next: Place, ahead: Ahead) -> Acted
+    ensures { λ r. ⌜ r ≡ valuesTo moved next ahead ⌝ }
 {
     match moved {
-        Moved::To(height) => Acted::On(raised(next, height, next.turns), Ahead::Any),
+        Moved::To(height) => Acted::On(raised(next, height, next.turns), ahead),
         Moved::Stuck => Acted::Stuck,
     }
 }

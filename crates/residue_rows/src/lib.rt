@@ -16,6 +16,7 @@ ghost use Rattle.machine.specs.Attempts.{through};
 ghost use Rattle.machine.specs.inner.RowSteps.{ActsBy, StraightRow, BlockRow};
 ghost use Rattle.machine.specs.inner.RunsRows.{RunsRows};
 use machine::Acted;
+use machine::Ahead;
 use machine::Branch;
 use machine::Crossed;
 use machine::Ended;
@@ -228,8 +229,12 @@ fn act(
         kinds::DIFFERENCE => went_to(assign(store, d, subtracted(store, Variable(a), b)), next),
         kinds::PRODUCT => went_to(assign(store, d, multiplied(store, Variable(a), b)), next),
         kinds::NEGATION => went_to(assign(store, d, negated(store, Variable(a))), next),
-        table::kinds::SAVE => values_to(save(store, d, values, next.values), next),
-        table::kinds::TAKE_BACK => values_to(take_back(store, d, values, next.values), next),
+        table::kinds::SAVE => values_to(save(store, d, values, next.values), next, Ahead::Any),
+        table::kinds::TAKE_BACK => values_to(
+            take_back(store, d, values, next.values),
+            next,
+            Ahead::Any,
+        ),
         table::kinds::SAVE_TURN => turns_to(save_turn(is_first(word), turns, next.turns), next),
         table::kinds::CLEAR => went_to(clear(store, d), next),
         table::kinds::TURN_ROUND => went_to(turn_round(roles, seeds, store, copied), next),

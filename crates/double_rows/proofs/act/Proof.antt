@@ -175,7 +175,7 @@ same-length-8 c = search needs
 
 returns-7 : tie.Need-returns-7
 returns-7 c =
-    saved (c .before .before .before .before .before .before .match .keys7) (c .values-to .ensures)
+    saved ahead.Any (c .before .before .before .before .before .before .match .keys7) (c .values-to .ensures)
     (c .before .before .before .save .ensures)
 
 same-length-9 : tie.Need-same-length-9
@@ -186,7 +186,7 @@ same-length-10 c = search needs
 
 returns-8 : tie.Need-returns-8
 returns-8 c =
-    taken-back (c .before .before .before .before .before .before .before .before .match .keys8) (c .values-to2 .ensures)
+    taken-back ahead.Copy (c .before .before .before .before .before .before .before .before .match .keys8) (c .values-to2 .ensures)
     (c .before .before .before .before .before .take-back .ensures)
 
 same-length-11 : tie.Need-same-length-11

@@ -4,8 +4,8 @@ use native.Mathlib.Omega.{arith}
 use borrow.Author.Needs.{needs}
 use Rattle.number.specs.Doubles.{doubles}
 use Rattle.machine.specs.inner.Buffers.{cellsOf}
-use Rattle.machine.proofs.PeekLaws.{peek-fewer}
-use Rattle.machine.proofs.RunLaws.{still-indexed, still-indexes, first-indexed, Invariant, Inner, run-starts, inner-starts, straight-fewer, straight-reaches, inner-goes, inner-peeks, straight-stops, straight-sticks, block-fewer, block-goes, block-ends}
+use Rattle.machine.proofs.PeekLaws.{peeks-fewer}
+use Rattle.machine.proofs.RunLaws.{still-indexed, still-indexes, first-indexed, Invariant, Inner, run-starts, inner-starts, straight-fewer, straight-reaches, inner-goes, inner-peeks-on, straight-stops, straight-sticks, block-fewer, block-goes, block-ends}
 use Rattle.double_rows.proofs.run_rows.Statement.{statement}
 use Rattle.double_rows.proofs.run_rows.Tie as tie
 use Rattle.double_rows.proofs.run_rows.Reads as reads
@@ -123,14 +123,14 @@ loop-less c =
     omega (
       arith,
       straight-fewer _ (t .loop .inv) (a .straight-row .ensures) (c .before .before .before .before .before .next .given .1),
-      peek-fewer (c .before .before .peek .ensures),
+      peeks-fewer (c .before .before .peek .ensures),
     )
 
 loop-again : tie.Need-loop-again Inv-loop μ-loop Inv-run μ-run
 loop-again c =
     let a : Answered = search in
     let t = turn a in
-    inner-peeks _ (c .before .before .peek .ensures)
+    inner-peeks-on _ (c .before .before .peek .ensures)
     (inner-goes _ (t .loop .inv) (a .straight-row .ensures) (c .before .before .before .before .before .next .given .1)
     (record {
       store = a .straight-row .kept .1 .1 .1 .1 .1 .0;

@@ -94,9 +94,9 @@ abbrev pub didTo : Did → Place → Ahead → Acted
 didTo did-as.On place ahead = acted.On place ahead
 didTo did-as.Stopped place ahead = acted.Stopped
 
-abbrev pub valuesTo : Moved → Place → Acted
-valuesTo (moved-as.To height) place = acted.On (raised place height (place .turns)) ahead-as.Any
-valuesTo moved-as.Stuck place = acted.Stuck
+abbrev pub valuesTo : Moved → Place → Ahead → Acted
+valuesTo (moved-as.To height) place ahead = acted.On (raised place height (place .turns)) ahead
+valuesTo moved-as.Stuck place ahead = acted.Stuck
 
 abbrev pub turnsTo : Moved → Place → Acted
 turnsTo (moved-as.To height) place = acted.On (raised place (place .values) height) ahead-as.Any
@@ -322,6 +322,14 @@ module _ (A : Arithmetic) where
         → ((answer ≡ place) × (storeAfter ≡ store))
         ⊎ StraightRow table until roles constants seeds place (cellsOf A store values turns copied) (cellsOf A storeAfter values turns copied)
         (acted.On answer ahead-as.Any)
+
+  -- and at the place that this leads to once more
+  pub record PeeksOn (table : List ℕ) (until : ℕ) (place : Place) (store storeAfter : List (A .Carrier)) (answer : Place) : Type 0 where
+    pub between : Place
+    pub midway : List (A .Carrier)
+    pub long : length midway ≡ length store
+    pub first : Peeks table until place store midway between
+    pub second : Peeks table until between midway storeAfter answer
 
   -- a row of a block goes on with the repeats that are then open
   pub record CrossesTo (setting : Setting A) (place next : Place) (bodies toCome : List ℕ) (after : Cells A) (held : List (A .Carrier)) (found : Step A)

@@ -3,6 +3,7 @@ use mathlib.Core.Path.{refl}
 use borrow.Author.Needs.{needs}
 use Rattle.machine.proofs.LineLaws.{says-copy, says-constant, says-sum, says-difference, says-product, says-negation, says-none}
 use Rattle.machine.proofs.LineLaws.{names-copy, names-constant, names-sum, names-difference, names-product, names-negation, names-save, names-take-back, names-clear}
+use Rattle.machine.specs.declared.Ahead.the-variants as ahead
 use Rattle.machine.proofs.StraightLaws.{none-acts, saved, taken-back, turn-saved, cleared, turned-round, assigned-residue}
 use Rattle.residue_rows.proofs.act.Statement.{statement}
 use Rattle.residue_rows.proofs.act.Tie as tie
@@ -174,7 +175,7 @@ same-length-8 c = search needs
 
 returns-7 : tie.Need-returns-7
 returns-7 c =
-    saved (c .before .before .before .before .before .before .match .keys7) (c .values-to .ensures)
+    saved ahead.Any (c .before .before .before .before .before .before .match .keys7) (c .values-to .ensures)
     (c .before .before .before .save .ensures)
 
 same-length-9 : tie.Need-same-length-9
@@ -185,7 +186,7 @@ same-length-10 c = search needs
 
 returns-8 : tie.Need-returns-8
 returns-8 c =
-    taken-back (c .before .before .before .before .before .before .before .before .match .keys8) (c .values-to2 .ensures)
+    taken-back ahead.Any (c .before .before .before .before .before .before .before .before .match .keys8) (c .values-to2 .ensures)
     (c .before .before .before .before .before .take-back .ensures)
 
 same-length-11 : tie.Need-same-length-11

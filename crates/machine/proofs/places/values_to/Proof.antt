@@ -2,7 +2,6 @@
 use mathlib.Core.Path.{ap}
 use Rattle.machine.specs.declared.Place.{Place}
 use Rattle.machine.specs.declared.Acted.the-variants as acted
-use Rattle.machine.specs.declared.Ahead.the-variants as ahead
 use borrow.Author.Needs.{needs}
 use Rattle.machine.proofs.places.values_to.Statement.{statement}
 use Rattle.machine.proofs.places.values_to.Tie as tie
@@ -17,7 +16,7 @@ enum-told : tie.Need-enum-told
 enum-told c = search needs
 
 returns : tie.Need-returns
-returns c = rw (c .before .before .moved .given .1) (ap (λ (p : Place). acted.On p ahead.Any) (c .raised .ensures))
+returns c = rw (c .before .before .moved .given .1) (ap (λ (p : Place). acted.On p (c .before .before .before .before .args .ahead)) (c .raised .ensures))
 
 returns-2 : tie.Need-returns-2
 returns-2 c = search needs
