@@ -3,6 +3,7 @@ use Prim.Native.Nat.{ℕ, _+_, _≤_, _<_}
 use mathlib.Core.Path.{_≡_, refl}
 use mathlib.Core.Logic.{_⊎_, inl, inr}
 use mathlib.Core.List.{List, []}
+use mathlib.Core.Option.{some}
 use native.Mathlib.Omega.{arith}
 use lib.ListN.{length, set}
 use lib.Ieee.{Float}
@@ -11,7 +12,6 @@ use Rattle.number.specs.Doubles.{doubles}
 use Rattle.number.specs.Answers.{outcomeOf}
 use Rattle.number.specs.declared.Outcome.{Outcome}
 use Rattle.number.specs.declared.Outcome.the-variants as outcome
-use mathlib.Core.Option.{some}
 use Rattle.sheet.specs.Rows.{Row, Source, _≔_, copy, sum}
 use Rattle.sheet.specs.Answers.{rowSaid}
 use Rattle.sheet.specs.declared.RowWords.{RowWords}
