@@ -6,7 +6,7 @@ use mathlib.Core.List.{List}
 use Rattle.number.specs.Arithmetic.{Arithmetic}
 use Rattle.table.specs.Calls.{checkedSaid, check, writtenOf, write}
 use Rattle.table.specs.declared.Checked.{Checked}
-use Rattle.table.specs.declared.Answer.{Answer}
+use Rattle.table.specs.declared.Reply.{Reply}
 use Rattle.run.specs.Calls.{Lent, run, ranOf}
 use Rattle.claims.specs.CallsExactly.{CheckExactly, WriteExactly, RunExactly}
 use Rattle.claims.specs.Demands.{FirstDemand}
@@ -17,12 +17,12 @@ pub check-call : (words : List ℕ) (answer : Checked) → checkedSaid answer �
 check-call words answer contract = subst (CheckExactly words) (sym contract) (check-exactly words)
 
 -- the contract of `write`
-pub write-call : (words before after : List ℕ) (answer : Answer) → writtenOf answer after ≡ write words before
+pub write-call : (words before after : List ℕ) (answer : Reply) → writtenOf answer after ≡ write words before
     → WriteExactly words before (writtenOf answer after)
 write-call words before after answer contract = subst (WriteExactly words before) (sym contract) (write-exactly words before)
 
 -- the contracts of `run_double` and `run_audit`
-pub run-call : (A : Arithmetic) (words : List ℕ) (starts seeds : List (A .Carrier)) (before after : Lent A) (answer : Answer)
+pub run-call : (A : Arithmetic) (words : List ℕ) (starts seeds : List (A .Carrier)) (before after : Lent A) (answer : Reply)
     → ranOf A answer after ≡ run A words starts seeds before → RunExactly A words starts seeds before (ranOf A answer after)
 run-call A words starts seeds before after answer contract =
     subst (RunExactly A words starts seeds before) (sym contract) (run-exactly A words starts seeds before)

@@ -11,13 +11,13 @@ use Rattle.sheet.specs.Reading.{Sheet, variablesOf, read}
 use Rattle.sets.proofs.SetsLeast.{varied-least, useful-least, required-least}
 use Rattle.table.specs.TableRows.{linesOf}
 use Rattle.table.specs.Adjoint.{tableOf}
-use Rattle.table.specs.declared.Answer.{Answer}
+use Rattle.table.specs.declared.Reply.{Reply}
 use Rattle.machine.specs.Actions.{Memory}
 use Rattle.machine.specs.Machine.{Ending, stepsOf}
 use Rattle.run.specs.Calls.{Lent, Ran, startOf, runOf, independentAdjoints, resultOf, lentAfter, ranTo, run, ranOf}
 use Rattle.claims.specs.ExactlyWhen.{Runnable, endingOf}
 use Rattle.claims.specs.SavedRows.{every}
-use Rattle.claims.specs.WholeRun.{runSaving, Room, SameOutcome, bothEnd, bothStop}
+use Rattle.claims.specs.WholeRun.{runSaving, StackRoom, SameOutcome, bothEnd, bothStop}
 use Rattle.claims.specs.Demands.{LeastSets, SameAsAllSaved, AnswersLike, sameResult, sameStop, RunMeets, AuditMeets, SecondDemand}
 use Rattle.claims.proofs.StartExactlyWhen.{accepted-to-run, started}
 use Rattle.claims.proofs.WholeRunMatches.{noFurther, own-room, own-run}
@@ -65,7 +65,7 @@ module _ (A : Arithmetic) (words : List ℕ) (sheet : Sheet) (starts seeds : Lis
         (sameStop row (ap (λ r. r .number) says) (ap (λ r. r .place) says)
         (stop-names-its-row A _ (linesOf (tableOf sheet)) (suc (stepsOf (tableOf sheet))) (startOf A sheet starts) row (stop .origin) (stop .why) e))
 
-    pub answers-like-all-saved : (valueRoom turnRoom : ℕ) → Room A every sheet valueRoom turnRoom
+    pub answers-like-all-saved : (valueRoom turnRoom : ℕ) → StackRoom A every sheet valueRoom turnRoom
         → AnswersLike A sheet starts seeds before answer (runSaving A every sheet starts seeds valueRoom turnRoom)
     answers-like-all-saved valueRoom turnRoom all =
         let stacks = ready .lengths .stacks in
@@ -84,7 +84,7 @@ demand-two A words sheet accepted =
 
 -- ---- of the code
 
-pub run-meets : (A : Arithmetic) (words : List ℕ) (starts seeds : List (A .Carrier)) (before after : Lent A) (answer : Answer)
+pub run-meets : (A : Arithmetic) (words : List ℕ) (starts seeds : List (A .Carrier)) (before after : Lent A) (answer : Reply)
     → ranOf A answer after ≡ run A words starts seeds before → RunMeets A words starts seeds before (ranOf A answer after)
 run-meets A words starts seeds before after answer contract =
     record {
@@ -92,7 +92,7 @@ run-meets A words starts seeds before after answer contract =
       allSaved = λ sheet ready. answers-like-all-saved A words sheet starts seeds before ready _ contract;
     }
 
-pub audit-meets : (words starts seeds : List ℕ) (before after : Lent residues) (answer : Answer) → ((x : ℕ) → getD seeds x 0 < modulus)
+pub audit-meets : (words starts seeds : List ℕ) (before after : Lent residues) (answer : Reply) → ((x : ℕ) → getD seeds x 0 < modulus)
     → ranOf residues answer after ≡ run residues words starts seeds before → AuditMeets words starts seeds before (ranOf residues answer after)
 audit-meets words starts seeds before after answer below contract =
     record {

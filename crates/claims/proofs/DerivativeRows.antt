@@ -23,16 +23,16 @@ use Rattle.claims.proofs.Stores.{same-default, at-known, at-first-part,
 -- ---- rows that work on the adjoints
 
 -- an original within the use, or an adjoint, t or u
-abbrev pub Readable : (variables : ℕ) → VariableSet → ℕ → Type 0
-Readable v needed i = ((i < v) × T (has needed i)) ⊎ ((v ≤ i) × (i < tableVariables v))
+abbrev pub MayRead : (variables : ℕ) → VariableSet → ℕ → Type 0
+MayRead v needed i = ((i < v) × T (has needed i)) ⊎ ((v ≤ i) × (i < tableVariables v))
 
 abbrev pub SourceReadable : (variables : ℕ) → VariableSet → Source → Type 0
-SourceReadable v needed (copy a) = Readable v needed a
+SourceReadable v needed (copy a) = MayRead v needed a
 SourceReadable v needed (fixed c) = ⊥
-SourceReadable v needed (sum a b) = Readable v needed a × Readable v needed b
-SourceReadable v needed (difference a b) = Readable v needed a × Readable v needed b
-SourceReadable v needed (product a b) = Readable v needed a × Readable v needed b
-SourceReadable v needed (negation a) = Readable v needed a
+SourceReadable v needed (sum a b) = MayRead v needed a × MayRead v needed b
+SourceReadable v needed (difference a b) = MayRead v needed a × MayRead v needed b
+SourceReadable v needed (product a b) = MayRead v needed a × MayRead v needed b
+SourceReadable v needed (negation a) = MayRead v needed a
 
 abbrev pub OnAdjoints : (variables : ℕ) → VariableSet → Action → Type 0
 OnAdjoints v needed (assign (d ≔ source)) = (v ≤ d) × (d < tableVariables v) × SourceReadable v needed source
@@ -72,11 +72,11 @@ module _ (A : Arithmetic) where
     -- ---- one store
 
     module _ (needed : VariableSet) (originals adjoints : List (A .Carrier)) (n : length originals ≡ v) (m : AdjointSize v adjoints) where
-      readable-known : (i : ℕ) → Readable v needed i → (x : A .Carrier) × (getElem? (originals ++ adjoints) i ≡ some x)
+      readable-known : (i : ℕ) → MayRead v needed i → (x : A .Carrier) × (getElem? (originals ++ adjoints) i ≡ some x)
       readable-known i (inl h) = at-known (originals ++ adjoints) i (omega (arith, h .0, store-size originals adjoints n m))
       readable-known i (inr h) = at-known (originals ++ adjoints) i (omega (arith, h .1, store-size originals adjoints n m))
 
-      both-ready : (f : A .Carrier → A .Carrier → Outcome (A .Carrier) (A .Why)) (a b : ℕ) → Readable v needed a → Readable v needed b
+      both-ready : (f : A .Carrier → A .Carrier → Outcome (A .Carrier) (A .Why)) (a b : ℕ) → MayRead v needed a → MayRead v needed b
           → Ready (look (originals ++ adjoints) a >>= λ x. look (originals ++ adjoints) b >>= λ y. fromOutcome (f x y))
       both-ready f a b p q =
           let x = readable-known a p in
@@ -104,7 +104,7 @@ module _ (A : Arithmetic) where
 
     module _ (needed : VariableSet) (originals others adjoints : List (A .Carrier)) (n : length originals ≡ v) (k : length others ≡ v)
         (agree : Agree originals others needed) where
-      same-at : (i : ℕ) → Readable v needed i → getElem? (originals ++ adjoints) i ≡ getElem? (others ++ adjoints) i
+      same-at : (i : ℕ) → MayRead v needed i → getElem? (originals ++ adjoints) i ≡ getElem? (others ++ adjoints) i
       same-at i (inl h) =
           at-first-part originals adjoints i (omega (arith, h .0)) ∙ agree i (h .1) ∙ sym (at-first-part others adjoints i (omega (arith, h .0)))
       same-at i (inr h) = at-adjoint originals adjoints i n (h .0) ∙ sym (at-adjoint others adjoints i k (h .0))
@@ -119,7 +119,7 @@ module _ (A : Arithmetic) where
       same-evaluated constants (product a b) p = rw (same-at a (p .0), same-at b (p .1))
       same-evaluated constants (negation a) p = rw (same-at a p)
 
-      same-original : (i : ℕ) → Readable v needed i → originalAt A v i (originals ++ adjoints) ≡ originalAt A v i (others ++ adjoints)
+      same-original : (i : ℕ) → MayRead v needed i → originalAt A v i (originals ++ adjoints) ≡ originalAt A v i (others ++ adjoints)
       same-original i h = ap (λ x. cond (ltb i v) (x ∷ []) []) (same-default (originals ++ adjoints) (others ++ adjoints) i (A .zero) (same-at i h))
 
       -- what a row is noted to read

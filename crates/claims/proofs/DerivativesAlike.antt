@@ -25,7 +25,7 @@ use Rattle.machine.specs.RowReads.{Entry, isDerivative, readsOf, entryIf, noted
 use Rattle.claims.specs.IdealSweep.{derivedBy}
 use Rattle.claims.specs.ReadLog.{derivedLog}
 use Rattle.claims.proofs.Accounts.{Account, account, Same, derived, inTurn, noting, stopping, nothing-more, noting-more, in-turn-same}
-use Rattle.claims.proofs.DerivativeRows.{Readable, OnAdjoints, Agree, AdjointSize, Does, Halts, Alike, bothDo, bothHalt, same-reads, row-alike}
+use Rattle.claims.proofs.DerivativeRows.{MayRead, OnAdjoints, Agree, AdjointSize, Does, Halts, Alike, bothDo, bothHalt, same-reads, row-alike}
 
 -- ---- rows in a list
 
@@ -67,23 +67,23 @@ module _ (v : ℕ) (needed : VariableSet) where
 
 -- an adjoint, t and u can be read and written
 module _ (v : ℕ) (needed : VariableSet) where
-  reads-adjoint : (i : ℕ) → i < v → Readable v needed (adjointOf v i)
+  reads-adjoint : (i : ℕ) → i < v → MayRead v needed (adjointOf v i)
   reads-adjoint i h = inr (omega arith, omega arith)
 
-  reads-t : Readable v needed (t v)
+  reads-t : MayRead v needed (t v)
   reads-t = inr (omega arith, omega arith)
 
-  reads-u : Readable v needed (u v)
+  reads-u : MayRead v needed (u v)
   reads-u = inr (omega arith, omega arith)
 
-  reads-original : (i : ℕ) → i < v → T (has needed i) → Readable v needed i
+  reads-original : (i : ℕ) → i < v → T (has needed i) → MayRead v needed i
   reads-original i h m = inl (h, m)
 
   -- into an adjoint, from itself and t or u
-  into : (i x : ℕ) → i < v → Readable v needed x → OnAdjoints v needed (assign (adjointOf v i ≔ sum (adjointOf v i) x))
+  into : (i x : ℕ) → i < v → MayRead v needed x → OnAdjoints v needed (assign (adjointOf v i ≔ sum (adjointOf v i) x))
   into i x h r = (omega arith, omega arith, (reads-adjoint i h, r))
 
-  from-it : (i x : ℕ) → i < v → Readable v needed x → OnAdjoints v needed (assign (adjointOf v i ≔ difference (adjointOf v i) x))
+  from-it : (i x : ℕ) → i < v → MayRead v needed x → OnAdjoints v needed (assign (adjointOf v i ≔ difference (adjointOf v i) x))
   from-it i x h r = (omega arith, omega arith, (reads-adjoint i h, r))
 
   scaling : (i : ℕ) → i < v → T (has needed i) → OnAdjoints v needed (assign (u v ≔ product i (t v)))

@@ -113,8 +113,8 @@ module _ (known : ℕ → Assignment → Activity) (saved : ℕ → Assignment �
       memory now = memoryWith A saved copied (now .store) tail now
 
       -- room on both stacks for what is still to come
-      abbrev Room : Progress A → (values turns : ℕ) → Type 0
-      Room now values turns =
+      abbrev RoomLeft : Progress A → (values turns : ℕ) → Type 0
+      RoomLeft now values turns =
           (length (savedValues A saved (now .trace)) + values ≤ setting .valueRoom) × (length (now .turns) + turns ≤ setting .turnRoom)
 
       assigned : (rest : Table) (p d : ℕ) (source : Source) (now : Progress A) (values : List (A .Carrier)) → length (now .store) ≡ setting .variables
@@ -216,7 +216,7 @@ module _ (known : ℕ → Assignment → Activity) (saved : ℕ → Assignment �
 
       -- The forward part executes the sheet: it comes to where the execution comes to, or stops where it stops.
       pub forward-executes : (t : Tree Assignment Test) (p : ℕ) (now : Progress A) (rest : Table) → Present (setting .variables) k t
-          → length (now .store) ≡ setting .variables → Room now (valuesNeeded (body t p)) (turnsNeeded (body t p))
+          → length (now .store) ≡ setting .variables → RoomLeft now (valuesNeeded (body t p)) (turnsNeeded (body t p))
           → tableRun A setting (forwardPart (body t p) rest) (memory now)
           ≡ (executed A (setting .constants) t p now >>= λ m. tableRun A setting rest (memory m))
       unfolding numbered forwardPart executed valuesNeeded turnsNeeded Present tableRun

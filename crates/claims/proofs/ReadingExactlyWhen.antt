@@ -14,7 +14,7 @@ use Rattle.sheet.specs.LongestRun.{longestRun}
 use Rattle.sheet.specs.Reading.{Sheet, unless, rolesFit, read}
 use Rattle.sheet.proofs.Judgements.{Tells, leb-tells, unmet, judged, _andThen_, after-given, after-refused}
 use Rattle.sheet.proofs.Settled.{Settled}
-use Rattle.sheet.proofs.ReadingExact.{body-rows, only-body}
+use Rattle.sheet.proofs.TreeOfRows.{body-rows, only-body}
 use Rattle.claims.specs.ExactlyWhen.{Section, variables, constants, rows, constantCount, firstItem, sheetRows, afterRows, InOrder, Reached, RowsReached, NothingLeft, ReadingRefuses, countMissing, itemsMissing, wordsAfterRows, countOutOfRange, roleTooGreat, rowSaysNothing, blockWrong, neverClosed, runTooLong, Read}
 use Rattle.claims.proofs.SectionsJudged.{SomeRule, countOf, count-missing, count-beyond, items-missing, count-given, count-judged, roleWords, roles-fit, role-refused, roles-judged}
 use Rattle.claims.proofs.RowsJudged.{bodyRead, rows-judged, says-nothing, cannot-be-taken, never-closed, all-closed}

@@ -18,7 +18,7 @@ use Rattle.machine.specs.InTheLarge.{Stop}
 use Rattle.run.specs.Calls.{Lent, Ran, settingOf, independentAdjoints, resultOf, lentAfter, ranTo, run}
 use Rattle.claims.specs.ExactlyWhen.{Runnable}
 use Rattle.claims.specs.IdealSweep.{Ideal, ideal}
-use Rattle.claims.specs.WholeRun.{runSaving, Room, Matches, SameOutcome, bothEnd, bothStop}
+use Rattle.claims.specs.WholeRun.{runSaving, StackRoom, Matches, SameOutcome, bothEnd, bothStop}
 use Rattle.claims.proofs.IdealRooms.{ideal-in-any-room}
 use Rattle.claims.proofs.StartExactlyWhen.{accepted-to-run, started}
 use Rattle.claims.proofs.WholeRunMatches.{run-matches, own-run-matches}
@@ -98,7 +98,7 @@ module _ (A : Arithmetic) where
 
   pub saved-rows-same : (words : List ℕ) (sheet : Sheet) → read words ≡ given sheet → (choice choice′ : RowNumber → Bool)
       → (starts seeds : List (A .Carrier)) → length starts ≡ variablesOf sheet → (values turns values′ turns′ : ℕ)
-      → Room A choice sheet values turns → Room A choice′ sheet values′ turns′
+      → StackRoom A choice sheet values turns → StackRoom A choice′ sheet values′ turns′
       → SameOutcome A (variablesOf sheet) (runSaving A choice sheet starts seeds values turns) (runSaving A choice′ sheet starts seeds values′ turns′)
   saved-rows-same words sheet accepted choice choice′ starts seeds n values turns values′ turns′ room room′ =
       let first = run-matches A words sheet accepted starts seeds n choice values turns room in

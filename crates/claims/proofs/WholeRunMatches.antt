@@ -16,7 +16,7 @@ use Rattle.machine.specs.Machine.{Ending}
 use Rattle.run.specs.Calls.{settingOf, startOf, runOf}
 use Rattle.claims.specs.IdealSweep.{ideal}
 use Rattle.claims.specs.SavedRows.{alsoSaving, recordedIn}
-use Rattle.claims.specs.WholeRun.{runSaving, Room, Matches}
+use Rattle.claims.specs.WholeRun.{runSaving, StackRoom, Matches}
 use Rattle.claims.proofs.Forward.{body}
 use Rattle.claims.proofs.RunInTheLarge.{knownIn, marksOf, matches-ideal}
 
@@ -58,7 +58,7 @@ as-it-is (again n a k) = rw (as-it-is a, as-it-is k)
 
 module _ (A : Arithmetic) (sheet : Sheet) where
   pub own-room : (valueRoom turnRoom : ℕ) → valuesNeeded (marked sheet) ≤ valueRoom → turnsNeeded (marked sheet) ≤ turnRoom
-      → Room A noFurther sheet valueRoom turnRoom
+      → StackRoom A noFurther sheet valueRoom turnRoom
   own-room valueRoom turnRoom values turns = record { values = rw (as-it-is (marked sheet)) values; turns = rw (as-it-is (marked sheet)) turns }
 
   pub own-run : (starts seeds : List (A .Carrier)) (valueRoom turnRoom : ℕ)
@@ -74,7 +74,7 @@ module _ (A : Arithmetic) (words : List ℕ) (sheet : Sheet) (accepted : read wo
   abbrev Like : (valueRoom turnRoom : ℕ) → Ending A → Type 0
   Like valueRoom turnRoom = Matches A (variablesOf sheet) (ideal A sheet (settingOf A sheet seeds valueRoom turnRoom) starts)
 
-  pub run-matches : (choice : RowNumber → Bool) (valueRoom turnRoom : ℕ) → Room A choice sheet valueRoom turnRoom
+  pub run-matches : (choice : RowNumber → Bool) (valueRoom turnRoom : ℕ) → StackRoom A choice sheet valueRoom turnRoom
       → Like valueRoom turnRoom (runSaving A choice sheet starts seeds valueRoom turnRoom)
   unfolding runSaving markBy
   run-matches choice valueRoom turnRoom room =

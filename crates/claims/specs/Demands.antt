@@ -18,7 +18,7 @@ use Rattle.table.specs.Adjoint.{targetOf, tableOf}
 use Rattle.table.specs.Sizes.{valuesFor, turnsFor}
 use Rattle.table.specs.Calls.{checkedSaid, check, writtenOf, write}
 use Rattle.table.specs.declared.Checked as declared
-use Rattle.table.specs.declared.Answer.{Answer}
+use Rattle.table.specs.declared.Reply.{Reply}
 use Rattle.machine.specs.Attempts.{through, halted}
 use Rattle.machine.specs.Actions.{Memory, Setting, acted}
 use Rattle.machine.specs.Machine.{State, Step, goesOn, sticks, stateAfter, stepsOf, Ending, finished, stoppedAt}
@@ -31,7 +31,7 @@ use Rattle.claims.specs.IdealSweep.{firstAdjoints, ideal}
 use Rattle.claims.specs.ReadLog.{sweptLog}
 use Rattle.claims.specs.EquationTwo.{Instance, valueNo, EquationTwo, Solvable}
 use Rattle.claims.specs.SavedRows.{every, savedValues, recordedIn}
-use Rattle.claims.specs.WholeRun.{runSaving, Room, Matches, SameOutcome}
+use Rattle.claims.specs.WholeRun.{runSaving, StackRoom, Matches, SameOutcome}
 
 -- ---- demand 1
 
@@ -39,9 +39,9 @@ use Rattle.claims.specs.WholeRun.{runSaving, Room, Matches, SameOutcome}
 -- document 01 says, and what each lent buffer then holds is fixed there.": of whatever a call's contract lets it answer and leave behind
 pub record DemandOne (A : Arithmetic) : Type 0 where
   pub checks : (words : List ℕ) (answer : declared.Checked) → checkedSaid answer ≡ check words → CheckExactly words (checkedSaid answer)
-  pub writes : (words before after : List ℕ) (answer : Answer) → writtenOf answer after ≡ write words before
+  pub writes : (words before after : List ℕ) (answer : Reply) → writtenOf answer after ≡ write words before
       → WriteExactly words before (writtenOf answer after)
-  pub runs : (words : List ℕ) (starts seeds : List (A .Carrier)) (before after : Lent A) (answer : Answer)
+  pub runs : (words : List ℕ) (starts seeds : List (A .Carrier)) (before after : Lent A) (answer : Reply)
       → ranOf A answer after ≡ run A words starts seeds before → RunExactly A words starts seeds before (ranOf A answer after)
 
 -- ---- demand 2
@@ -83,7 +83,7 @@ module _ (A : Arithmetic) (sheet : Sheet) (starts seeds : List (A .Carrier)) whe
   abbrev pub SameAsAllSaved : Type 0
   SameAsAllSaved =
       (values turns allValues allTurns : ℕ) → valuesFor sheet ≤ values → turnsFor sheet ≤ turns
-      → Room A every sheet allValues allTurns
+      → StackRoom A every sheet allValues allTurns
       → SameOutcome A (variablesOf sheet) (sheetRun A sheet starts seeds values turns)
       (runSaving A every sheet starts seeds allValues allTurns)
 
@@ -100,20 +100,20 @@ module _ (A : Arithmetic) (sheet : Sheet) (starts seeds : List (A .Carrier)) whe
 pub record DemandTwo (A : Arithmetic) (words : List ℕ) (sheet : Sheet) : Type 0 where
   pub sets : LeastSets sheet
   -- "the adjoint table is exactly the one 01's rules give"
-  pub table : (before after : List ℕ) (answer : Answer) → writtenOf answer after ≡ write words before → Writable words before sheet
+  pub table : (before after : List ℕ) (answer : Reply) → writtenOf answer after ≡ write words before → Writable words before sheet
       → StartsWith (tableWords (tableOf sheet)) before after
-  pub audit : (starts seeds : List ℕ) (before after : Lent residues) (answer : Answer) → Runnable residues words starts seeds before sheet
+  pub audit : (starts seeds : List ℕ) (before after : Lent residues) (answer : Reply) → Runnable residues words starts seeds before sheet
       → ((x : ℕ) → x < variablesOf sheet → getD seeds x 0 < modulus) → ranOf residues answer after ≡ run residues words starts seeds before
       → AuditSolves sheet starts seeds (ranOf residues answer after)
-  pub allSaved : (starts seeds : List (A .Carrier)) (before after : Lent A) (answer : Answer) → Runnable A words starts seeds before sheet
-      → ranOf A answer after ≡ run A words starts seeds before → (valueRoom turnRoom : ℕ) → Room A every sheet valueRoom turnRoom
+  pub allSaved : (starts seeds : List (A .Carrier)) (before after : Lent A) (answer : Reply) → Runnable A words starts seeds before sheet
+      → ranOf A answer after ≡ run A words starts seeds before → (valueRoom turnRoom : ℕ) → StackRoom A every sheet valueRoom turnRoom
       → AnswersLike A sheet starts seeds before (ranOf A answer after) (runSaving A every sheet starts seeds valueRoom turnRoom)
 
 -- demands 1 and 2 of what a run answered: the contracts of src/lib.rt
 pub record RunMeets (A : Arithmetic) (words : List ℕ) (starts seeds : List (A .Carrier)) (before : Lent A) (ran : Ran A) : Type 0 where
   pub exactly : RunExactly A words starts seeds before ran
   pub allSaved : (sheet : Sheet) → Runnable A words starts seeds before sheet → (valueRoom turnRoom : ℕ)
-      → Room A every sheet valueRoom turnRoom
+      → StackRoom A every sheet valueRoom turnRoom
       → AnswersLike A sheet starts seeds before ran (runSaving A every sheet starts seeds valueRoom turnRoom)
 
 pub record AuditMeets (words starts seeds : List ℕ) (before : Lent residues) (ran : Ran residues) : Type 0 where

@@ -27,7 +27,7 @@ module _ (A : Arithmetic) where
       (startOf A sheet starts)
 
   -- at least the sizes that 01 computes, every saved row counted
-  pub record Room (choice : RowNumber → Bool) (sheet : Sheet) (valueRoom turnRoom : ℕ) : Type 0 where
+  pub record StackRoom (choice : RowNumber → Bool) (sheet : Sheet) (valueRoom turnRoom : ℕ) : Type 0 where
     pub values : valuesNeeded (alsoSaving choice (marked sheet)) ≤ valueRoom
     pub turns : turnsNeeded (alsoSaving choice (marked sheet)) ≤ turnRoom
 

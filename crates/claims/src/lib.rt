@@ -13,7 +13,7 @@ fn check(words: &[u16]) -> table::Checked
     table::check(words)
 }
 
-fn write(words: &[u16], table: &mut [u16]) -> table::Answer
+fn write(words: &[u16], table: &mut [u16]) -> table::Reply
     ensures { λ r. ⌜ WriteExactly (now (words .entry)) (now (table .entry)) (writtenOf r (now (table .exit))) ⌝ }
 {
     writer::write(words, table)
@@ -27,7 +27,7 @@ fn run_double(
     starts: &[f64],
     seeds: &[f64],
     result: &mut [f64],
-) -> table::Answer
+) -> table::Reply
     ensures { λ r. ⌜ RunMeets doubles (now (words .entry)) (now (starts .entry)) (now (seeds .entry))
         (lentOf doubles (now (table .entry)) (now (values .entry)) (now (turns .entry)) (now (result .entry)))
         (ranOf doubles r (lentOf doubles (now (table .exit)) (now (values .exit)) (now (turns .exit)) (now (result .exit)))) ⌝ }
@@ -43,7 +43,7 @@ fn run_audit(
     starts: &[u32],
     seeds: &[u32],
     result: &mut [u32],
-) -> table::Answer
+) -> table::Reply
     ensures { λ r. ⌜ AuditMeets (now (words .entry)) (now (starts .entry)) (now (seeds .entry))
         (lentOf residues (now (table .entry)) (now (values .entry)) (now (turns .entry)) (now (result .entry)))
         (ranOf residues r (lentOf residues (now (table .exit)) (now (values .exit)) (now (turns .exit)) (now (result .exit)))) ⌝ }

@@ -12,7 +12,7 @@ ghost use Rattle.table.specs.TableRows.{save, takeBack};
 ghost use Rattle.machine.specs.inner.RowAnswers.{whetherDid};
 ghost use Rattle.machine.specs.Attempts.{fromOutcome};
 ghost use Rattle.machine.specs.inner.Buffers.{cellsOf, Evaluates, EvaluatesFixed, Assigns, Clears, MovesValues, Compares, TurnsRound};
-ghost use Rattle.machine.specs.inner.Runnable.{Indexed, Indexes};
+ghost use Rattle.machine.specs.inner.RowsHanded.{Indexed, Indexes};
 ghost use Rattle.machine.specs.inner.RowWords.{actionOf, Named};
 ghost use Rattle.machine.specs.inner.RowSteps.{ActsBy, StraightRow, Peeks, PeeksOn, BlockRow};
 ghost use Rattle.machine.specs.inner.RunsRows.{RunsRows};

@@ -1,5 +1,5 @@
 // A run in doubles, on their bits.
-use table::Answer;
+use table::Reply;
 use text::fields::MAX_FIELDS;
 use text::heads::Asked;
 use text::lend;
@@ -36,7 +36,7 @@ pub fn run_doubles(
     starts: &[u64],
     seeds: &[u64],
     result: &mut [u64; PLACES],
-) -> Answer {
+) -> Reply {
     let mut value_cells = [0.0f64; PLACES];
     let mut start_cells = [0.0f64; MAX_FIELDS];
     let mut seed_cells = [0.0f64; MAX_FIELDS];

@@ -1,6 +1,6 @@
 // What must stand in the lent buffers after a call.
 use run::NOT_FINITE_RESULT;
-use table::Answer;
+use table::Reply;
 use text::lend;
 use text::lend::PLACES;
 use text::lend::TABLE_WORDS;
@@ -28,7 +28,7 @@ pub fn printed(number: u16, asked: u64) -> usize {
 }
 
 // `writer::write` into the start of a buffer.
-pub fn write_lent(words: &[u16], room: u64, table: &mut [u16]) -> Answer {
+pub fn write_lent(words: &[u16], room: u64, table: &mut [u16]) -> Reply {
     let count = lend::lent(room, table.len());
     writer::write(words, &mut table[..count])
 }

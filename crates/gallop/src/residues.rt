@@ -1,5 +1,5 @@
 // A run in residues, on numbers of 64 bits. `doubles` is a module of the same shape, since Rattle has no generics.
-use table::Answer;
+use table::Reply;
 use text::fields::MAX_FIELDS;
 use text::heads::Asked;
 use text::lend;
@@ -36,7 +36,7 @@ pub fn run_residues(
     starts: &[u64],
     seeds: &[u64],
     result: &mut [u64; PLACES],
-) -> Answer {
+) -> Reply {
     let mut value_cells = [0u32; PLACES];
     let mut start_cells = [0u32; MAX_FIELDS];
     let mut seed_cells = [0u32; MAX_FIELDS];

@@ -5,7 +5,7 @@ use super::answers::MAX_ANSWER;
 use super::doubles;
 use super::kept;
 use super::residues;
-use table::Answer;
+use table::Reply;
 use text::fields;
 use text::fields::Form;
 use text::fields::Group;
@@ -41,7 +41,7 @@ fn pattern_of(arithmetic: Arithmetic) -> u64 {
 
 fn put_result(
     out: &mut [u8; MAX_ANSWER],
-    answer: Answer,
+    answer: Reply,
     form: Form,
     result: &[u64; PLACES],
     shown: usize,
@@ -64,7 +64,7 @@ fn run_lent(
     starts: &[u64],
     seeds: &[u64],
     result: &mut [u64; PLACES],
-) -> Answer {
+) -> Reply {
     let room = lend::lent(asked.room, table.len());
     let for_turns = lend::lent(asked.turns, turns.len());
     let lent_table = &mut table[..room];

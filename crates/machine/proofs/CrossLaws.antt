@@ -21,7 +21,7 @@ use Rattle.machine.specs.Actions.{Setting, verdictOn}
 use Rattle.machine.specs.Machine.{itsElse, itsEnd, oneMore, seek, Repeat, State, Step, step, stepAt, goTo, jump, afterTest, afterTurn}
 use Rattle.machine.specs.inner.RowAnswers.{branchOf, turnOf, heightBranched}
 use Rattle.machine.specs.inner.Buffers.{Buffers, memoryOf, Sound, Tests, Compares, TakesTurn}
-use Rattle.machine.specs.inner.Runnable.{Indexes, Reached, Jumps}
+use Rattle.machine.specs.inner.RowsHanded.{Indexes, Arrives, Jumps}
 use Rattle.machine.specs.inner.RowSteps.{stuckThere, Opened, Opens, Closes, JumpsTo, BranchesTo, TurnsTo, CrossedLeft, CrossedSays, BlockRow, CrossesBy}
 use Rattle.machine.specs.inner.RowSteps.{buffersAt, stateAt, raised, within, moved, following, preceding, MeetsRow, MeetsCompare, Meets, Stays, Blocked}
 use Rattle.machine.specs.inner.Buffers.{Cells, cellsOf}
@@ -158,7 +158,7 @@ module _ {A : Arithmetic} where
     -- a jump over as many lines as a search finds
     jumps-there : {beyond : List ℕ} (from : Place) (search-found : Option ℕ)
         → from .left ≡ next .left
-        → Reached (oneMore search-found) at (getD beyond at 0)
+        → Arrives (oneMore search-found) at (getD beyond at 0)
         → JumpsTo beyond at from answer
         → Opened (from .depth) bodies toCome repeats
         → Sound A setting (buffersAt A from after held)

@@ -19,7 +19,7 @@ use Rattle.table.specs.TableRows.{assign}
 use Rattle.machine.specs.Attempts.{through, fromOutcome}
 use Rattle.machine.specs.inner.Buffers.{cellsOf, Evaluates}
 use Rattle.machine.specs.inner.RowWords.{actionOf, Named}
-use Rattle.machine.specs.inner.Runnable.{Indexes}
+use Rattle.machine.specs.inner.RowsHanded.{Indexes}
 use Rattle.machine.specs.inner.RowSteps.{MeetsRow, MeetsKind, ActsBy, StraightRow, Peeks, PeeksOn}
 use Rattle.machine.specs.declared.Place.{Place}
 use Rattle.machine.specs.declared.Ahead.the-variants as ahead

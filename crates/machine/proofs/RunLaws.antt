@@ -12,7 +12,7 @@ use Rattle.table.specs.TableRows.{TableLine}
 use Rattle.machine.specs.Actions.{Memory, Setting}
 use Rattle.machine.specs.Machine.{Repeat, State, Step, goesOn, ended, stops, sticks, step, ifItGoesOn, stateAfter}
 use Rattle.machine.specs.inner.Buffers.{Buffers, Cells, cellsOf, memoryOf, Sound, RoundSizes}
-use Rattle.machine.specs.inner.Runnable.{Shallow, Indexed, Indexes}
+use Rattle.machine.specs.inner.RowsHanded.{Shallow, Indexed, Indexes}
 use Rattle.machine.specs.inner.RowSteps.{Nested, Opened, Reaches, firstPlace, leftAt, buffersAt, stateAt, CopiesOn, Stays, StopsAt, Blocked, GoesTo, StepsStraight, StraightRow, Peeks, PeeksOn, CrossedSays, BlockRow}
 use Rattle.machine.specs.inner.RunsRows.{firstState, Handed, AfterSteps, LeavesBy, Leaves, RunsRows}
 use Rattle.machine.specs.declared.Place.{Place}

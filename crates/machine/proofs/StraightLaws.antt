@@ -24,7 +24,7 @@ use Rattle.machine.specs.inner.RowAnswers.{whetherWent, whetherDid, whet
 use Rattle.machine.specs.Machine.{Repeat, Step, step, stepAt, afterAction, goTo}
 use Rattle.machine.specs.inner.Buffers.{Buffers, Cells, cellsOf, memoryOf, Sound, Does, Assigns, MovesValues, SavesTurn, Clears, RoundSizes, TurnsRound}
 use Rattle.machine.specs.inner.RowWords.{actionOf}
-use Rattle.machine.specs.inner.Runnable.{Holds, Suits}
+use Rattle.machine.specs.inner.RowsHanded.{Holds, Suits}
 use Rattle.machine.specs.inner.RowSteps.{buffersAt, stateAt, raised, following, actedBy, wentTo, didTo, valuesTo, turnsTo, NoneStraight, ActedLeft, ActedAt, CopiesOn, Acts, ActsBy, ActedSays, Stays, Blocked, StepsStraight, StraightRow}
 use Rattle.machine.specs.declared.Place.{Place}
 use Rattle.machine.specs.declared.Went.{Went}

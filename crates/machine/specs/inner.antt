@@ -4,6 +4,6 @@
 pub mod RowAnswers
 pub mod Buffers
 pub mod RowWords
-pub mod Runnable
+pub mod RowsHanded
 pub mod RowSteps
 pub mod RunsRows

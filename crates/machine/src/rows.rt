@@ -5,7 +5,7 @@ ghost use lib.ListN.{length};
 ghost use Rattle.sheet.specs.Bounds.{limit};
 ghost use Rattle.sheet.specs.Reading.{rowAt};
 ghost use Rattle.sheet.specs.Answers.{rowSaid};
-ghost use Rattle.machine.specs.inner.Runnable.{placeOfRow};
+ghost use Rattle.machine.specs.inner.RowsHanded.{placeOfRow};
 ghost use Rattle.machine.specs.inner.RowSteps.{Meets, MeetsKind, Reaches};
 use super::Ended;
 use super::Expected;

@@ -10,7 +10,7 @@ ghost use Rattle.sheet.specs.Rows.{copy, sum, difference, product, negation, is
 ghost use Rattle.table.specs.TableRows.{save, takeBack};
 ghost use Rattle.machine.specs.inner.RowAnswers.{whetherWent};
 ghost use Rattle.machine.specs.inner.Buffers.{cellsOf, Evaluates, EvaluatesFixed, Assigns, Clears, MovesValues, Compares, TurnsRound};
-ghost use Rattle.machine.specs.inner.Runnable.{Indexed, Indexes};
+ghost use Rattle.machine.specs.inner.RowsHanded.{Indexed, Indexes};
 ghost use Rattle.machine.specs.inner.RowWords.{actionOf, Named};
 ghost use Rattle.machine.specs.Attempts.{through};
 ghost use Rattle.machine.specs.inner.RowSteps.{ActsBy, StraightRow, BlockRow};

@@ -14,7 +14,7 @@ use Rattle.sets.specs.Marks.{marked}
 use Rattle.table.specs.TableRows.{linesOf, tableVariables}
 use Rattle.table.specs.Adjoint.{tableOf}
 use Rattle.table.specs.Calls.{overwritten}
-use Rattle.table.specs.declared.Answer.{Answer}
+use Rattle.table.specs.declared.Reply.{Reply}
 use Rattle.machine.specs.Attempts.{through, halted, stuck}
 use Rattle.machine.specs.Actions.{Memory, Setting}
 use Rattle.machine.specs.Machine.{Ending, finished}
@@ -170,7 +170,7 @@ module _ (A : Arithmetic) where
 
     -- from each step of a call's run to what it comes to
     pub comes-to : (buffer : List ℕ) {store cleared : List (A .Carrier)} {clearedTurns : List ℕ} (after : Cells A) {bodies toCome : List ℕ} (ran : Ran)
-        {answer : Answer} {valuesAfter : List (A .Carrier)} {turnsAfter : List ℕ} {left : List (A .Carrier)}
+        {answer : Reply} {valuesAfter : List (A .Carrier)} {turnsAfter : List ℕ} {left : List (A .Carrier)}
         → store ≡ overwritten starts before
         → StacksCleared A values turns cleared clearedTurns
         → RunsRows A table rows beyond roles constants seeds enoughSteps (cellsOf A store cleared clearedTurns copied) after bodies toCome ran

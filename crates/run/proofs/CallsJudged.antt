@@ -16,13 +16,13 @@ use Rattle.table.specs.Sizes.{mostTableRows}
 use Rattle.table.specs.Calls.{readFor}
 use Rattle.writer.specs.inner.JumpsNoted.{TableNoted}
 use Rattle.table.specs.inner.Plans.{PlanMade}
-use Rattle.table.specs.declared.Answer as answered
+use Rattle.table.specs.declared.Reply as answered
 use Rattle.table.specs.declared.Plan.{Plan}
 use Rattle.run.specs.Calls.{Lent, allAdmitted, readToRun, ranOn, run, lentOf, ranOf}
 use Rattle.run.specs.declared.Rooms.{Rooms}
 use Rattle.run.specs.declared.Fit.{Fit}
 use Rattle.run.specs.inner.CallSteps.{tableFits, stacksFit, roomsFit, fitSaid, readWithRoom, Answers, NoRoom, HasRoom}
-use Rattle.run.specs.inner.CallAnswers.{Written, RanTo}
+use Rattle.run.specs.inner.CallAnswers.{TableInPlace, RanTo}
 use Rattle.run.proofs.SectionLaws.{written-planned}
 
 -- what a judgement comes to, by the code's answer
@@ -32,7 +32,7 @@ said {judgement} {fit} {answer} is told = sym is ∙ ap fitSaid told
 -- ---- 1 to 10, by a plan
 
 module _ {words : List ℕ} (rooms : Rooms) where
-  pub unread : {why : Refusal} {answer : answered.Answer} → read words ≡ refused why → Answers answer why → NoRoom words rooms answer
+  pub unread : {why : Refusal} {answer : answered.Reply} → read words ≡ refused why → Answers answer why → NoRoom words rooms answer
   unfolding readWithRoom readFor
   unread {why} e answers = record { why = why; is = rw e; answers = answers }
 
@@ -44,7 +44,7 @@ module _ {words : List ℕ} (rooms : Rooms) where
         let variables = ap (λ (s : Shape). s .variables) (plans .shape) in
         rw (made .accepted, plans .rows, plans .values, plans .turns, variables) (simp bind-assoc)
 
-    pub rooms-refuse : {why : Refusal} {answer : answered.Answer} → roomsFit plan rooms ≡ refused why → Answers answer why → NoRoom words rooms answer
+    pub rooms-refuse : {why : Refusal} {answer : answered.Reply} → roomsFit plan rooms ≡ refused why → Answers answer why → NoRoom words rooms answer
     rooms-refuse {why} e answers = record { why = why; is = judged ∙ rw e; answers = answers }
 
     pub rooms-fit : roomsFit plan rooms ≡ given tt → HasRoom words rooms marks came goes plan
@@ -83,20 +83,20 @@ module _ (A : Arithmetic) (words : List ℕ) (starts seeds : List (A .Carrier)) 
   unfolding readToRun readWithRoom
   numbers-last = simp bind-assoc
 
-  pub refused-run : {answer : answered.Answer} → NoRoom words roomsOf answer → ranOf A answer lent ≡ run A words starts seeds lent
+  pub refused-run : {answer : answered.Reply} → NoRoom words roomsOf answer → ranOf A answer lent ≡ run A words starts seeds lent
   unfolding run ranOn
   refused-run refusal = rw (numbers-last, refusal .is, refusal .answers .number, refusal .answers .place)
 
   module _ {marks came goes : List ℕ} {plan : Plan} (room : HasRoom words roomsOf marks came goes plan) where
-    pub numbers-refuse : {why : Refusal} {answer : answered.Answer} → allAdmitted A (starts ++ seeds) 0 ≡ refused why → Answers answer why
+    pub numbers-refuse : {why : Refusal} {answer : answered.Reply} → allAdmitted A (starts ++ seeds) 0 ≡ refused why → Answers answer why
         → ranOf A answer lent ≡ run A words starts seeds lent
     unfolding run ranOn
     numbers-refuse e answers = rw (numbers-last, room .is, e, answers .number, answers .place)
 
     pub accepted-run : allAdmitted A (starts ++ seeds) 0 ≡ given tt → {table beyond : List ℕ}
         → ((sheet : Sheet) → read words ≡ given sheet → TableNoted sheet (lent .table) table (replicate mostTableRows 0) beyond)
-        → {answer : answered.Answer} {values : List (A .Carrier)} {turns : List ℕ} {result : List (A .Carrier)}
-        → ((sheet : Sheet) (buffer : List ℕ) → Written words plan table beyond sheet buffer
+        → {answer : answered.Reply} {values : List (A .Carrier)} {turns : List ℕ} {result : List (A .Carrier)}
+        → ((sheet : Sheet) (buffer : List ℕ) → TableInPlace words plan table beyond sheet buffer
         → RanTo A sheet buffer starts seeds (lent .values) (lent .turns) (lent .result) answer values turns result)
         → ranOf A answer (lentOf A table values turns result) ≡ run A words starts seeds lent
     unfolding run ranOn

@@ -3,13 +3,13 @@ use Prim.Native.Nat.{ℕ}
 use mathlib.Core.Path.{_≡_, sym, ap, _∙_}
 use mathlib.Core.List.{List}
 use Rattle.number.specs.Arithmetic.{Arithmetic}
-use Rattle.table.specs.declared.Answer.{Answer}
+use Rattle.table.specs.declared.Reply.{Reply}
 use Rattle.run.specs.Calls.{Lent, Ran, run, ranOf}
 
 module _ (A : Arithmetic) where
   -- an answer with what the lent buffers then hold
   pub record Left : Type 0 where
-    pub answer : Answer
+    pub answer : Reply
     pub lent : Lent A
 
   leftBy : Ran A → Left

@@ -14,7 +14,7 @@ use Rattle.table.specs.inner.MarkedRows.{rowsIn}
 use Rattle.writer.specs.declared.jumps.Branching.the-variants as branching
 use Rattle.writer.specs.inner.JumpsNoted.{Noting, noting, notedBy, branchingOf, notedOver, JumpsNoted}
 use Rattle.machine.specs.Machine.{itsElse, itsEnd, oneMore, seek}
-use Rattle.machine.specs.inner.Runnable.{Reached, Jumps}
+use Rattle.machine.specs.inner.RowsHanded.{Arrives, Jumps}
 use Rattle.writer.proofs.JumpLaws.{action-passes}
 use Rattle.machine.proofs.LinesPassed.{seek-else, seek-end}
 
@@ -149,8 +149,8 @@ module _ (xs : List ℕ) where
   abbrev JumpsAt : (p : ℕ) → List TableLine → Type 0
   JumpsAt p [] = Unit {0}
   JumpsAt p (basic b ∷ rest) = Unit {0}
-  JumpsAt p (ifLine f ∷ rest) = Reached (oneMore (seek itsElse 0 rest)) p (getD xs p 0)
-  JumpsAt p (elseLine ∷ rest) = Reached (oneMore (seek itsEnd 0 rest)) p (getD xs p 0)
+  JumpsAt p (ifLine f ∷ rest) = Arrives (oneMore (seek itsElse 0 rest)) p (getD xs p 0)
+  JumpsAt p (elseLine ∷ rest) = Arrives (oneMore (seek itsEnd 0 rest)) p (getD xs p 0)
   JumpsAt p (endIf ∷ rest) = Unit {0}
   JumpsAt p (repeat m ∷ rest) = Unit {0}
   JumpsAt p (endRepeat ∷ rest) = Unit {0}

@@ -20,7 +20,7 @@ use Rattle.machine.specs.Attempts.{Attempt, through, halted, stuck}
 use Rattle.machine.specs.Actions.{Memory, Setting, Verdict, acted, tested}
 use Rattle.machine.specs.Machine.{itsElse, itsEnd, oneMore, seek, Repeat, State, Step, goesOn, ended, stops, sticks}
 use Rattle.machine.specs.Machine.{jump, afterAction, branchTo, afterTest, afterTurn, stepAt, step, ifItGoesOn, stateAfter}
-use Rattle.machine.specs.inner.Runnable.{Shallow}
+use Rattle.machine.specs.inner.RowsHanded.{Shallow}
 use Rattle.machine.proofs.LinesStand.{Branch, Stands, stands-at, FromEach, from-each-next, from-each-end}
 use Rattle.machine.proofs.LinesPassed.{past-line, past-tree, seek-else, seek-end}
 use Rattle.run.specs.Calls.{startOf}

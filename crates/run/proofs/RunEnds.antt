@@ -18,7 +18,7 @@ use Rattle.run.proofs.MachineFollows.{endingFrom, run-step, run-on}
 
 module _ (A : Arithmetic) where
   -- the buffers hold the memory that the run finished with: the stacks up to some height, and the copies once row 17 has made them
-  pub record Finishes (start : Memory A) (after : Cells A) (ending : Ending A) : Type 0 where
+  pub record EndsFinished (start : Memory A) (after : Cells A) (ending : Ending A) : Type 0 where
     pub height : ℕ
     pub turnHeight : ℕ
     pub held : List (A .Carrier)
@@ -35,7 +35,7 @@ module _ (A : Arithmetic) where
     pub is : ending ≡ stoppedAt (record { index = row }) origin why
 
   abbrev pub EndsLike : (start : Memory A) → (after : Cells A) → Ended → Ending A → Type 0
-  EndsLike start after ended-as.Finished ending = Finishes start after ending
+  EndsLike start after ended-as.Finished ending = EndsFinished start after ending
   EndsLike start after (ended-as.Stopped row) ending = StoppedAt (row .0) ending
   EndsLike start after ended-as.Stuck ending = ending ≡ gotStuck
   EndsLike start after ended-as.Unfinished ending = ending ≡ outOfFuel

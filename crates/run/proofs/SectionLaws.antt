@@ -21,11 +21,11 @@ use Rattle.table.specs.Sizes.{tableRows, mostTableRows}
 use Rattle.writer.specs.inner.JumpsNoted.{TableNoted}
 use Rattle.table.specs.declared.Plan.{Plan}
 use Rattle.table.proofs.PlanLaws.{planned-few}
-use Rattle.machine.specs.inner.Runnable.{Holds, Indexed}
+use Rattle.machine.specs.inner.RowsHanded.{Holds, Indexed}
 use Rattle.run.proofs.JumpsRight.{jumps-right}
 use Rattle.run.specs.declared.Rooms.{Rooms}
 use Rattle.run.specs.inner.CallSteps.{HasRoom}
-use Rattle.run.specs.inner.CallAnswers.{Written, SheetRoom, Ready, RunRoom}
+use Rattle.run.specs.inner.CallAnswers.{TableInPlace, SheetRoom, Ready, RunRoom}
 use Rattle.run.proofs.TableHeld.{table-holds}
 use Rattle.run.proofs.TableNames.{table-indexed}
 
@@ -132,7 +132,7 @@ module _ (words : List ℕ) (plan : Plan) where
       ∙ length-take-le (shape .constants) (drop first words) (omega (arith, length-drop first words, room .first)) in
       rw (store, constants) indexed
 
-  pub written-indexed : {table beyond : List ℕ} {sheet : Sheet} {buffer : List ℕ} → Written words plan table beyond sheet buffer
+  pub written-indexed : {table beyond : List ℕ} {sheet : Sheet} {buffer : List ℕ} → TableInPlace words plan table beyond sheet buffer
       → Indexed table (plan .rows) (tableVariables (shape .variables)) (shape .constants)
   unfolding tableRows linesOf tableOf shapeOf
   written-indexed {table} {sheet = sheet} {buffer} written =
@@ -140,7 +140,7 @@ module _ (words : List ℕ) (plan : Plan) where
       let counted : length (linesOf (tableOf sheet)) ≡ plan .rows = lines-counted (tableOf sheet) ∙ sym (written .rows) in
       rw (sym counted, written .shape) (table-indexed words sheet (written .accepted) table holds)
 
-  pub ready-to-run : {table beyond : List ℕ} {sheet : Sheet} {buffer : List ℕ} → Written words plan table beyond sheet buffer
+  pub ready-to-run : {table beyond : List ℕ} {sheet : Sheet} {buffer : List ℕ} → TableInPlace words plan table beyond sheet buffer
       → Ready sheet rolesPart constantsPart table (plan .rows) beyond
   unfolding tableRows linesOf tableOf
   ready-to-run {table} {sheet = sheet} {buffer} written =
@@ -163,7 +163,7 @@ module _ (words : List ℕ) (plan : Plan) where
 module _ {words : List ℕ} {rooms : Rooms} {marks came goes : List ℕ} {plan : Plan} (room : HasRoom words rooms marks came goes plan)
     {buffer table beyond : List ℕ}
     (writes : (sheet : Sheet) → read words ≡ given sheet → TableNoted sheet buffer table (replicate mostTableRows 0) beyond) where
-  pub written-planned : Written words plan table beyond (room .made .sheet) buffer
+  pub written-planned : TableInPlace words plan table beyond (room .made .sheet) buffer
   unfolding tableRows tableOf
   written-planned =
       let made = room .made in

@@ -10,7 +10,7 @@ use Rattle.sheet.proofs.RowsCounted.{lines-counted}
 use Rattle.table.specs.TableRows.{Table, TableLine, tableRowOf, linesOf, wordsOf, tableWords}
 use Rattle.table.specs.Calls.{overwritten}
 use Rattle.table.proofs.TableLength.{table-words}
-use Rattle.machine.specs.inner.Runnable.{placeOfRow, Holds}
+use Rattle.machine.specs.inner.RowsHanded.{placeOfRow, Holds}
 
 row-behind : (word : ℕ) (words : List ℕ) (place : ℕ) → rowAt (word ∷ words) (suc place) ≡ rowAt words place
 unfolding rowAt

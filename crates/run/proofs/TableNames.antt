@@ -20,7 +20,7 @@ use Rattle.sets.specs.Marks.{Marked, numbered, markBy, marked, varied, useful, 
 use Rattle.table.specs.TableRows.{Table, TableLine, TableRow, Action, assign, save, takeBack, saveTurn, clear, turnRound, Operation, turning, TableTest, whether, onTurn, tableVariables, rowOfAction, rowOfTableTest, tableRowOf, linesOf}
 use Rattle.table.specs.Adjoint.{Body, put, putIf, forwardRow, forwardPart, partsOf, derivativeRows, backwardOf, backwardPart, adjointTable, tableOf}
 use Rattle.machine.specs.inner.RowWords.{actionOf, ActionPresent, Named}
-use Rattle.machine.specs.inner.Runnable.{Holds, Compared, Indexed}
+use Rattle.machine.specs.inner.RowsHanded.{Holds, Compared, Indexed}
 use Rattle.machine.proofs.LineLaws.{action-said, straight-or-not}
 use Rattle.machine.proofs.LinesStand.{FromEach, from-each-next, from-each-end}
 use Rattle.machine.proofs.StraightLaws.{stands-there, words-there}

@@ -12,7 +12,7 @@ use Rattle.table.specs.TableRows.{Table, linesOf, tableWords}
 use Rattle.table.specs.Adjoint.{tableOf}
 use Rattle.table.specs.Sizes.{valuesNeeded, turnsNeeded, valuesFor, turnsFor}
 use Rattle.table.specs.Calls.{readFor, overwritten}
-use Rattle.table.specs.declared.Answer as declared
+use Rattle.table.specs.declared.Reply as declared
 use Rattle.machine.specs.Actions.{Memory, Setting, counting}
 use Rattle.machine.specs.Machine.{State, Ending, finished, stoppedAt, gotStuck, outOfFuel, runFor, stepsOf}
 
@@ -132,5 +132,5 @@ module _ (A : Arithmetic) where
   abbrev pub lentOf : (table : List ℕ) → (values : List (A .Carrier)) → (turns : List ℕ) → (result : List (A .Carrier)) → Lent
   lentOf table values turns result = record { table = table; values = values; turns = turns; result = result }
 
-  abbrev pub ranOf : declared.Answer → Lent → Ran
+  abbrev pub ranOf : declared.Reply → Lent → Ran
   ranOf answer lent = record { number = answer .number; place = answer .place; lent = lent }

@@ -6,10 +6,10 @@ ghost use lib.ListN.{length};
 ghost use Rattle.number.specs.Residues.{residues};
 ghost use Rattle.sheet.specs.Reading.{Sheet};
 ghost use Rattle.table.specs.TableRows.{tableVariables};
-ghost use Rattle.machine.specs.inner.Runnable.{Indexed};
+ghost use Rattle.machine.specs.inner.RowsHanded.{Indexed};
 ghost use Rattle.run.specs.Calls.{run, lentOf, ranOf};
 ghost use Rattle.run.specs.inner.CallSteps.{ResultFits, resultAt};
-ghost use Rattle.run.specs.inner.CallAnswers.{StacksCleared, RunRoom, Ready, SheetRoom, Written, RanTo};
+ghost use Rattle.run.specs.inner.CallAnswers.{StacksCleared, RunRoom, Ready, SheetRoom, TableInPlace, RanTo};
 use super::Judged;
 use super::Rooms;
 use super::buffers;
@@ -18,9 +18,9 @@ use machine::Ended;
 use sheet::MAX_DEPTH;
 use sheet::MAX_ROWS;
 use sheet::MAX_VARIABLES;
-use table::Answer;
 use table::MAX_TABLE_ROWS;
 use table::Plan;
+use table::Reply;
 
 fn clear_stacks(values: &mut [u32], turns: &mut [u16])
     ensures { λ r. ⌜ StacksCleared residues (now (values .entry)) (now (turns .entry)) (now (values .exit)) (now (turns .exit)) ⌝ }
@@ -57,7 +57,7 @@ fn run_in(
     store: &mut [u32],
     copied: &mut [u32],
     result: &mut [u32],
-) -> Answer
+) -> Reply
     requires { ⌜ Indexed (now table) rows (length (now store)) (length (now constants)) ⌝ ∗ ⌜ RunRoom residues (now roles) (now starts) (now seeds) (now store) (now copied) (now result) ⌝ }
     ensures { λ r. ⌜ ((sheet : Sheet) (buffer : List ℕ)
         → Ready sheet (now (roles .entry)) (now (constants .entry)) (now (table .entry)) rows (now (beyond .entry))
@@ -100,9 +100,9 @@ fn run_written(
     starts: &[u32],
     seeds: &[u32],
     result: &mut [u32],
-) -> Answer
+) -> Reply
     requires { ⌜ Indexed (now table) (plan .rows) (tableVariables (plan .shape .variables)) (plan .shape .constants) ⌝ ∗ ⌜ SheetRoom (now words) plan (now starts) (now seeds) (now result) ⌝ }
-    ensures { λ r. ⌜ ((sheet : Sheet) (buffer : List ℕ) → Written (now (words .entry)) plan (now (table .entry)) (now (beyond .entry)) sheet buffer
+    ensures { λ r. ⌜ ((sheet : Sheet) (buffer : List ℕ) → TableInPlace (now (words .entry)) plan (now (table .entry)) (now (beyond .entry)) sheet buffer
         → RanTo residues sheet buffer (now (starts .entry)) (now (seeds .entry)) (now (values .entry)) (now (turns .entry)) (now (result .entry))
         r (now (values .exit)) (now (turns .exit)) (now (result .exit))) ⌝ }
 {
@@ -140,7 +140,7 @@ pub fn run_audit(
     starts: &[u32],
     seeds: &[u32],
     result: &mut [u32],
-) -> Answer
+) -> Reply
     ensures { λ r. ⌜ ranOf residues r (lentOf residues (now (table .exit)) (now (values .exit)) (now (turns .exit)) (now (result .exit)))
         ≡ run residues (now (words .entry)) (now (starts .entry)) (now (seeds .entry)) (lentOf residues (now (table .entry))
         (now (values .entry)) (now (turns .entry)) (now (result .entry))) ⌝ }

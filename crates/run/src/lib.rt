@@ -8,8 +8,8 @@ mod refusals;
 pub use calls_audit::run_audit;
 pub use calls_double::run_double;
 pub use refusals::NOT_FINITE_RESULT;
-use table::Answer;
 use table::Plan;
+use table::Reply;
 
 // The lengths of what a run is lent.
 struct Rooms {
@@ -39,6 +39,6 @@ enum Fit {
 
 // What refusals 1 to 10 come to: the first one's answer, or the plan of a sheet that has room.
 enum Judged {
-    No(Answer),
+    No(Reply),
     HasRoom(Plan),
 }

@@ -13,9 +13,9 @@ use super::Unfit;
 use machine::Ended;
 use number::double;
 use sheet::MAX_ROWS;
-use table::Answer;
 use table::Plan;
 use table::Planned;
+use table::Reply;
 
 // The numbers of these refusals, 8 apart, and of a run that stops.
 const SMALL_STACK: u16 = 9;
@@ -109,35 +109,35 @@ fn rooms_fit(plan: Plan, rooms: Rooms) -> Fit
     lengths_fit(shape.variables, rooms.starts, rooms.seeds, rooms.result)
 }
 
-pub fn answer_no(why: Unfit) -> Answer
+pub fn answer_no(why: Unfit) -> Reply
     ensures { λ r. ⌜ Answers r (unfitRefusal why) ⌝ }
 {
     match why {
-        Unfit::SmallTable => Answer {
+        Unfit::SmallTable => Reply {
             number: table::SMALL_TABLE,
             place: 0,
         },
-        Unfit::SmallValueStack => Answer {
+        Unfit::SmallValueStack => Reply {
             number: SMALL_STACK,
             place: 0,
         },
-        Unfit::SmallTurnStack => Answer {
+        Unfit::SmallTurnStack => Reply {
             number: SMALL_STACK,
             place: 1,
         },
-        Unfit::WrongStarts => Answer {
+        Unfit::WrongStarts => Reply {
             number: WRONG_LENGTH,
             place: 0,
         },
-        Unfit::WrongSeeds => Answer {
+        Unfit::WrongSeeds => Reply {
             number: WRONG_LENGTH,
             place: 1,
         },
-        Unfit::WrongResult => Answer {
+        Unfit::WrongResult => Reply {
             number: WRONG_LENGTH,
             place: 2,
         },
-        Unfit::NotFinite(place) => Answer {
+        Unfit::NotFinite(place) => Reply {
             number: NOT_FINITE_GIVEN,
             place,
         },
@@ -155,7 +155,7 @@ pub fn judge(
     ensures { λ r. ⌜ JudgedAs (now (words .entry)) rooms (now (marks .exit)) (now (came .exit)) (now (goes .exit)) r ⌝ }
 {
     match table::plan_sheet(words, marks, came, goes) {
-        Planned::Refused(why) => Judged::No(Answer {
+        Planned::Refused(why) => Judged::No(Reply {
             number: sheet::number_of(why),
             place: sheet::place_of(why),
         }),
@@ -167,23 +167,23 @@ pub fn judge(
 }
 
 // What a run's end is answered by: 0, 12 at its row, or the number of no run.
-pub fn answer_end(end: Ended) -> Answer
+pub fn answer_end(end: Ended) -> Reply
     ensures { λ r. ⌜ r ≡ answerAt end ⌝ }
 {
     match end {
-        Ended::Finished => Answer {
+        Ended::Finished => Reply {
             number: table::DONE,
             place: 0,
         },
-        Ended::Stopped(row) => Answer {
+        Ended::Stopped(row) => Reply {
             number: NOT_FINITE_RESULT,
             place: row.0,
         },
-        Ended::Stuck => Answer {
+        Ended::Stuck => Reply {
             number: STUCK,
             place: 0,
         },
-        Ended::Unfinished => Answer {
+        Ended::Unfinished => Reply {
             number: STUCK,
             place: 0,
         },

@@ -12,7 +12,7 @@ use lib.Seq.{getD-set-same, getD-set-other, set-comm, set-set, set-getD}
 use Rattle.sheet.specs.Tree.{basic, ifLine, elseLine, endIf, repeat, endRepeat}
 use Rattle.sheet.specs.Rows.{SheetLine}
 use Rattle.sheet.specs.inner.Kinds.{assigns, partOf}
-use Rattle.sets.specs.declared.transfers.Operation.{Operation}
+use Rattle.sets.specs.declared.transfers.MaskedAssignment.{MaskedAssignment}
 use Rattle.sets.specs.VariableSets.{VariableSet}
 use Rattle.sets.specs.Equations.{setAt}
 use Rattle.sets.specs.inner.Operations.{Gives}
@@ -71,7 +71,7 @@ module _ (varied useful required : List VariableSet) (p : ℕ) where
   no-byte (repeat m) h = refl
   no-byte endRepeat h = refl
 
-  pub assigned-byte : {operation : Operation} {l : SheetLine} {r needed : ℕ} → AssignedBy operation l → needed ≡ setAt required p
+  pub assigned-byte : {operation : MaskedAssignment} {l : SheetLine} {r needed : ℕ} → AssignedBy operation l → needed ≡ setAt required p
       → Gives operation r (byteFor (setAt varied p) (setAt useful (p + 1)) needed) → r ≡ byteAt varied useful required p l
   unfolding byteAt markBy
   assigned-byte a is gives = rw (a .is) (gives (a .assignment) (a .performs) ∙ rw (is, add-one p))

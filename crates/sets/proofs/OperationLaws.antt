@@ -8,7 +8,7 @@ use Rattle.sheet.specs.Tree.{basic, ifLine, elseLine, endIf, repeat, endRepeat}
 use Rattle.sheet.specs.Rows.{Assignment, copy, fixed, sum, difference, product, negation, _≔_, Row, rowOfAssignment, SheetLine, sheetRowOf}
 use Rattle.sheet.specs.inner.Kinds.{assigns, formFor, partOf}
 use Rattle.sheet.specs.declared.kinds.Form.{Form}
-use Rattle.sets.specs.declared.transfers.Operation.{Operation}
+use Rattle.sets.specs.declared.transfers.MaskedAssignment.{MaskedAssignment}
 use Rattle.sets.specs.VariableSets.{VariableSet, empty, has, _∪_, single, without, hasSome, singleSome}
 use Rattle.sets.specs.Transfers.{anyRead, firstRead, secondRead, reads, variedAfter, usefulBefore}
 use Rattle.sets.specs.Transfers.{Activity, activityOf, adjointUse, recordedBy, requiredAfter}
@@ -18,7 +18,7 @@ use Rattle.sets.proofs.VariableSetLaws.{meets-none, meets-single}
 
 -- ---- from the words of a row
 
-pub row-performed : (operation : Operation) (row : Row) (form : Form) → form ≡ formFor (row .kind) → operation .kind ≡ row .kind
+pub row-performed : (operation : MaskedAssignment) (row : Row) (form : Form) → form ≡ formFor (row .kind) → operation .kind ≡ row .kind
     → operation .target .0 ≡ row .d → operation .first ≡ namedBy (form .1) (row .a) → operation .second ≡ namedBy (form .2) (row .b)
     → PerformsRow operation row
 unfolding rowOfAssignment firstRead secondRead formFor
@@ -37,12 +37,12 @@ row-performed operation row form formed kind target first second b said =
     each (d ≔ negation a) k t f g = record { kind = k; target = t; first = f; second = g }
 
 -- a line that is an assignment, and the operation is its
-pub record AssignedBy (operation : Operation) (l : SheetLine) : Type 0 where
+pub record AssignedBy (operation : MaskedAssignment) (l : SheetLine) : Type 0 where
   pub assignment : Assignment
   pub is : l ≡ basic assignment
   pub performs : Performs operation assignment
 
-pub assigned-by : {operation : Operation} {row : Row} → PerformsRow operation row → (l : SheetLine) → sheetRowOf l ≡ row → assigns (partOf l) ≡ true
+pub assigned-by : {operation : MaskedAssignment} {row : Row} → PerformsRow operation row → (l : SheetLine) → sheetRowOf l ≡ row → assigns (partOf l) ≡ true
     → AssignedBy operation l
 unfolding sheetRowOf
 assigned-by performs (basic b) e h = record { assignment = b; is = refl; performs = performs b e }
@@ -59,7 +59,7 @@ meets-some : (s : VariableSet) (o : Option ℕ) → meets s (singleSome o) ≡ h
 meets-some s none = meets-none s
 meets-some s (some i) = meets-single s i
 
-module _ {operation : Operation} {b : Assignment} (performs : Performs operation b) where
+module _ {operation : MaskedAssignment} {b : Assignment} (performs : Performs operation b) where
   pub first-said : (s : VariableSet) → meets s (operation .first) ≡ hasSome s (firstRead (sourceOf b))
   first-said s = ap (meets s) (performs .first) ∙ meets-some s (firstRead (sourceOf b))
 
@@ -74,28 +74,28 @@ module _ {operation : Operation} {b : Assignment} (performs : Performs operation
   unfolding reads
   reads-said = rw (performs .first, performs .second)
 
-pub varied-said : {operation : Operation} (b : Assignment) → Performs operation b → (before : VariableSet)
+pub varied-said : {operation : MaskedAssignment} (b : Assignment) → Performs operation b → (before : VariableSet)
     → variedAfter b before ≡ cond (anyRead before (sourceOf b)) (before ∪ single (operation .target .0)) (without (operation .target .0) before)
 unfolding variedAfter
 varied-said (d ≔ source) performs before = rw (performs .target)
 
-pub useful-said : {operation : Operation} (b : Assignment) → Performs operation b → (after : VariableSet)
+pub useful-said : {operation : MaskedAssignment} (b : Assignment) → Performs operation b → (after : VariableSet)
     → usefulBefore b after ≡ cond (has after (operation .target .0)) (without (operation .target .0) after ∪ reads (sourceOf b)) after
 unfolding usefulBefore
 useful-said (d ≔ source) performs after = rw (performs .target)
 
 -- what is known of the assignment
-pub record Knows (operation : Operation) (b : Assignment) (varied useful : VariableSet) : Type 0 where
+pub record Knows (operation : MaskedAssignment) (b : Assignment) (varied useful : VariableSet) : Type 0 where
   pub variedA : activityOf b varied useful .variedA ≡ meets varied (operation .first)
   pub variedB : activityOf b varied useful .variedB ≡ meets varied (operation .second)
   pub active : activityOf b varied useful .active ≡ (has useful (operation .target .0) && anyRead varied (sourceOf b))
 
-pub activity-said : {operation : Operation} (b : Assignment) → Performs operation b → (varied useful : VariableSet) → Knows operation b varied useful
+pub activity-said : {operation : MaskedAssignment} (b : Assignment) → Performs operation b → (varied useful : VariableSet) → Knows operation b varied useful
 unfolding activityOf
 activity-said (d ≔ source) performs varied useful =
     record { variedA = sym (first-said performs varied); variedB = sym (second-said performs varied); active = rw (performs .target) }
 
-pub use-said : {operation : Operation} (b : Assignment) → Performs operation b → (known : Activity)
+pub use-said : {operation : MaskedAssignment} (b : Assignment) → Performs operation b → (known : Activity)
     → adjointUse (sourceOf b) known ≡ cond (known .active && eqb (operation .kind) 5) (reads (sourceOf b)) empty
 unfolding rowOfAssignment adjointUse reads
 use-said b performs known = rw (performs .kind) (each b)
@@ -116,12 +116,12 @@ use-said b performs known = rw (performs .kind) (each b)
     each (d ≔ product a b) = always (known .active) _
     each (d ≔ negation a) = never (known .active) _
 
-pub required-said : {operation : Operation} (b : Assignment) → Performs operation b → (known : Activity) (before : VariableSet)
+pub required-said : {operation : MaskedAssignment} (b : Assignment) → Performs operation b → (known : Activity) (before : VariableSet)
     → requiredAfter b known before ≡ without (operation .target .0) (before ∪ adjointUse (sourceOf b) known)
 unfolding requiredAfter
 required-said (d ≔ source) performs known before = rw (performs .target)
 
-pub recorded-said : {operation : Operation} (b : Assignment) → Performs operation b → (known : Activity) (required : VariableSet)
+pub recorded-said : {operation : MaskedAssignment} (b : Assignment) → Performs operation b → (known : Activity) (required : VariableSet)
     → recordedBy b known required ≡ (has required (operation .target .0) || has (adjointUse (sourceOf b) known) (operation .target .0))
 unfolding recordedBy
 recorded-said (d ≔ source) performs known required = rw (performs .target)

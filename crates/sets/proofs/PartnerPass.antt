@@ -9,8 +9,8 @@ use Rattle.sheet.specs.Rows.{SheetLine}
 use Rattle.sheet.specs.inner.Kinds.{partOf}
 use Rattle.sheet.specs.declared.kinds.Form.{Form}
 use Rattle.sheet.specs.declared.kinds.Part.{Part}
-use Rattle.sets.specs.inner.PartnerPass.{Found, found, foundBy, foundAt, foundOver, TopsWithin, Findable, Listed, PartnersFound}
-use Rattle.sets.specs.inner.RowEquations.{lineIn, Readable, Formed}
+use Rattle.sets.specs.inner.PartnerPass.{PartnersSoFar, found, foundBy, foundAt, foundOver, TopsWithin, Findable, Listed, PartnersFound}
+use Rattle.sets.specs.inner.RowEquations.{lineIn, RowReadable, Formed}
 use Rattle.sheet.proofs.LinesByPart.{row-part}
 
 -- what holds before a row of the pass
@@ -28,11 +28,11 @@ module _ (line : ℕ → SheetLine) (n : ℕ) (came₀ goes₀ : List ℕ) where
       let all : n - 0 ≡ n = omega arith in
       record { within = omega arith; tops = rw all (findable .within); follows = rw all; cameLong = refl; goesLong = refl }
 
-  found-more : (p m : ℕ) (s : Found) → foundOver line p (suc m) s ≡ foundOver line (suc p) m (foundAt (line p) p s)
+  found-more : (p m : ℕ) (s : PartnersSoFar) → foundOver line p (suc m) s ≡ foundOver line (suc p) m (foundAt (line p) p s)
   unfolding foundOver
   found-more p m s = refl
 
-  tops-more : (p m : ℕ) (s : Found) → TopsWithin line n p (suc m) s → (s .top < n) × TopsWithin line n (suc p) m (foundAt (line p) p s)
+  tops-more : (p m : ℕ) (s : PartnersSoFar) → TopsWithin line n p (suc m) s → (s .top < n) × TopsWithin line n (suc p) m (foundAt (line p) p s)
   unfolding TopsWithin
   tops-more p m s w = w
 
@@ -68,7 +68,7 @@ module _ (line : ℕ → SheetLine) (n : ℕ) (came₀ goes₀ : List ℕ) where
         goesLong = gl ∙ f .goesLong;
       }
 
-  found-none : (p : ℕ) (s : Found) → s ≡ foundOver line p 0 s
+  found-none : (p : ℕ) (s : PartnersSoFar) → s ≡ foundOver line p 0 s
   unfolding foundOver
   found-none p s = refl
 
@@ -77,10 +77,10 @@ module _ (line : ℕ → SheetLine) (n : ℕ) (came₀ goes₀ : List ℕ) where
   found-all came goes top row f h =
       let none : n - row ≡ 0 = omega (arith, f .within) in
       let same = rw none at (f .follows) in
-      let here : Found = found top came goes in
+      let here : PartnersSoFar = found top came goes in
       (ap (λ s. s .came) (found-none row here ∙ same), ap (λ s. s .goes) (found-none row here ∙ same))
 
 -- what a row is to the blocks, as the code reads it, is what its line is
-pub part-read : {words : List ℕ} {first row : ℕ} {form : Form} → Readable words first row → Formed words first row form
+pub part-read : {words : List ℕ} {first row : ℕ} {form : Form} → RowReadable words first row → Formed words first row form
     → form .3 ≡ partOf (lineIn words first row)
 part-read {words} {first} {row} readable formed = ap (λ form. form .3) formed ∙ sym (row-part (lineIn words first row) _ (readable .says))

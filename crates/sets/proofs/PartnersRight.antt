@@ -9,7 +9,7 @@ use lib.Seq.{getD-set-same, set-comm, set-set}
 use Rattle.sheet.specs.Tree.{Tree, done, one, fork, again, rows, basic, ifLine, elseLine, endIf, repeat, endRepeat}
 use Rattle.sheet.specs.Rows.{Assignment, Test, SheetLine}
 use Rattle.sets.specs.Partners.{CameFrom, GoesTo, cameBy, goesBy}
-use Rattle.sets.specs.inner.PartnerPass.{Found, foundAt, foundOver}
+use Rattle.sets.specs.inner.PartnerPass.{PartnersSoFar, foundAt, foundOver}
 use Rattle.sets.proofs.RowByRow.{LinesAt}
 use Rattle.sets.proofs.KeptPlaces.{Keeps, keeps-all, wider, keeps-then, store-keeps, GoesFork, goes-fork}
 
@@ -93,7 +93,7 @@ goes-closed a b p around xs =
 
 -- ---- what a pass over a tree comes to
 
-pub record Passed (t : Tree Assignment Test) (p : ℕ) (s s′ : Found) : Type 0 where
+pub record Passed (t : Tree Assignment Test) (p : ℕ) (s s′ : PartnersSoFar) : Type 0 where
   pub top : s′ .top ≡ s .top
   pub came : CameFrom (s′ .came) t p
   pub goes : GoesTo (s′ .goes) t p
@@ -131,7 +131,7 @@ came-fork p x y z c c₂ c₄ c₆ top₂ top₄ l k₁ k₃ k₅ =
       atEnd = k₅ .at r (inl (omega arith)) ∙ getD-set-same c₄ r top₄ 0 (omega (arith, k₁ .long, k₂ .long, k₃ .long));
     }
 
-module _ (f : Test) (a b k : Tree Assignment Test) (p : ℕ) (s s₂ s₄ s₆ : Found) where
+module _ (f : Test) (a b k : Tree Assignment Test) (p : ℕ) (s s₂ s₄ s₆ : PartnersSoFar) where
   after-fork : let q = suc p + rows a in let r = suc q + rows b in suc r ≤ length (s .came) → suc r ≤ length (s .goes)
       → Passed a (suc p) (foundAt (ifLine f) p s) s₂ → Passed b (suc q) (foundAt elseLine q s₂) s₄ → Passed k (suc r) (foundAt endIf r s₄) s₆
       → Passed (fork f a b k) p s s₆
@@ -170,7 +170,7 @@ module _ (f : Test) (a b k : Tree Assignment Test) (p : ℕ) (s s₂ s₄ s₆ :
         goesIs = K .goesIs ∙ cc (outer, around, A .top, A .goesIs, B .top, B .goesIs, goes-closed a b p (s .top) (s .goes));
       }
 
-module _ (m : ℕ) (a k : Tree Assignment Test) (p : ℕ) (s s₂ s₄ : Found) where
+module _ (m : ℕ) (a k : Tree Assignment Test) (p : ℕ) (s s₂ s₄ : PartnersSoFar) where
   after-again : let q = suc p + rows a in suc q ≤ length (s .came) → suc q ≤ length (s .goes)
       → Passed a (suc p) (foundAt (repeat m) p s) s₂ → Passed k (suc q) (foundAt endRepeat q s₂) s₄ → Passed (again m a k) p s s₄
   unfolding foundAt CameFrom GoesTo cameBy goesBy rows
@@ -213,7 +213,7 @@ module _ (m : ℕ) (a k : Tree Assignment Test) (p : ℕ) (s s₂ s₄ : Found) 
 -- ---- the pass, part by part
 
 module _ (line : ℕ → SheetLine) where
-  found-both : (p m n : ℕ) (s : Found) → foundOver line p (m + n) s ≡ foundOver line (p + m) n (foundOver line p m s)
+  found-both : (p m n : ℕ) (s : PartnersSoFar) → foundOver line p (m + n) s ≡ foundOver line (p + m) n (foundOver line p m s)
   unfolding foundOver
   found-both p zero n s = let here : p + 0 ≡ p = omega arith in let all : 0 + n ≡ n = omega arith in rw (here, all)
   found-both p (suc m) n s =
@@ -221,20 +221,20 @@ module _ (line : ℕ → SheetLine) where
       let here : p + suc m ≡ suc p + m = omega arith in
       rw (all, here) (found-both (suc p) m n (foundAt (line p) p s))
 
-  pub found-one : (p x : ℕ) (s : Found) (b : Assignment) → line p ≡ basic b → foundOver line p (1 + x) s ≡ foundOver line (suc p) x s
+  pub found-one : (p x : ℕ) (s : PartnersSoFar) (b : Assignment) → line p ≡ basic b → foundOver line p (1 + x) s ≡ foundOver line (suc p) x s
   unfolding foundOver foundAt
   found-one p x s b e =
       let count : 1 + x ≡ suc x = omega arith in
       rw count (ap (foundOver line (suc p) x) (ap (λ l. foundAt l p s) e))
 
-  pub found-again : (p x z : ℕ) (s : Found) → let q = suc p + x in
+  pub found-again : (p x z : ℕ) (s : PartnersSoFar) → let q = suc p + x in
       foundOver line p (2 + (x + z)) s ≡ foundOver line (suc q) z (foundAt (line q) q (foundOver line (suc p) x (foundAt (line p) p s)))
   unfolding foundOver
   found-again p x z s =
       let count : 2 + (x + z) ≡ suc (x + suc z) = omega arith in
       rw count (found-both (suc p) x (suc z) (foundAt (line p) p s))
 
-  pub found-fork : (p x y z : ℕ) (s : Found) → let q = suc p + x in let r = suc q + y in
+  pub found-fork : (p x y z : ℕ) (s : PartnersSoFar) → let q = suc p + x in let r = suc q + y in
       let first = foundOver line (suc p) x (foundAt (line p) p s) in
       let second = foundOver line (suc q) y (foundAt (line q) q first) in
       foundOver line p (3 + (x + y + z)) s ≡ foundOver line (suc r) z (foundAt (line r) r second)
@@ -245,7 +245,7 @@ module _ (line : ℕ → SheetLine) where
       (found-again p x (y + suc z) s
       ∙ found-both (suc (suc p + x)) y (suc z) (foundAt (line (suc p + x)) (suc p + x) (foundOver line (suc p) x (foundAt (line p) p s))))
 
-  pub found-long : (l : SheetLine) (p : ℕ) (s : Found)
+  pub found-long : (l : SheetLine) (p : ℕ) (s : PartnersSoFar)
       → (length (foundAt l p s .came) ≡ length (s .came)) × (length (foundAt l p s .goes) ≡ length (s .goes))
   unfolding foundAt
   found-long (basic b) p s = (refl, refl)
@@ -256,7 +256,7 @@ module _ (line : ℕ → SheetLine) where
   found-long (repeat m) p s = (refl, length-set (s .goes) p (s .top))
   found-long endRepeat p s = (length-set (s .came) (s .top) p, length-set (s .goes) p (s .top))
 
-  pub passed-over : (t : Tree Assignment Test) (p : ℕ) (s : Found) → LinesAt line t p → p + rows t ≤ length (s .came) → p + rows t ≤ length (s .goes)
+  pub passed-over : (t : Tree Assignment Test) (p : ℕ) (s : PartnersSoFar) → LinesAt line t p → p + rows t ≤ length (s .came) → p + rows t ≤ length (s .goes)
       → Passed t p s (foundOver line p (rows t) s)
   unfolding LinesAt CameFrom GoesTo cameBy goesBy rows foundOver
   passed-over done p s l lc lg =

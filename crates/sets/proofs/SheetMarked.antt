@@ -12,7 +12,7 @@ use Rattle.sheet.specs.Rows.{SheetLine, sheetRowOf, treeRows, isIndependent, is
 use Rattle.sheet.specs.Reading.{Sheet, rowsAt, variablesOf}
 use Rattle.sheet.proofs.RowsCounted.{rows-counted, lines-counted}
 use Rattle.sheet.proofs.ReadingParts.{accepted, same-given}
-use Rattle.sheet.proofs.ReadingExact.{reading-exact}
+use Rattle.sheet.proofs.TreeOfRows.{tree-of-rows}
 use Rattle.sheet.proofs.NamesPresent.{count-judged, counts, names-present}
 use Rattle.sets.specs.declared.Which.{Which}
 use Rattle.sets.specs.declared.Which.the-variants.{Varied, Useful, Required}
@@ -76,7 +76,7 @@ module _ (words : List ℕ) (variables first count : ℕ) (laid : Laid words var
       let fewConstants : length (sheet .constants) ≤ maskBits = omega (arith, counted .constants, ks .most) in
       let at : suc (1 + parts .v + 1 + parts .k) ≡ first = omega (arith, laid .firstIs, counted .variables, counted .constants) in
       let says : treeRows (sheet .body) ≡ rowsAt words first (parts .n) =
-      reading-exact words sheet (laid .accepted) .says ∙ parts .rows ∙ ap (λ p. rowsAt words p (parts .n)) at in
+      tree-of-rows words sheet (laid .accepted) .says ∙ parts .rows ∙ ap (λ p. rowsAt words p (parts .n)) at in
       let size : rows (sheet .body) ≡ parts .n =
       sym (lines-counted (sheet .body)) ∙ sym (length-map (flat (sheet .body) []) sheetRowOf) ∙ ap length says
       ∙ rows-counted words first (parts .n) in

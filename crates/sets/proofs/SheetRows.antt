@@ -18,7 +18,7 @@ use Rattle.sheet.proofs.PartsRead.{form-there, formIn}
 use Rattle.sheet.proofs.RowsBack.{line-back}
 use Rattle.sheet.proofs.RowsCounted.{lines-counted}
 use Rattle.sets.specs.inner.Operations.{maskBits, InMask}
-use Rattle.sets.specs.inner.RowEquations.{numberedRow, lineIn, Readable, Small, KindRead, Formed}
+use Rattle.sets.specs.inner.RowEquations.{numberedRow, lineIn, RowReadable, FitsMask, KindRead, Formed}
 use Rattle.sets.proofs.RowByRow.{LinesAt}
 
 -- ---- rows by number
@@ -79,7 +79,7 @@ line-kind (repeat m) = omega arith
 line-kind endRepeat = omega arith
 
 -- a row's kind is one of the table's
-pub kind-there : {words : List ℕ} {first p : ℕ} → Readable words first p → numberedRow words first p .kind ≤ length kinds
+pub kind-there : {words : List ℕ} {first p : ℕ} → RowReadable words first p → numberedRow words first p .kind ≤ length kinds
 kind-there {words} {first} {p} r = subst (λ row. row .kind ≤ length kinds) (r .says) (line-kind (lineIn words first p))
 
 -- what the table has for a row's kind is the row's form
@@ -113,7 +113,7 @@ not-true : false ≡ true → ⊥
 not-true e = let z : _≡_ {A = ℕ} 0 1 = cc in omega arith
 
 abbrev SmallLine : SheetLine → Type 0
-SmallLine l = Small (sheetRowOf l)
+SmallLine l = FitsMask (sheetRowOf l)
 
 module _ (v k : ℕ) (vs : v ≤ maskBits) (ks : k ≤ maskBits) where
   -- v variables and k constants are few enough for a mask
@@ -139,7 +139,7 @@ module _ (v k : ℕ) (vs : v ≤ maskBits) (ks : k ≤ maskBits) where
       (λ z. absurd (not-true z), tree-small a _ (n .0) (λ z. absurd (not-true z), tree-small t rest (n .1) h))
 
   pub rows-readable : (words : List ℕ) (first n : ℕ) (t : Tree Assignment Test) → treeRows t ≡ rowsAt words first n → Present v k t
-      → (p : ℕ) → p < rows t → p < wordValues → first + (p + 1) * limit .rowWords ≤ length words → Readable words first p
+      → (p : ℕ) → p < rows t → p < wordValues → first + (p + 1) * limit .rowWords ≤ length words → RowReadable words first p
   unfolding treeRows
   rows-readable words first n t e present p below numbered there =
       let each = tree-small t [] present tt in

@@ -6,28 +6,28 @@ use mathlib.Core.List.{List}
 use lib.ListN.{length}
 use Rattle.sheet.specs.Tree.{Tree, done, one, fork, again, rows, basic, ifLine, elseLine, endIf, repeat, endRepeat}
 use Rattle.sheet.specs.Rows.{Assignment, Test, SheetLine}
-use Rattle.sets.specs.inner.PartnerPass.{Found, found, foundAt, foundOver, TopsWithin, Findable}
+use Rattle.sets.specs.inner.PartnerPass.{PartnersSoFar, found, foundAt, foundOver, TopsWithin, Findable}
 use Rattle.sets.proofs.RowByRow.{LinesAt}
 use Rattle.sets.proofs.PartnersRight.{Passed, found-one, found-again, found-fork, found-long, passed-over}
 
 module _ (line : ℕ → SheetLine) (n : ℕ) where
   -- the lists have a place for each row, and the innermost open one is a row
-  record Ready (s : Found) : Type 0 where
+  record Ready (s : PartnersSoFar) : Type 0 where
     cameRoom : n ≤ length (s .came)
     goesRoom : n ≤ length (s .goes)
     topWithin : s .top < n
 
-  tops-turn : (l : SheetLine) (p m : ℕ) (s : Found) → line p ≡ l → s .top < n → TopsWithin line n (suc p) m (foundAt l p s)
+  tops-turn : (l : SheetLine) (p m : ℕ) (s : PartnersSoFar) → line p ≡ l → s .top < n → TopsWithin line n (suc p) m (foundAt l p s)
       → TopsWithin line n p (suc m) s
   unfolding TopsWithin
   tops-turn l p m s is h w = (h, rw is w)
 
-  ready-on : (l : SheetLine) (p : ℕ) (s : Found) → Ready s → foundAt l p s .top < n → Ready (foundAt l p s)
+  ready-on : (l : SheetLine) (p : ℕ) (s : PartnersSoFar) → Ready s → foundAt l p s .top < n → Ready (foundAt l p s)
   ready-on l p s r h =
       let long = found-long line l p s in
       record { cameRoom = omega (arith, long .0, r .cameRoom); goesRoom = omega (arith, long .1, r .goesRoom); topWithin = h }
 
-  ready-over : (t : Tree Assignment Test) (p : ℕ) (s s′ : Found) → Ready s → Passed t p s s′ → Ready s′
+  ready-over : (t : Tree Assignment Test) (p : ℕ) (s s′ : PartnersSoFar) → Ready s → Passed t p s s′ → Ready s′
   ready-over t p s s′ r passed =
       record {
         cameRoom = omega (arith, passed .cameKept .long, r .cameRoom);
@@ -35,11 +35,11 @@ module _ (line : ℕ → SheetLine) (n : ℕ) where
         topWithin = rw (passed .top) (r .topWithin);
       }
 
-  pass : (t : Tree Assignment Test) (p : ℕ) (s : Found) → LinesAt line t p → p + rows t ≤ n → Ready s → Passed t p s (foundOver line p (rows t) s)
+  pass : (t : Tree Assignment Test) (p : ℕ) (s : PartnersSoFar) → LinesAt line t p → p + rows t ≤ n → Ready s → Passed t p s (foundOver line p (rows t) s)
   pass t p s l h r = passed-over line t p s l (omega (arith, r .cameRoom)) (omega (arith, r .goesRoom))
 
   -- m rows follow the tree's
-  tops-tree : (t : Tree Assignment Test) (p m c e : ℕ) (s : Found) → c ≡ rows t + m → e ≡ p + rows t → e ≤ n → LinesAt line t p → Ready s
+  tops-tree : (t : Tree Assignment Test) (p m c e : ℕ) (s : PartnersSoFar) → c ≡ rows t + m → e ≡ p + rows t → e ≤ n → LinesAt line t p → Ready s
       → TopsWithin line n e m (foundOver line p (rows t) s) → TopsWithin line n p c s
   unfolding LinesAt rows foundAt foundOver
   tops-tree done p m c e s hc he below l r w =
@@ -99,7 +99,7 @@ module _ (line : ℕ → SheetLine) (n : ℕ) where
       let count : c ≡ suc (rows a + suc behind) = omega arith in
       rw count (tops-turn (repeat t) p (rows a + suc behind) s (l .0) (r .topWithin) body)
 
-  tops-none : (p : ℕ) (s : Found) → TopsWithin line n p 0 s
+  tops-none : (p : ℕ) (s : PartnersSoFar) → TopsWithin line n p 0 s
   unfolding TopsWithin
   tops-none p s = tt
 

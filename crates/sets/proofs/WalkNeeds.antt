@@ -13,16 +13,16 @@ use Rattle.sheet.specs.inner.Kinds.{assigns, partOf}
 use Rattle.sheet.specs.declared.kinds.Form.{Form}
 use Rattle.sheet.specs.declared.kinds.Part.{Part}
 use Rattle.sheet.specs.declared.kinds.Part.the-variants as part
-use Rattle.sets.specs.declared.transfers.Operation.{Operation}
-use Rattle.sets.specs.declared.walk.Reached.{Reached}
+use Rattle.sets.specs.declared.transfers.MaskedAssignment.{MaskedAssignment}
+use Rattle.sets.specs.declared.walk.WalkedTo.{WalkedTo}
 use Rattle.sets.specs.declared.Which.{Which}
 use Rattle.sets.specs.declared.Which.the-variants.{Varied, Useful, Required}
 use Rattle.sets.specs.VariableSets.{VariableSet, empty}
 use Rattle.sets.specs.Equations.{setAt, rightSide, least}
 use Rattle.sets.specs.inner.Operations.{maskBits, InMask, Performs, PerformsRow}
 use Rattle.sets.specs.inner.RowBytes.{byteAt}
-use Rattle.sets.specs.inner.RowEquations.{Given, lineIn, equationIn, turnOf, rowInTurn, ownPoint, settledPoint, startOf, allEquations, seedIn, rowIn, Readable, RowThere, Formed}
-use Rattle.sets.specs.inner.Walks.{placeInTurn, endsRepeat, asksPartner, partIn, Due, onward, backward, Grown, Went, AtBlock, ownSide, Settles}
+use Rattle.sets.specs.inner.RowEquations.{Given, lineIn, equationIn, turnOf, rowInTurn, ownPoint, settledPoint, startOf, allEquations, seedIn, rowIn, RowReadable, RowThere, Formed}
+use Rattle.sets.specs.inner.Walks.{placeInTurn, endsRepeat, asksPartner, partIn, Due, onward, backward, Grown, PassedRow, AtBlock, ownSide, Settles}
 use Rattle.sets.proofs.Truths.{never}
 use Rattle.sets.proofs.OperationLaws.{AssignedBy, assigned-by}
 use Rattle.sets.proofs.PartnerPass.{part-read}
@@ -32,7 +32,7 @@ use Rattle.sets.proofs.MarkByteLaws.{Marking, marking-on}
 use Rattle.sets.proofs.Walking.{turn-below, turn-back, own-place, start-place, Walk, leftOf, walk-starts, walked, walk-ends}
 
 -- what holds before a row: besides the walk, that the set at its place is in hand
-pub record Carried (which : Which) (given : Given) (others : List ℕ) (n v : ℕ) (sets : List VariableSet) (reached : Reached) : Type 0 where
+pub record Carried (which : Which) (given : Given) (others : List ℕ) (n v : ℕ) (sets : List VariableSet) (reached : WalkedTo) : Type 0 where
   pub walk : Walk which given others n v (seedIn which (given .words) v) sets (reached .turn)
   pub inHand : reached .own ≡ setAt sets (placeInTurn which n (reached .turn))
 
@@ -43,7 +43,7 @@ module _ {which : Which} {given : Given} {others : List ℕ} {n v : ℕ} {sets :
   pub begin-there : (v ≤ maskBits) × (v < length (given .words)) × (n < length sets)
   begin-there = (s .variablesSmall, s .rolesThere, omega (arith, points))
 
-  pub begun : {reached : Reached} {next : List VariableSet}
+  pub begun : {reached : WalkedTo} {next : List VariableSet}
       → (reached .turn ≡ 0) × Grown sets (startOf which n) (seedIn which (given .words) v) next (reached .own)
       → Carried which given others n v next reached
   begun {reached} {next} begins =
@@ -54,10 +54,10 @@ module _ {which : Which} {given : Given} {others : List ℕ} {n v : ℕ} {sets :
         inHand = begins .1 .stands ∙ ap (setAt next) (start-place which n ∙ ap (placeInTurn which n) (sym (begins .0)));
       }
 
-  pub row-there : {i row : ℕ} → i < n → row ≡ rowInTurn which n i → Readable (given .words) (given .first) row
+  pub row-there : {i row : ℕ} → i < n → row ≡ rowInTurn which n i → RowReadable (given .words) (given .first) row
   row-there {i} h is = s .readable _ (rw is (turn-below which n i h))
 
-  pub ended : {left : List VariableSet} {reached : Reached} → Carried which given others n v left reached → n ≤ reached .turn
+  pub ended : {left : List VariableSet} {reached : WalkedTo} → Carried which given others n v left reached → n ≤ reached .turn
       → left ≡ least v (suc n) (allEquations which given n (seedIn which (given .words) v))
   ended {left} {reached} carried h = walk-ends which given others n v _ (s .proper) (s .wired) left (reached .turn) (carried .walk) h
 
@@ -75,7 +75,7 @@ ends-none which part.EndIf h e = never h
 ends-none which part.Repeat h e = never h
 ends-none which part.EndRepeat h e = never h
 
-pub record AtRow (which : Which) (given : Given) (others : List ℕ) (n v : ℕ) (sets₀ sets : List VariableSet) (reached : Reached) (row : ℕ) (form : Form) : Type 0 where
+pub record AtRow (which : Which) (given : Given) (others : List ℕ) (n v : ℕ) (sets₀ sets : List VariableSet) (reached : WalkedTo) (row : ℕ) (form : Form) : Type 0 where
   pub settles : Settles which given others n v sets₀
   pub carried : Carried which given others n v sets reached
   pub below : reached .turn < n
@@ -83,12 +83,12 @@ pub record AtRow (which : Which) (given : Given) (others : List ℕ) (n v : ℕ)
   pub formed : Formed (given .words) (given .first) row form
 
 -- the row was passed by the right side of its equation
-pub record Passes (which : Which) (given : Given) (others : List ℕ) (n row : ℕ) (part : Part) (before after : List VariableSet) (reached : Reached) : Type 0 where
+pub record Passes (which : Which) (given : Given) (others : List ℕ) (n row : ℕ) (part : Part) (before after : List VariableSet) (reached : WalkedTo) : Type 0 where
   side : VariableSet
   sideIs : side ≡ rightSide (equationIn which given row) (setAt before)
-  went : Went which part side n row others before after reached
+  went : PassedRow which part side n row others before after reached
 
-module _ {which : Which} {given : Given} {others : List ℕ} {n v : ℕ} {sets₀ sets : List VariableSet} {reached : Reached} {row : ℕ} {form : Form}
+module _ {which : Which} {given : Given} {others : List ℕ} {n v : ℕ} {sets₀ sets : List VariableSet} {reached : WalkedTo} {row : ℕ} {form : Form}
     (at : AtRow which given others n v sets₀ sets reached row form) where
   abbrev line : SheetLine
   line = lineIn (given .words) (given .first) row
@@ -96,7 +96,7 @@ module _ {which : Which} {given : Given} {others : List ℕ} {n v : ℕ} {sets�
   pub row-below : row < n
   row-below = rw (at .inTurn) (turn-below which n (reached .turn) (at .below))
 
-  readable : Readable (given .words) (given .first) row
+  readable : RowReadable (given .words) (given .first) row
   readable = at .settles .readable row row-below
 
   pub line-part : form .3 ≡ partOf line
@@ -118,14 +118,14 @@ module _ {which : Which} {given : Given} {others : List ℕ} {n v : ℕ} {sets�
       → RowThere (given .words) (given .first) row × Formed (given .words) (given .first) row form × InMask (rowIn given row)
   operation-there h = (readable .there, at .formed, readable .small (ap assigns (sym part-is) ∙ h))
 
-  pub assignment-there : {Small : Type 0} → Small → Small × (row < wordValues) × (suc row < length sets) × (reached .turn < wordValues)
+  pub assignment-there : {FitsMask : Type 0} → FitsMask → FitsMask × (row < wordValues) × (suc row < length sets) × (reached .turn < wordValues)
   assignment-there small =
       (small, readable .numbered, omega (arith, row-below, at .carried .walk .kept .long), at .settles .readable (reached .turn) (at .below) .numbered)
 
-  pub assigned : {operation : Operation} → assigns (form .3) ≡ true → PerformsRow operation (rowIn given row) → AssignedBy operation line
+  pub assigned : {operation : MaskedAssignment} → assigns (form .3) ≡ true → PerformsRow operation (rowIn given row) → AssignedBy operation line
   assigned h performs = assigned-by performs line (readable .says) (ap assigns (sym line-part) ∙ h)
 
-  pub assignment-passed : {operation : Operation} {acts : Bool} {next : List VariableSet} {after : Reached} → assigns (form .3) ≡ true
+  pub assignment-passed : {operation : MaskedAssignment} {acts : Bool} {next : List VariableSet} {after : WalkedTo} → assigns (form .3) ≡ true
       → PerformsRow operation (rowIn given row) → acts ≡ given .active row
       → (after .turn ≡ reached .turn + 1)
       × ((b : Assignment) → Performs operation b → Grown sets (settledPoint which row) (turnOf which acts b (reached .own)) next (after .own))
@@ -171,8 +171,8 @@ module _ {which : Which} {given : Given} {others : List ℕ} {n v : ℕ} {sets�
         taken = λ e. at .settles .wired .taken row below (ap (asksPartner which) (sym part-is) ∙ e);
       }
 
-  pub block-passed : {next : List VariableSet} {after : Reached} → assigns (form .3) ≡ false
-      → Went which (form .3) (ownSide which (form .3) row (given .partners) sets) n row others sets next after
+  pub block-passed : {next : List VariableSet} {after : WalkedTo} → assigns (form .3) ≡ false
+      → PassedRow which (form .3) (ownSide which (form .3) row (given .partners) sets) n row others sets next after
       → Passes which given others n row (form .3) sets next after
   unfolding equationIn
   block-passed h went =
@@ -186,10 +186,10 @@ module _ {which : Which} {given : Given} {others : List ℕ} {n v : ℕ} {sets�
 
   -- ---- and on
 
-  pub gone-on : {next : List VariableSet} {after : Reached} → Passes which given others n row (form .3) sets next after
+  pub gone-on : {next : List VariableSet} {after : WalkedTo} → Passes which given others n row (form .3) sets next after
       → Carried which given others n v next after × (leftOf v n next (after .turn) < leftOf v n sets (reached .turn))
   gone-on {next} {after} passes =
-      let w = subst (λ q. Went which (form .3) (passes .side) n q others sets next after) (at .inTurn) (passes .went) in
+      let w = subst (λ q. PassedRow which (form .3) (passes .side) n q others sets next after) (at .inTurn) (passes .went) in
       let on = walked which given others n v _ (at .settles .proper) (at .settles .wired) sets (reached .turn) (at .below) (at .carried .walk)
       (part-is ∙ ap (partIn given) (at .inTurn)) (passes .sideIs ∙ ap (λ q. rightSide (equationIn which given q) (setAt sets)) (at .inTurn)) (w .isDue) (w .grown) in
       let next-turn = w .turns ∙ add-one (rowInTurn which n (w .due)) in
@@ -197,9 +197,9 @@ module _ {which : Which} {given : Given} {others : List ℕ} {n v : ℕ} {sets�
 
 -- ---- of the required variables, whose walk marks the rows
 
-module _ {given : Given} {others : List ℕ} {n v : ℕ} {sets₀ sets : List VariableSet} {reached : Reached} {row : ℕ} {form : Form}
+module _ {given : Given} {others : List ℕ} {n v : ℕ} {sets₀ sets : List VariableSet} {reached : WalkedTo} {row : ℕ} {form : Form}
     (at : AtRow Required given others n v sets₀ sets reached row form) where
-  pub marked-on : {next : List VariableSet} {after : Reached} (varied useful : List VariableSet) {before marks : List ℕ} {byte : ℕ}
+  pub marked-on : {next : List VariableSet} {after : WalkedTo} (varied useful : List VariableSet) {before marks : List ℕ} {byte : ℕ}
       → Passes Required given others n row (form .3) sets next after
       → Marking (lineIn (given .words) (given .first)) varied useful n before sets marks (reached .turn) → n ≤ length before
       → byte ≡ byteAt varied useful sets row (line at) → Marking (lineIn (given .words) (given .first)) varied useful n before next (set marks row byte) (after .turn)
@@ -210,7 +210,7 @@ module _ {given : Given} {others : List ℕ} {n v : ℕ} {sets₀ sets : List Va
       (row-below at) room is
       (λ k h. rw (w .grown .stored) (getD-set-other sets _ k _ empty (λ e. omega arith))))
     where
-      w : Went Required (form .3) (passes .side) n row others sets next after
+      w : PassedRow Required (form .3) (passes .side) n row others sets next after
       w = passes .went
 
       upto : Due Required (form .3) (passes .side) row others sets (w .due) (w .more) → w .due ≤ row

@@ -7,7 +7,7 @@ ghost use Rattle.sheet.specs.Reading.{Sheet, read};
 ghost use Rattle.sheet.specs.Answers.{said, shapeRead};
 ghost use Rattle.sets.specs.Calls.{lent, SheetMarks, MarksSaid};
 ghost use Rattle.sets.specs.inner.RowEquations.{lineIn};
-ghost use Rattle.sets.specs.inner.Laid.{Laid, Room, AllMarked};
+ghost use Rattle.sets.specs.inner.Laid.{Laid, ClearRoom, AllMarked};
 ghost use Rattle.sets.specs.inner.PartnerPass.{PartnersFound};
 
 mod equations;
@@ -55,7 +55,7 @@ fn settle_and_mark(
     marks: &mut [u8],
 )
     requires { ⌜ Laid (now words) variables first rows
-        × Room rows (length (now came)) (length (now goes)) (now varied) (now useful) (now required) (length (now marks)) ⌝ }
+        × ClearRoom rows (length (now came)) (length (now goes)) (now varied) (now useful) (now required) (length (now marks)) ⌝ }
     ensures { λ r. ⌜ AllMarked (now (words .entry)) rows
         (now (varied .exit)) (now (useful .exit)) (now (required .exit)) (now (marks .entry)) (now (marks .exit))
         × PartnersFound (lineIn (now (words .entry)) first) rows

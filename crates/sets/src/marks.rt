@@ -13,7 +13,7 @@ use super::VARIED_B;
 use super::equations;
 use super::masks;
 use super::transfers;
-use super::transfers::Operation;
+use super::transfers::MaskedAssignment;
 use sheet::RowNumber;
 
 // Whether a row's byte marks it as active.
@@ -29,7 +29,7 @@ fn weight_if(there: bool, weight: u8) -> u8
     if there { weight } else { 0 }
 }
 
-fn row_byte(row: Operation, varied: u64, useful: u64, required: u64) -> u8
+fn row_byte(row: MaskedAssignment, varied: u64, useful: u64, required: u64) -> u8
     requires { ⌜ TargetSmall row ⌝ }
     ensures { λ r. ⌜ Gives row r (byteFor varied useful required) ⌝ }
 {
@@ -46,7 +46,7 @@ fn row_byte(row: Operation, varied: u64, useful: u64, required: u64) -> u8
 // An assignment's byte. `needed` are the variables required before its row.
 pub fn byte_at(
     row: RowNumber,
-    operation: Operation,
+    operation: MaskedAssignment,
     varied: &[u64],
     useful: &[u64],
     needed: u64,

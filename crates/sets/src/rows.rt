@@ -1,11 +1,11 @@
 // A row's kind, by which a pass looks the row up in the table of kinds. A pass reads each word where it needs it: four words that are answered as one
 // struct are packed into one number and taken apart again.
-ghost use Rattle.sets.specs.inner.RowEquations.{Readable, KindRead};
+ghost use Rattle.sets.specs.inner.RowEquations.{RowReadable, KindRead};
 use sheet::RowNumber;
 
 // A sheet's rows are all of kinds that the table has.
 pub fn kind_of(words: &[u16], first: usize, row: RowNumber) -> usize
-    requires { ⌜ Readable (now words) first (row .0) ⌝ }
+    requires { ⌜ RowReadable (now words) first (row .0) ⌝ }
     ensures { λ r. ⌜ KindRead (now (words .entry)) first (row .0) r ⌝ }
 {
     let number = row.0;

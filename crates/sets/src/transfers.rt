@@ -13,7 +13,7 @@ use sheet::kinds::Form;
 use sheet::kinds::Slot;
 
 // An assignment's kind, its target, and the variables that its words a and b name, as sets: the empty one for a word that names none.
-pub struct Operation {
+pub struct MaskedAssignment {
     pub kind: u16,
     pub target: Variable,
     pub first: u64,
@@ -32,7 +32,7 @@ fn named(slot: Slot, word: u16) -> u64
 }
 
 // An assignment's operation, `form` being that of its kind.
-pub fn operation_at(words: &[u16], first: usize, row: RowNumber, form: Form) -> Operation
+pub fn operation_at(words: &[u16], first: usize, row: RowNumber, form: Form) -> MaskedAssignment
     requires { ⌜ RowThere (now words) first (row .0) × Formed (now words) first (row .0) form × InMask (numberedRow (now words) first (row .0)) ⌝ }
     ensures { λ r. ⌜ PerformsRow r (numberedRow (now (words .entry)) first (row .0)) × TargetSmall r ⌝ }
 {
@@ -47,7 +47,7 @@ pub fn operation_at(words: &[u16], first: usize, row: RowNumber, form: Form) -> 
     let reads_a = named(of_a, a);
     let reads_b = named(of_b, b);
     let target = Variable(d as usize);
-    Operation {
+    MaskedAssignment {
         kind,
         target,
         first: reads_a,
@@ -55,19 +55,19 @@ pub fn operation_at(words: &[u16], first: usize, row: RowNumber, form: Form) -> 
     }
 }
 
-fn any_read(row: Operation, s: u64) -> bool
+fn any_read(row: MaskedAssignment, s: u64) -> bool
     ensures { λ r. ⌜ Gives row r (λ b. anyRead s (sourceOf b)) ⌝ }
 {
     masks::meets(s, row.first) | masks::meets(s, row.second)
 }
 
-fn reads(row: Operation) -> u64
+fn reads(row: MaskedAssignment) -> u64
     ensures { λ r. ⌜ Gives row r (λ b. reads (sourceOf b)) ⌝ }
 {
     row.first | row.second
 }
 
-fn varied_after(row: Operation, before: u64) -> u64
+fn varied_after(row: MaskedAssignment, before: u64) -> u64
     requires { ⌜ TargetSmall row ⌝ }
     ensures { λ r. ⌜ Gives row r (λ b. variedAfter b before) ⌝ }
 {
@@ -78,7 +78,7 @@ fn varied_after(row: Operation, before: u64) -> u64
     }
 }
 
-fn useful_before(row: Operation, after: u64) -> u64
+fn useful_before(row: MaskedAssignment, after: u64) -> u64
     requires { ⌜ TargetSmall row ⌝ }
     ensures { λ r. ⌜ Gives row r (λ b. usefulBefore b after) ⌝ }
 {
@@ -91,7 +91,7 @@ fn useful_before(row: Operation, after: u64) -> u64
 }
 
 // The one place that says what a row's adjoint needs.
-fn adjoint_use(row: Operation, active: bool) -> u64
+fn adjoint_use(row: MaskedAssignment, active: bool) -> u64
     ensures { λ r. ⌜ GivesKnown row active r (λ b known. adjointUse (sourceOf b) known) ⌝ }
 {
     if active & (row.kind == kinds::PRODUCT) {
@@ -101,28 +101,28 @@ fn adjoint_use(row: Operation, active: bool) -> u64
     }
 }
 
-fn required_after(row: Operation, active: bool, before: u64) -> u64
+fn required_after(row: MaskedAssignment, active: bool, before: u64) -> u64
     requires { ⌜ TargetSmall row ⌝ }
     ensures { λ r. ⌜ GivesKnown row active r (λ b known. requiredAfter b known before) ⌝ }
 {
     masks::without(row.target, before | adjoint_use(row, active))
 }
 
-pub fn recorded(row: Operation, active: bool, required: u64) -> bool
+pub fn recorded(row: MaskedAssignment, active: bool, required: u64) -> bool
     requires { ⌜ TargetSmall row ⌝ }
     ensures { λ r. ⌜ GivesKnown row active r (λ b known. recordedBy b known required) ⌝ }
 {
     masks::has(required, row.target) | masks::has(adjoint_use(row, active), row.target)
 }
 
-pub fn active(row: Operation, varied: u64, useful: u64) -> bool
+pub fn active(row: MaskedAssignment, varied: u64, useful: u64) -> bool
     requires { ⌜ TargetSmall row ⌝ }
     ensures { λ r. ⌜ Gives row r (λ b. activityOf b varied useful .active) ⌝ }
 {
     masks::has(useful, row.target) & any_read(row, varied)
 }
 
-pub fn transfer(which: Which, row: Operation, active: bool, set: u64) -> u64
+pub fn transfer(which: Which, row: MaskedAssignment, active: bool, set: u64) -> u64
     requires { ⌜ TargetSmall row ⌝ }
     ensures { λ r. ⌜ Gives row r (λ b. turnOf which active b set) ⌝ }
 {

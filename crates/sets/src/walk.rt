@@ -10,7 +10,7 @@ ghost use Rattle.sets.specs.inner.Operations.{maskBits, TargetSmall, Per
 ghost use Rattle.sets.specs.inner.RowEquations.{givenBy, noneActive, activeBy, lineIn, turnOf, rowInTurn, settledPoint};
 ghost use Rattle.sets.specs.inner.RowEquations.{startOf, allEquations, hasRole, seedIn};
 ghost use Rattle.sets.specs.inner.RowBytes.{bytesOf, written};
-ghost use Rattle.sets.specs.inner.Walks.{endsOn, endsBack, endsRepeat, Grown, Judging, Brings, AtBlock, ownSide, Went, Settles};
+ghost use Rattle.sets.specs.inner.Walks.{endsOn, endsBack, endsRepeat, Grown, Judging, Brings, AtBlock, ownSide, PassedRow, Settles};
 use super::Extent;
 use super::Which;
 use super::equations;
@@ -18,14 +18,14 @@ use super::marks;
 use super::partners;
 use super::rows;
 use super::transfers;
-use super::transfers::Operation;
+use super::transfers::MaskedAssignment;
 use sheet::RowNumber;
 use sheet::kinds;
 use sheet::kinds::Part;
 
 // How far a walk has come: the turn of the next row, and the set at its own point. The set goes from row to row in hand: the row before has only just
 // stored it, and to load it again would wait for that.
-struct Reached {
+struct WalkedTo {
     pub turn: usize,
     pub own: u64,
 }
@@ -126,7 +126,7 @@ fn seed_of(which: Which, words: &[u16], variables: usize) -> u64
 }
 
 // Puts into the start point's set what it has from outside the sheet's rows.
-fn begin(which: Which, words: &[u16], extent: Extent, sets: &mut [u64]) -> Reached
+fn begin(which: Which, words: &[u16], extent: Extent, sets: &mut [u64]) -> WalkedTo
     requires { ⌜ (extent .variables ≤ maskBits) × (extent .variables < length (now words)) × (extent .rows < length (now sets)) ⌝ }
     ensures { λ r. ⌜ (r .turn ≡ 0) × Grown (now (sets .entry)) (startOf which (extent .rows))
         (seedIn which (now (words .entry)) (extent .variables)) (now (sets .exit)) (r .own) ⌝ }
@@ -134,7 +134,7 @@ fn begin(which: Which, words: &[u16], extent: Extent, sets: &mut [u64]) -> Reach
     let seed = seed_of(which, words, extent.variables);
     let start = start_of(which, extent.rows);
     let own = grow(sets, start, seed);
-    Reached { turn: 0, own }
+    WalkedTo { turn: 0, own }
 }
 
 // An assignment's equation: what it makes of its own set is put into the set that it settles. Each walk tells assignments from the other rows once, before
@@ -142,11 +142,11 @@ fn begin(which: Which, words: &[u16], extent: Extent, sets: &mut [u64]) -> Reach
 fn pass_assignment(
     which: Which,
     row: RowNumber,
-    operation: Operation,
+    operation: MaskedAssignment,
     active: bool,
     sets: &mut [u64],
-    reached: Reached,
-) -> Reached
+    reached: WalkedTo,
+) -> WalkedTo
     requires { ⌜ TargetSmall operation × (row .0 < wordValues) × (suc (row .0) < length (now sets)) × (reached .turn < wordValues) ⌝ }
     ensures { λ r. ⌜ (r .turn ≡ reached .turn + 1) × ((b : Assignment) → Performs operation b
         → Grown (now (sets .entry)) (settledPoint which (row .0)) (turnOf which active b (reached .own)) (now (sets .exit)) (r .own)) ⌝ }
@@ -154,7 +154,7 @@ fn pass_assignment(
     let right = transfers::transfer(which, operation, active, reached.own);
     let own = grow(sets, equations::settled_point(which, row), right);
     let turn = reached.turn + 1;
-    Reached { turn, own }
+    WalkedTo { turn, own }
 }
 
 // Whether a row ends a repeat and brings more to the body's start.
@@ -186,10 +186,10 @@ fn pass_block_row(
     partners: &[u16],
     others: &[u16],
     sets: &mut [u64],
-    reached: Reached,
-) -> Reached
+    reached: WalkedTo,
+) -> WalkedTo
     requires { ⌜ AtBlock which part rows (row .0) (now partners) (now others) (now sets) reached ⌝ }
-    ensures { λ r. ⌜ Went which part (ownSide which part (row .0) (now (partners .entry)) (now (sets .entry))) rows (row .0) (now (others .entry))
+    ensures { λ r. ⌜ PassedRow which part (ownSide which part (row .0) (now (partners .entry)) (now (sets .entry))) rows (row .0) (now (others .entry))
         (now (sets .entry)) (now (sets .exit)) r ⌝ }
 {
     let own = reached.own;
@@ -199,13 +199,13 @@ fn pass_block_row(
         let own = grow(sets, equations::settled_point(which, near), both);
         let entered = row_in_turn(which, rows, near.0);
         let turn = entered.0 + 1;
-        return Reached { turn, own };
+        return WalkedTo { turn, own };
     }
     let partner = partners::partner_there(partners, row);
     let right = equations::right_side(which, part, own, sets, partner);
     let own = grow(sets, equations::settled_point(which, row), right);
     let turn = reached.turn + 1;
-    Reached { turn, own }
+    WalkedTo { turn, own }
 }
 
 pub fn settle_varied(

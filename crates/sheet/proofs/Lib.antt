@@ -8,7 +8,7 @@ pub mod RefusalsApart
 pub mod Settled
 pub mod ReadingParts
 pub mod LinesTaken
-pub mod ReadingExact
+pub mod TreeOfRows
 pub mod NamesPresent
 pub mod Depth
 -- the laws that the reader's functions are proved by

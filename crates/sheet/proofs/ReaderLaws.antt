@@ -24,7 +24,7 @@ use Rattle.sheet.specs.declared.Reading.the-variants as reading
 use Rattle.sheet.proofs.ReadingParts.{bound, same-given, Accepted, accepted}
 use Rattle.sheet.proofs.NamesPresent.{count-judged, counts, names-present}
 use Rattle.sheet.proofs.RowsCounted.{lines-counted, rows-counted}
-use Rattle.sheet.proofs.ReadingExact.{reading-exact}
+use Rattle.sheet.proofs.TreeOfRows.{tree-of-rows}
 
 -- ---- one answer only
 
@@ -99,7 +99,7 @@ shaped words sheet e =
     let n = count-judged words (1 + parts .v + 1 + parts .k) 0 (limit .rows) (limit .rowWords) (parts .n) (parts .rowCount) in
     let many : length (sheet .rows) ≡ parts .n = ap length (parts .rows) ∙ rows-counted words _ (parts .n) in
     let lines = flat (sheet .body) [] in
-    let counts : length lines ≡ length (sheet .rows) = sym (length-map lines sheetRowOf) ∙ ap length (reading-exact words sheet e .says) in
+    let counts : length lines ≡ length (sheet .rows) = sym (length-map lines sheetRowOf) ∙ ap length (tree-of-rows words sheet e .says) in
     record {
       sheet = sheet;
       is = e;

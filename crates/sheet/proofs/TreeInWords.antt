@@ -10,7 +10,7 @@ use Rattle.sheet.specs.Tree.{flat}
 use Rattle.sheet.specs.Rows.{SheetLine, sheetRowOf, treeRows}
 use Rattle.sheet.specs.Reading.{Sheet, rowsAt, read}
 use Rattle.sheet.proofs.ReadingParts.{accepted}
-use Rattle.sheet.proofs.ReadingExact.{reading-exact}
+use Rattle.sheet.proofs.TreeOfRows.{tree-of-rows}
 use Rattle.sheet.proofs.NamesPresent.{count-judged, counts}
 use Rattle.sheet.proofs.RowsCounted.{rows-counted}
 
@@ -35,7 +35,7 @@ body-stands words sheet e =
     let begins : suc (1 + parts .v + 1 + parts .k) ≡ rowPlace (3 + length (sheet .roles) + length (sheet .constants)) 0 =
     omega (arith, counted .variables, counted .constants) in
     let begin = suc (1 + parts .v + 1 + parts .k) in
-    let says : rowsAt words begin (parts .n) ≡ map sheetRowOf lines = sym (parts .rows) ∙ sym (reading-exact words sheet e .says) in
+    let says : rowsAt words begin (parts .n) ≡ map sheetRowOf lines = sym (parts .rows) ∙ sym (tree-of-rows words sheet e .says) in
     let many : parts .n ≡ length lines = sym (rows-counted words _ (parts .n)) ∙ ap length says ∙ length-map lines sheetRowOf in
     record {
       rowsHere = subst (λ p. rowsAt words p (length lines) ≡ map sheetRowOf lines) begins

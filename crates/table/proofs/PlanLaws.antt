@@ -11,7 +11,7 @@ use Rattle.sheet.proofs.Depth.{sheet-deep}
 use Rattle.sets.specs.Marks.{Marked, varied, useful, required, markBy, marked}
 use Rattle.table.specs.declared.Plan.{Plan}
 use Rattle.table.specs.Sizes.{mostTableRows, tableRows, valuesNeeded, turnsNeeded}
-use Rattle.table.specs.inner.MarkedRows.{Readable, countAll}
+use Rattle.table.specs.inner.MarkedRows.{RowsReadable, countAll}
 use Rattle.table.specs.declared.needs.Need.{Need}
 use Rattle.table.specs.inner.Needs.{needing, nothing, Comes}
 use Rattle.table.specs.inner.Plans.{SheetNoted, PlanMade}
@@ -25,7 +25,7 @@ abbrev pub marksOf : Sheet → ℕ → Assignment → Marked
 marksOf sheet = markBy (varied sheet) (useful sheet) (required sheet)
 
 module _ {words : List ℕ} {sheet : Sheet} {shape : Shape} (lies : Lies words sheet shape) where
-  pub readable : (marks : List ℕ) → shape .rows ≤ length marks → Readable words shape marks
+  pub readable : (marks : List ℕ) → shape .rows ≤ length marks → RowsReadable words shape marks
   readable marks long =
       record { few = lies .fewRows; marked = long; says = tree-says words (shape .«first_row») (shape .rows) (sheet .body) (lies .says); there = lies .there }
 

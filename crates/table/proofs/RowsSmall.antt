@@ -13,7 +13,7 @@ use Rattle.sheet.specs.Rows.{Assignment, Test, SheetLine, Slot, variable, const
 use Rattle.sheet.specs.Reading.{unless, Block, Item, lineBy, lineOf, taken, bodyOf, rowAt, rowsAt}
 use Rattle.sheet.proofs.ReadingParts.{bound, passed}
 use Rattle.sheet.proofs.RowsBack.{both, each-fits}
-use Rattle.table.specs.inner.MarkedRows.{Small}
+use Rattle.table.specs.inner.MarkedRows.{SmallWords}
 
 module _ (v k : ℕ) (few : v ≤ limit .variables) (constants : k ≤ limit .constants) where
   word-small : (slot : Slot) (word : ℕ) → fits v k slot word ≡ true → word ≤ limit .turns
@@ -23,7 +23,7 @@ module _ (v k : ℕ) (few : v ≤ limit .variables) (constants : k ≤ limit .co
   word-small turns word e = leb→le word (limit .turns) (subst T (sym (both (leb 1 word) _ e .1)) tt)
   word-small unused word e = omega (arith, eqb→eq word 0 (subst T (sym e) tt))
 
-  row-small-by : (r : Row) (place : ℕ) (l : SheetLine) (o : Option Kind) → lineBy v k o r place ≡ given l → Small v r
+  row-small-by : (r : Row) (place : ℕ) (l : SheetLine) (o : Option Kind) → lineBy v k o r place ≡ given l → SmallWords v r
   unfolding lineBy
   row-small-by r place l none e = let z : _≡_ {A = ℕ} 0 1 = cc in absurd (omega arith)
   row-small-by r place l (some kind) e =
@@ -36,12 +36,12 @@ module _ (v k : ℕ) (few : v ≤ limit .variables) (constants : k ≤ limit .co
         b = word-small (kind .b) (r .b) (fit .2);
       }
 
-  row-small : (r : Row) (place : ℕ) (l : SheetLine) → lineOf v k r place ≡ given l → Small v r
+  row-small : (r : Row) (place : ℕ) (l : SheetLine) → lineOf v k r place ≡ given l → SmallWords v r
   unfolding lineOf
   row-small r place l e = row-small-by r place l (kindOf (r .kind)) e
 
   pub rows-small : (words : List ℕ) (first n place : ℕ) (blocks : List Block) (items : List Item) (t : Tree Assignment Test)
-      → bodyOf v k (rowsAt words first n) place blocks items ≡ given t → (p q : ℕ) → p < n → q ≡ first + p * limit .rowWords → Small v (rowAt words q)
+      → bodyOf v k (rowsAt words first n) place blocks items ≡ given t → (p q : ℕ) → p < n → q ≡ first + p * limit .rowWords → SmallWords v (rowAt words q)
   unfolding bodyOf rowsAt
   rows-small words first zero place blocks items t e p q below at = absurd (omega arith)
   rows-small words first (suc n) place blocks items t e p q below at =
@@ -50,7 +50,7 @@ module _ (v k : ℕ) (few : v ≤ limit .variables) (constants : k ≤ limit .co
       by-number p below at (row-small (rowAt words first) place (line .0) (line .1))
       (λ m. rows-small words (first + limit .rowWords) n (place + limit .rowWords) (took .0 .blocks) (took .0 .items) t (took .2) m q)
     where
-      by-number : (p : ℕ) → p < suc n → q ≡ first + p * limit .rowWords → Small v (rowAt words first)
-          → ((m : ℕ) → m < n → q ≡ first + limit .rowWords + m * limit .rowWords → Small v (rowAt words q)) → Small v (rowAt words q)
-      by-number zero below at here after = let start : q ≡ first = omega arith in subst (λ x. Small v (rowAt words x)) (sym start) here
+      by-number : (p : ℕ) → p < suc n → q ≡ first + p * limit .rowWords → SmallWords v (rowAt words first)
+          → ((m : ℕ) → m < n → q ≡ first + limit .rowWords + m * limit .rowWords → SmallWords v (rowAt words q)) → SmallWords v (rowAt words q)
+      by-number zero below at here after = let start : q ≡ first = omega arith in subst (λ x. SmallWords v (rowAt words x)) (sym start) here
       by-number (suc m) below at here after = after m (omega arith) (omega arith)

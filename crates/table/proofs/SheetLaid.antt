@@ -14,7 +14,7 @@ use Rattle.sheet.specs.Answers.{shapeOf, shapeRead}
 use Rattle.sheet.specs.declared.Shape.{Shape}
 use Rattle.sheet.specs.declared.Reading.the-variants as reading
 use Rattle.sheet.proofs.ReadingParts.{bound, same-given, accepted}
-use Rattle.sheet.proofs.ReadingExact.{reading-exact}
+use Rattle.sheet.proofs.TreeOfRows.{tree-of-rows}
 use Rattle.sheet.proofs.NamesPresent.{counts}
 use Rattle.sheet.proofs.TreeInWords.{body-stands}
 use Rattle.sheet.proofs.ReaderLaws.{Shaped, accepted-shape}
@@ -24,7 +24,7 @@ use Rattle.table.specs.TableRows.{tableWords}
 use Rattle.table.specs.Adjoint.{tableOf}
 use Rattle.table.specs.Sizes.{mostTableRows, rowsNeeded}
 use Rattle.table.specs.Calls.{tableRoom}
-use Rattle.table.specs.inner.MarkedRows.{rowNumbered, Small}
+use Rattle.table.specs.inner.MarkedRows.{rowNumbered, SmallWords}
 use Rattle.table.proofs.TableLength.{table-length}
 use Rattle.table.proofs.TableBounds.{table-rows-bound}
 use Rattle.table.proofs.TreeRows.{rows-of-tree}
@@ -38,7 +38,7 @@ pub record Lies (words : List ℕ) (sheet : Sheet) (shape : Shape) : Type 0 wher
   pub fewVariables : shape .variables ≤ limit .variables
   pub fewRows : shape .rows ≤ limit .rows
   pub there : shape .«first_row» + shape .rows * limit .rowWords ≤ length words
-  pub small : (p : ℕ) → p < shape .rows → Small (shape .variables) (rowNumbered words (shape .«first_row») p)
+  pub small : (p : ℕ) → p < shape .rows → SmallWords (shape .variables) (rowNumbered words (shape .«first_row») p)
   pub short : longestRun (sheet .body) ≤ limit .longestRun
 
 shape-read : (words : List ℕ) (sheet : Sheet) → read words ≡ given sheet → shapeRead words ≡ given (shapeOf sheet)
@@ -56,12 +56,12 @@ sheet-lies words sheet e =
     accepted-shape words (reading.Accepted (shapeOf sheet)) (shapeOf sheet) (sym (shape-read words sheet e)) refl in
     let stands = body-stands words sheet e in
     let begins : first + 0 * limit .rowWords ≡ first = omega arith in
-    let many : length lines ≡ length (sheet .rows) = sym (length-map lines sheetRowOf) ∙ ap length (reading-exact words sheet e .says) in
+    let many : length lines ≡ length (sheet .rows) = sym (length-map lines sheetRowOf) ∙ ap length (tree-of-rows words sheet e .says) in
     let says : treeRows (sheet .body) ≡ rowsAt words first (length (sheet .rows)) =
     sym (stands .rowsHere) ∙ ap (λ p. rowsAt words p (length lines)) begins ∙ ap (rowsAt words first) many in
     let body : bodyOf (length (sheet .roles)) (length (sheet .constants)) (rowsAt words first (length (sheet .rows)))
     (suc (1 + parts .v + 1 + parts .k)) [] [] ≡ given (sheet .body) =
-    rw (sym says ∙ reading-exact words sheet e .says, counted .variables, counted .constants) (parts .body) in
+    rw (sym says ∙ tree-of-rows words sheet e .says, counted .variables, counted .constants) (parts .body) in
     record {
       is = e;
       shapeIs = refl;

@@ -9,7 +9,7 @@ use Rattle.sheet.specs.Reading.{Sheet, read, unless}
 use Rattle.sheet.specs.LongestRun.{longestRun}
 use Rattle.sets.specs.Marks.{marked}
 use Rattle.table.specs.declared.Checked as declared
-use Rattle.table.specs.declared.Answer as answered
+use Rattle.table.specs.declared.Reply as answered
 use Rattle.table.specs.TableRows.{tableWords}
 use Rattle.table.specs.Adjoint.{tableOf}
 use Rattle.table.specs.Sizes.{tableRows, valuesNeeded, turnsNeeded, rowsNeeded, valuesFor, turnsFor}
@@ -91,5 +91,5 @@ write words buffer =
     record { number = numberIn answer; place = placeIn answer; table = tableIn answer buffer }
 
 -- what the call's answer and the buffer that it leaves say
-abbrev pub writtenOf : answered.Answer → (table : List ℕ) → Written
+abbrev pub writtenOf : answered.Reply → (table : List ℕ) → Written
 writtenOf answer table = record { number = answer .number; place = answer .place; table = table }

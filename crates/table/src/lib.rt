@@ -31,7 +31,7 @@ pub const DONE: u16 = 0;
 pub const SMALL_TABLE: u16 = 8;
 
 // A refusal's number and place, or 0 and 0.
-pub struct Answer {
+pub struct Reply {
     pub number: u16,
     pub place: usize,
 }

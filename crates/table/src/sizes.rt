@@ -1,5 +1,5 @@
 // R, S and T, in one pass over the sheet's rows.
-ghost use Rattle.table.specs.inner.MarkedRows.{Readable};
+ghost use Rattle.table.specs.inner.MarkedRows.{RowsReadable};
 ghost use Rattle.table.specs.inner.Needs.{Sized, SizesFound};
 use super::count;
 use super::needs;
@@ -15,7 +15,7 @@ pub struct Sizes {
 
 // Entry n of the levels, from 1 on, is what is kept of the block n deep.
 pub fn sizes_of(words: &[u16], shape: sheet::Shape, marks: &[u8]) -> Sizes
-    requires { ⌜ Readable (now words) shape (now marks) ⌝ ∗ ⌜ Sized (now words) (shape .«first_row») (shape .rows) (now marks) ⌝ }
+    requires { ⌜ RowsReadable (now words) shape (now marks) ⌝ ∗ ⌜ Sized (now words) (shape .«first_row») (shape .rows) (now marks) ⌝ }
     ensures { λ r. ⌜ SizesFound (now (words .entry)) shape (now (marks .entry)) r ⌝ }
 {
     let mut levels = [needs::NO_LEVEL; sheet::MAX_DEPTH + 1];

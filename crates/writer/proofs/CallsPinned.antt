@@ -2,12 +2,12 @@
 use Prim.Native.Nat.{ℕ}
 use mathlib.Core.Path.{_≡_, sym, ap, _∙_}
 use mathlib.Core.List.{List}
-use Rattle.table.specs.declared.Answer.{Answer}
+use Rattle.table.specs.declared.Reply.{Reply}
 use Rattle.table.specs.Calls.{Written, writtenOf, write}
 
 -- an answer with what the buffer then holds
 pub record Left : Type 0 where
-  pub answer : Answer
+  pub answer : Reply
   pub table : List ℕ
 
 leftBy : Written → Left

@@ -14,7 +14,7 @@ use Rattle.table.specs.Sizes.{mostTableRows, tableRows}
 use Rattle.table.specs.Calls.{tableRoom, overwritten}
 use Rattle.table.specs.inner.MarkedRows.{rowsIn}
 use Rattle.table.specs.inner.Plans.{SheetNoted}
-use Rattle.writer.specs.inner.RowsWritten.{Handed, handed, Walkable, Room, Wrote, wholeRows}
+use Rattle.writer.specs.inner.RowsWritten.{Handed, handed, Walkable, RowRoom, Wrote, wholeRows}
 use Rattle.writer.specs.inner.JumpsNoted.{noting, notedOver, Numbered, WroteNoted, TableNoted}
 use Rattle.table.proofs.TableLength.{table-rows-counted}
 use Rattle.table.proofs.SheetLaid.{Lies}
@@ -48,7 +48,7 @@ module _ {words : List ℕ} {sheet : Sheet} {shape : Shape} (lies : Lies words s
   counts-rows = refl
 
   pub room-right : (count : ℕ) (buffer : List ℕ) → count ≡ tableRows (variablesOf sheet) (marked sheet) → tableRoom count ≤ length buffer
-      → Room buffer 1 (wholeRows given)
+      → RowRoom buffer 1 (wholeRows given)
   room-right count buffer right long =
       record { fits = omega (arith, ap length whole-right, table-rows-counted (tableOf sheet), counts-rows) }
 
@@ -57,7 +57,7 @@ module _ {words : List ℕ} {sheet : Sheet} {shape : Shape} (lies : Lies words s
       → after ≡ overwritten (tableWords (tableOf sheet)) buffer
   table-written count buffer after next right long wrote =
       buffer-overwritten buffer after count next (tableOf sheet) (right ∙ counts-rows)
-      (subst (Room buffer 1) whole-right (room-right count buffer right long))
+      (subst (RowRoom buffer 1) whole-right (room-right count buffer right long))
       (subst (λ rs. Wrote (set buffer 0 count) 1 rs after next) whole-right wrote)
 
   pub rows-numbered : (count : ℕ) → count ≡ tableRows (variablesOf sheet) (marked sheet) → count ≤ mostTableRows → Numbered 1 (wholeRows given)

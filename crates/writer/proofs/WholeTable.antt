@@ -15,7 +15,7 @@ use Rattle.table.specs.TableRows.{Table, TableRow, linesOf, wordsOf, tableWords
 use Rattle.table.specs.Adjoint.{Body, put, forwardPart, backwardPart, adjointTable}
 use Rattle.table.specs.Calls.{overwritten}
 use Rattle.table.specs.inner.MarkedRows.{rowWith, rowsIn, Noted}
-use Rattle.writer.specs.inner.RowsWritten.{Room, Wrote, Handed, wholeRows}
+use Rattle.writer.specs.inner.RowsWritten.{RowRoom, Wrote, Handed, wholeRows}
 use Rattle.table.proofs.AssignmentRows.{rows-of-done}
 use Rattle.table.proofs.TableLength.{words-counted}
 use Rattle.table.proofs.MarkedAssignment.{forward-row}
@@ -61,7 +61,7 @@ whole-is-table given mark t says noted =
     (sym (adjoint-rows (given .variables) (numbered mark t 0)))
 
 -- the count and the rows, written from word 0 on, are the table over the buffer
-pub buffer-overwritten : (buffer after : List ℕ) (count next : ℕ) (table : Table) → count ≡ rows table → Room buffer 1 (rowsIn table)
+pub buffer-overwritten : (buffer after : List ℕ) (count next : ℕ) (table : Table) → count ≡ rows table → RowRoom buffer 1 (rowsIn table)
     → Wrote (set buffer 0 count) 1 (rowsIn table) after next → after ≡ overwritten (tableWords table) buffer
 unfolding overwritten tableWords rowsIn linesOf
 buffer-overwritten buffer after count next table counted room wrote =

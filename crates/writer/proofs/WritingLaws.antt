@@ -7,7 +7,7 @@ use lib.Seq.{sets, length-sets}
 use native.Mathlib.Omega.{arith}
 use Rattle.sheet.specs.Rows.{Row}
 use Rattle.table.specs.TableRows.{wordsOf}
-use Rattle.writer.specs.inner.RowsWritten.{Room, Wrote}
+use Rattle.writer.specs.inner.RowsWritten.{RowRoom, Wrote}
 use Rattle.table.proofs.TableLength.{words-counted}
 
 pub row-stores : (l : List ℕ) (p k d a b : ℕ) → set (set (set (set l p k) (p + 1) d) (p + 2) a) (p + 3) b ≡ sets l p (k ∷ d ∷ a ∷ b ∷ [])
@@ -43,13 +43,13 @@ wrote-then {l} {l′} {l″} {p} {q} {r} {rs} {rs′} w w′ =
       place-after = omega (arith, w .place-after, w′ .place-after, length-append rs rs′);
     }
 
-pub room-first : {l : List ℕ} {p : ℕ} (rs rs′ : List Row) → Room l p (rs ++ rs′) → Room l p rs
+pub room-first : {l : List ℕ} {p : ℕ} (rs rs′ : List Row) → RowRoom l p (rs ++ rs′) → RowRoom l p rs
 room-first rs rs′ h = record { fits = omega (arith, length-append rs rs′) }
 
-pub room-after : {l l′ : List ℕ} {p q : ℕ} {rs : List Row} (rs′ : List Row) → Wrote l p rs l′ q → Room l p (rs ++ rs′) → Room l′ q rs′
+pub room-after : {l l′ : List ℕ} {p q : ℕ} {rs : List Row} (rs′ : List Row) → Wrote l p rs l′ q → RowRoom l p (rs ++ rs′) → RowRoom l′ q rs′
 room-after {rs = rs} rs′ w h = record { fits = omega (arith, wrote-length w, w .place-after, length-append rs rs′) }
 
-pub room-kept : {l : List ℕ} {p : ℕ} {rs : List Row} (at word : ℕ) → Room l p rs → Room (set l at word) p rs
+pub room-kept : {l : List ℕ} {p : ℕ} {rs : List Row} (at word : ℕ) → RowRoom l p rs → RowRoom (set l at word) p rs
 room-kept {l} at word h = record { fits = omega (arith, h .fits, length-set l at word) }
 
 -- ---- a loop that writes rows: what it has written and what is left make up the whole
@@ -61,7 +61,7 @@ pub record Underway (before : List ℕ) (place : ℕ) (all rest : List Row) (aft
 pub underway-start : (l : List ℕ) (p : ℕ) {all rest : List Row} → rest ≡ all → Underway l p all rest l p
 underway-start l p e = record { passed = []; wrote = wrote-none l p; whole = e }
 
-pub underway-room : {l l′ : List ℕ} {p q : ℕ} {all rest : List Row} → Underway l p all rest l′ q → Room l p all → Room l′ q rest
+pub underway-room : {l l′ : List ℕ} {p q : ℕ} {all rest : List Row} → Underway l p all rest l′ q → RowRoom l p all → RowRoom l′ q rest
 underway-room {l} {l′} {p} {q} {all} {rest} u room = room-after rest (u .wrote) (rw (u .whole) room)
 
 pub underway-next : {l l′ l″ : List ℕ} {p q r : ℕ} {all rest : List Row} {rs : List Row} (rest′ : List Row)

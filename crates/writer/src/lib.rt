@@ -9,10 +9,10 @@ ghost use Rattle.sheet.specs.Reading.{Sheet, read};
 ghost use Rattle.table.specs.Calls.{tableRoom, writtenOf, write};
 ghost use Rattle.table.specs.inner.Plans.{PlanSays};
 ghost use Rattle.writer.specs.inner.JumpsNoted.{TableNoted};
-use table::Answer;
 use table::MAX_TABLE_ROWS;
 use table::Plan;
 use table::Planned;
+use table::Reply;
 
 mod jumps;
 mod partners;
@@ -50,27 +50,27 @@ pub fn has_room(rows: usize, room: usize) -> bool
 }
 
 // Any words and a buffer: the first refusal of 1 to 8, or the table of the sheet that they are, at the buffer's start.
-pub fn write(words: &[u16], table: &mut [u16]) -> Answer
+pub fn write(words: &[u16], table: &mut [u16]) -> Reply
     ensures { λ r. ⌜ writtenOf r (now (table .exit)) ≡ write (now (words .entry)) (now (table .entry)) ⌝ }
 {
     let mut marks = [0u8; sheet::MAX_ROWS];
     let mut came = [0u16; sheet::MAX_ROWS];
     let mut goes = [0u16; sheet::MAX_ROWS];
     match table::plan_sheet(words, &mut marks, &mut came, &mut goes) {
-        Planned::Refused(why) => Answer {
+        Planned::Refused(why) => Reply {
             number: sheet::number_of(why),
             place: sheet::place_of(why),
         },
         Planned::Made(plan) => {
             if !has_room(plan.rows, table.len()) {
-                return Answer {
+                return Reply {
                     number: table::SMALL_TABLE,
                     place: 0,
                 };
             }
             let mut beyond = [0u16; MAX_TABLE_ROWS];
             write_planned(words, plan, &marks, &came, &goes, table, &mut beyond);
-            Answer {
+            Reply {
                 number: table::DONE,
                 place: 0,
             }

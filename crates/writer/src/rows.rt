@@ -6,8 +6,8 @@ ghost use Rattle.sheet.specs.Bounds.{limit};
 ghost use Prim.Native.Nat.{_≤_};
 ghost use mathlib.Core.List.{[], _∷_};
 ghost use Rattle.table.specs.TableRows.{t};
-ghost use Rattle.table.specs.inner.MarkedRows.{rowWith, rowIf, Small, scaledRows, partRows, derivativesOf, assignmentBack, Assigns, SaysPart, forwardOfLine, backwardOfLine};
-ghost use Rattle.writer.specs.inner.RowsWritten.{Room, Wrote};
+ghost use Rattle.table.specs.inner.MarkedRows.{rowWith, rowIf, SmallWords, scaledRows, partRows, derivativesOf, assignmentBack, Assigns, SaysPart, forwardOfLine, backwardOfLine};
+ghost use Rattle.writer.specs.inner.RowsWritten.{RowRoom, Wrote};
 use sheet::RowWords;
 use sheet::kinds::Part;
 use table::kinds;
@@ -15,7 +15,7 @@ use table::marks::bit;
 
 // One row of the table, its words from place on. Answers the place after it.
 pub fn put(table: &mut [u16], place: usize, kind: u16, d: u16, a: u16, b: u16) -> usize
-    requires { ⌜ Room (now table) place (rowWith kind d a b ∷ []) ⌝ }
+    requires { ⌜ RowRoom (now table) place (rowWith kind d a b ∷ []) ⌝ }
     ensures { λ r. ⌜ Wrote (now (table .entry)) place (rowWith kind d a b ∷ []) (now (table .exit)) r ⌝ }
 {
     table[place] = kind;
@@ -35,7 +35,7 @@ pub fn put_if(
     a: u16,
     b: u16,
 ) -> usize
-    requires { ⌜ Room (now table) place (rowIf given (rowWith kind d a b)) ⌝ }
+    requires { ⌜ RowRoom (now table) place (rowIf given (rowWith kind d a b)) ⌝ }
     ensures { λ r. ⌜ Wrote (now (table .entry)) place (rowIf given (rowWith kind d a b)) (now (table .exit)) r ⌝ }
 {
     if given {
@@ -60,7 +60,7 @@ fn scaled(
     operand: u16,
     other: u16,
 ) -> usize
-    requires { ⌜ Room (now table) place (scaledRows variables given operand other) ⌝ ∗ ⌜ (variables ≤ limit .variables) × (other ≤ limit .turns) ⌝ }
+    requires { ⌜ RowRoom (now table) place (scaledRows variables given operand other) ⌝ ∗ ⌜ (variables ≤ limit .variables) × (other ≤ limit .turns) ⌝ }
     ensures { λ r. ⌜ Wrote (now (table .entry)) place (scaledRows variables given operand other) (now (table .exit)) r ⌝ }
 {
     let t = t_of(variables);
@@ -72,7 +72,7 @@ fn scaled(
 
 // An assignment's parts, for a first and b second, each only if it is varied: t or u into the adjoint of what it reads.
 fn parts(table: &mut [u16], place: usize, variables: u16, row: RowWords, mark: u8) -> usize
-    requires { ⌜ Room (now table) place (partRows variables (rowSaid row) mark) ⌝ ∗ ⌜ Small variables (rowSaid row) ⌝ ∗ ⌜ Assigns (row .kind) ⌝ }
+    requires { ⌜ RowRoom (now table) place (partRows variables (rowSaid row) mark) ⌝ ∗ ⌜ SmallWords variables (rowSaid row) ⌝ ∗ ⌜ Assigns (row .kind) ⌝ }
     ensures { λ r. ⌜ Wrote (now (table .entry)) place (partRows variables (rowSaid row) mark) (now (table .exit)) r ⌝ }
 {
     let t = t_of(variables);
@@ -100,7 +100,7 @@ fn parts(table: &mut [u16], place: usize, variables: u16, row: RowWords, mark: u
 
 // An assignment's derivative rows: d̄ := 0, and where the row is active t := d̄ before it and the parts after it.
 fn derivatives(table: &mut [u16], place: usize, variables: u16, row: RowWords, mark: u8) -> usize
-    requires { ⌜ Room (now table) place (derivativesOf variables (rowSaid row) mark) ⌝ ∗ ⌜ Small variables (rowSaid row) ⌝ ∗ ⌜ Assigns (row .kind) ⌝ }
+    requires { ⌜ RowRoom (now table) place (derivativesOf variables (rowSaid row) mark) ⌝ ∗ ⌜ SmallWords variables (rowSaid row) ⌝ ∗ ⌜ Assigns (row .kind) ⌝ }
     ensures { λ r. ⌜ Wrote (now (table .entry)) place (derivativesOf variables (rowSaid row) mark) (now (table .exit)) r ⌝ }
 {
     let adjoint = variables + row.d;
@@ -123,8 +123,8 @@ fn assignment_back(
     row: RowWords,
     mark: u8,
 ) -> usize
-    requires { ⌜ Room (now table) place (assignmentBack variables (rowSaid row) mark) ⌝
-        ∗ ⌜ Small variables (rowSaid row) ⌝ ∗ ⌜ Assigns (row .kind) ⌝ }
+    requires { ⌜ RowRoom (now table) place (assignmentBack variables (rowSaid row) mark) ⌝
+        ∗ ⌜ SmallWords variables (rowSaid row) ⌝ ∗ ⌜ Assigns (row .kind) ⌝ }
     ensures { λ r. ⌜ Wrote (now (table .entry)) place (assignmentBack variables (rowSaid row) mark) (now (table .exit)) r ⌝ }
 {
     let saved = bit(mark, sets::SAVED);
@@ -134,7 +134,7 @@ fn assignment_back(
 
 // A sheet row's rows in the forward part: the row itself, after a save of d or, at a branch's end, of the turn.
 pub fn forward_row(table: &mut [u16], place: usize, row: RowWords, part: Part, mark: u8) -> usize
-    requires { ⌜ Room (now table) place (forwardOfLine mark (lineOfRow (rowSaid row))) ⌝ ∗ ⌜ SaysPart (rowSaid row) part ⌝ }
+    requires { ⌜ RowRoom (now table) place (forwardOfLine mark (lineOfRow (rowSaid row))) ⌝ ∗ ⌜ SaysPart (rowSaid row) part ⌝ }
     ensures { λ r. ⌜ Wrote (now (table .entry)) place (forwardOfLine mark (lineOfRow (rowSaid row))) (now (table .exit)) r ⌝ }
 {
     match part {
@@ -167,8 +167,8 @@ pub fn backward_row(
     mark: u8,
     turns: u16,
 ) -> usize
-    requires { ⌜ Room (now table) place (backwardOfLine variables mark turns (lineOfRow (rowSaid row))) ⌝
-        ∗ ⌜ SaysPart (rowSaid row) part ⌝ ∗ ⌜ Small variables (rowSaid row) ⌝ }
+    requires { ⌜ RowRoom (now table) place (backwardOfLine variables mark turns (lineOfRow (rowSaid row))) ⌝
+        ∗ ⌜ SaysPart (rowSaid row) part ⌝ ∗ ⌜ SmallWords variables (rowSaid row) ⌝ }
     ensures { λ r. ⌜ Wrote (now (table .entry)) place (backwardOfLine variables mark turns (lineOfRow (rowSaid row))) (now (table .exit)) r ⌝ }
 {
     match part {

@@ -5,8 +5,8 @@ ghost use lib.ListN.{set, length, getD};
 ghost use Prim.Native.Nat.{_+_, _*_, _≤_, _<_};
 ghost use Rattle.sheet.specs.Bounds.{limit};
 ghost use Rattle.table.specs.Sizes.{mostTableRows};
-ghost use Rattle.table.specs.inner.MarkedRows.{Readable};
-ghost use Rattle.writer.specs.inner.RowsWritten.{Room, forwardAll, leadsOn, stepBack, turnsBack, handed, Walkable, backwardAll, wholeRows};
+ghost use Rattle.table.specs.inner.MarkedRows.{RowsReadable};
+ghost use Rattle.writer.specs.inner.RowsWritten.{RowRoom, forwardAll, leadsOn, stepBack, turnsBack, handed, Walkable, backwardAll, wholeRows};
 ghost use Rattle.writer.specs.inner.JumpsNoted.{noting, Numbered, WroteNoted};
 use super::jumps;
 use super::partners;
@@ -19,7 +19,7 @@ use table::Plan;
 use table::kinds;
 
 // Where the writer is: the place after the last row, and the innermost open branch's row.
-pub struct Reached {
+pub struct SweptTo {
     pub place: usize,
     pub top: u16,
 }
@@ -30,12 +30,12 @@ fn forward_part(
     shape: Shape,
     marks: &[u8],
     table: &mut [u16],
-    from: Reached,
+    from: SweptTo,
     beyond: &mut [u16; MAX_TABLE_ROWS],
-) -> Reached
-    requires { ⌜ Room (now table) (from .place) (forwardAll (now words) shape (now marks)) ⌝
+) -> SweptTo
+    requires { ⌜ RowRoom (now table) (from .place) (forwardAll (now words) shape (now marks)) ⌝
         ∗ ⌜ Numbered (from .place) (forwardAll (now words) shape (now marks)) ⌝
-        ∗ ⌜ Readable (now words) shape (now marks) ⌝ }
+        ∗ ⌜ RowsReadable (now words) shape (now marks) ⌝ }
     ensures { λ r. ⌜ WroteNoted (now (table .entry)) (from .place) (forwardAll (now (words .entry)) shape (now (marks .entry)))
         (now (table .exit)) (r .place) (noting (from .top) (now (beyond .entry))) (noting (r .top) (now (beyond .exit))) ⌝ }
 {
@@ -54,7 +54,7 @@ fn forward_part(
         top = jumps::note(what, next, top, beyond);
         p += 1;
     }
-    Reached { place: next, top }
+    SweptTo { place: next, top }
 }
 
 // Where the backward walk goes from a row: to the end of what comes next there.
@@ -104,12 +104,12 @@ fn backward_part(
     came: &[u16],
     goes: &[u16],
     table: &mut [u16],
-    from: Reached,
+    from: SweptTo,
     beyond: &mut [u16; MAX_TABLE_ROWS],
-) -> Reached
-    requires { ⌜ Room (now table) (from .place) (backwardAll (handed (now words) shape (now marks) (now came) (now goes))) ⌝
+) -> SweptTo
+    requires { ⌜ RowRoom (now table) (from .place) (backwardAll (handed (now words) shape (now marks) (now came) (now goes))) ⌝
         ∗ ⌜ Numbered (from .place) (backwardAll (handed (now words) shape (now marks) (now came) (now goes))) ⌝
-        ∗ ⌜ Readable (now words) shape (now marks) ⌝
+        ∗ ⌜ RowsReadable (now words) shape (now marks) ⌝
         ∗ ⌜ Walkable (handed (now words) shape (now marks) (now came) (now goes)) ⌝ }
     ensures { λ r. ⌜ WroteNoted (now (table .entry)) (from .place)
         (backwardAll (handed (now (words .entry)) shape (now (marks .entry)) (now (came .entry)) (now (goes .entry))))
@@ -134,7 +134,7 @@ fn backward_part(
         end = step_back(came, goes, RowNumber(q), part);
         left -= 1;
     }
-    Reached { place: next, top }
+    SweptTo { place: next, top }
 }
 
 // The whole table: the row count, the forward part, row 17 and the backward part.
@@ -146,10 +146,10 @@ pub fn write_table(
     goes: &[u16],
     table: &mut [u16],
     beyond: &mut [u16; MAX_TABLE_ROWS],
-) -> Reached
-    requires { ⌜ Room (now table) 1 (wholeRows (handed (now words) (plan .shape) (now marks) (now came) (now goes))) ⌝
+) -> SweptTo
+    requires { ⌜ RowRoom (now table) 1 (wholeRows (handed (now words) (plan .shape) (now marks) (now came) (now goes))) ⌝
         ∗ ⌜ Numbered 1 (wholeRows (handed (now words) (plan .shape) (now marks) (now came) (now goes))) ⌝
-        ∗ ⌜ Readable (now words) (plan .shape) (now marks) ⌝
+        ∗ ⌜ RowsReadable (now words) (plan .shape) (now marks) ⌝
         ∗ ⌜ Walkable (handed (now words) (plan .shape) (now marks) (now came) (now goes)) ⌝
         ∗ ⌜ plan .rows ≤ mostTableRows ⌝ }
     ensures { λ r. ⌜ WroteNoted (set (now (table .entry)) 0 (plan .rows)) 1
@@ -158,10 +158,10 @@ pub fn write_table(
 {
     let shape = plan.shape;
     table[0] = plan.rows as u16;
-    let first = Reached { place: 1, top: 0 };
+    let first = SweptTo { place: 1, top: 0 };
     let turned = forward_part(words, shape, marks, table, first, beyond);
     let place = rows::put(table, turned.place, kinds::TURN_ROUND, 0, 0, 0);
-    let back = Reached {
+    let back = SweptTo {
         place,
         top: turned.top,
     };

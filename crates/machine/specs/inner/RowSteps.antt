@@ -17,7 +17,7 @@ use Rattle.machine.specs.Actions.{Setting, Try}
 use Rattle.machine.specs.Machine.{Repeat, State, Step, goesOn, ended, stops, sticks, stepAt, step}
 use Rattle.machine.specs.inner.Buffers.{Buffers, Cells, cellsOf, memoryOf, Sound, Does, RoundSizes}
 use Rattle.machine.specs.inner.RowWords.{actionOf}
-use Rattle.machine.specs.inner.Runnable.{Holds, Jumps, Suits}
+use Rattle.machine.specs.inner.RowsHanded.{Holds, Jumps, Suits}
 use Rattle.machine.specs.declared.Met.{Met}
 use Rattle.machine.specs.declared.Met.the-variants as met-as
 use Rattle.machine.specs.declared.Place.{Place}

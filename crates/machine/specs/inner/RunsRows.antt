@@ -9,7 +9,7 @@ use Rattle.table.specs.TableRows.{TableLine}
 use Rattle.machine.specs.Actions.{Memory, Setting}
 use Rattle.machine.specs.Machine.{Repeat, State, Step, goesOn, ended, sticks, step, stateAfter}
 use Rattle.machine.specs.inner.Buffers.{Cells, memoryOf, Sound, RoundSizes}
-use Rattle.machine.specs.inner.Runnable.{Holds, Jumps, Suits, Shallow}
+use Rattle.machine.specs.inner.RowsHanded.{Holds, Jumps, Suits, Shallow}
 use Rattle.machine.specs.inner.RowSteps.{Opened, buffersAt, stateAt, CopiesOn, StopsAt}
 use Rattle.machine.specs.declared.Place.{Place}
 use Rattle.machine.specs.declared.Ran.{Ran}

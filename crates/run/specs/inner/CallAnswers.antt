@@ -13,15 +13,15 @@ use Rattle.table.specs.TableRows.{linesOf, tableWords, tableVariables}
 use Rattle.table.specs.Adjoint.{tableOf}
 use Rattle.table.specs.Sizes.{tableRows, mostTableRows}
 use Rattle.table.specs.Calls.{overwritten}
-use Rattle.table.specs.declared.Answer.{Answer}
+use Rattle.table.specs.declared.Reply.{Reply}
 use Rattle.table.specs.declared.Plan.{Plan}
-use Rattle.machine.specs.inner.Runnable.{Holds, Jumps}
+use Rattle.machine.specs.inner.RowsHanded.{Holds, Jumps}
 use Rattle.run.specs.Calls.{sheetRun, ranTo, lentOf, ranOf}
 
 -- ---- a sheet whose table has been written
 
 -- the sheet that was planned, its table over a buffer, and the table's jumps
-pub record Written (words : List ℕ) (plan : Plan) (table beyond : List ℕ) (sheet : Sheet) (buffer : List ℕ) : Type 0 where
+pub record TableInPlace (words : List ℕ) (plan : Plan) (table beyond : List ℕ) (sheet : Sheet) (buffer : List ℕ) : Type 0 where
   pub accepted : read words ≡ given sheet
   pub shape : plan .shape ≡ shapeOf sheet
   pub rows : plan .rows ≡ tableRows (variablesOf sheet) (marked sheet)
@@ -66,7 +66,7 @@ module _ (A : Arithmetic) where
 
   -- what is answered and left is what the run of the sheet's table, written over a buffer, comes to
   abbrev pub RanTo : Sheet → (buffer : List ℕ) → (starts seeds before : List (A .Carrier)) → (turnsBefore : List ℕ)
-      → (resultBefore : List (A .Carrier)) → (answer : Answer)
+      → (resultBefore : List (A .Carrier)) → (answer : Reply)
       → (after : List (A .Carrier)) → (turnsAfter : List ℕ) → (resultAfter : List (A .Carrier)) → Type 0
   RanTo sheet buffer starts seeds before turnsBefore resultBefore answer after turnsAfter resultAfter =
       ranOf A answer (lentOf A (overwritten (tableWords (tableOf sheet)) buffer) after turnsAfter resultAfter)

@@ -13,7 +13,7 @@ use Rattle.sets.specs.Marks.{marked}
 use Rattle.table.specs.Sizes.{valuesNeeded, turnsNeeded, valuesFor, turnsFor}
 use Rattle.table.specs.Calls.{tableRoom, readFor}
 use Rattle.table.specs.inner.Plans.{PlanMade}
-use Rattle.table.specs.declared.Answer as answered
+use Rattle.table.specs.declared.Reply as answered
 use Rattle.table.specs.declared.Plan.{Plan}
 use Rattle.machine.specs.declared.Ended.{Ended}
 use Rattle.machine.specs.declared.Ended.the-variants as ended
@@ -76,12 +76,12 @@ fitSaid (fit.No why) = refused (unfitRefusal why)
 fitSaid fit.Fits = given tt
 
 -- a refusal's number and place
-pub record Answers (answer : answered.Answer) (why : Refusal) : Type 0 where
+pub record Answers (answer : answered.Reply) (why : Refusal) : Type 0 where
   pub number : answer .number ≡ numberOf why
   pub place : answer .place ≡ placeOf why
 
 -- refused by one of 1 to 10, and answered so
-pub record NoRoom (words : List ℕ) (rooms : Rooms) (answer : answered.Answer) : Type 0 where
+pub record NoRoom (words : List ℕ) (rooms : Rooms) (answer : answered.Reply) : Type 0 where
   pub why : Refusal
   pub is : readWithRoom words rooms ≡ refused why
   pub answers : Answers answer why
@@ -102,7 +102,7 @@ JudgedAs words rooms marks came goes (judged.HasRoom plan) = HasRoom words rooms
 -- ---- a run's end
 
 -- 0; 12 at its row; the number of no run, which is one for both arithmetics
-unfoldable pub answerAt : Ended → answered.Answer
+unfoldable pub answerAt : Ended → answered.Reply
 unfolding numberOf placeOf
 answerAt ended.Finished = record { number = 0; place = 0 }
 answerAt (ended.Stopped row) =

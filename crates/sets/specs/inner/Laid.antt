@@ -31,7 +31,7 @@ AllMarked words count sets₁ sets₂ sets₃ before after =
     (sheet : Sheet) → read words ≡ given sheet → MarksLeft sheet count sets₁ sets₂ sets₃ before after
 
 -- what is lent: room for every row's partners and marks, and an empty set at every point
-pub record Room (count came goes : ℕ) (sets₁ sets₂ sets₃ : List VariableSet) (marks : ℕ) : Type 0 where
+pub record ClearRoom (count came goes : ℕ) (sets₁ sets₂ sets₃ : List VariableSet) (marks : ℕ) : Type 0 where
   pub cameRoom : count ≤ came
   pub goesRoom : count ≤ goes
   pub variedClear : sets₁ ≡ replicate (suc count) empty

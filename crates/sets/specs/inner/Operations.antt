@@ -7,7 +7,7 @@ use lib.Dec.{eqb}
 use Rattle.sheet.specs.Rows.{Assignment, _≔_, Source, Row, rowOfAssignment}
 use Rattle.sheet.specs.inner.Kinds.{namesVariable}
 use Rattle.sheet.specs.declared.kinds.Slot.{Slot}
-use Rattle.sets.specs.declared.transfers.Operation.{Operation}
+use Rattle.sets.specs.declared.transfers.MaskedAssignment.{MaskedAssignment}
 use Rattle.sets.specs.VariableSets.{VariableSet, empty, single, singleSome}
 use Rattle.sets.specs.Transfers.{Activity, firstRead, secondRead}
 
@@ -36,24 +36,24 @@ abbrev pub sourceOf : Assignment → Source
 sourceOf (d ≔ source) = source
 
 -- the operation is this assignment's
-pub record Performs (operation : Operation) (b : Assignment) : Type 0 where
+pub record Performs (operation : MaskedAssignment) (b : Assignment) : Type 0 where
   pub kind : operation .kind ≡ rowOfAssignment b .kind
   pub target : operation .target .0 ≡ targetOf b
   pub first : operation .first ≡ singleSome (firstRead (sourceOf b))
   pub second : operation .second ≡ singleSome (secondRead (sourceOf b))
 
 -- and that of the assignment that a row's words say
-abbrev pub PerformsRow : Operation → Row → Type 0
+abbrev pub PerformsRow : MaskedAssignment → Row → Type 0
 PerformsRow operation row = (b : Assignment) → rowOfAssignment b ≡ row → Performs operation b
 
 -- its target is a bit of a mask
-abbrev pub TargetSmall : Operation → Type 0
+abbrev pub TargetSmall : MaskedAssignment → Type 0
 TargetSmall operation = operation .target .0 < maskBits
 
 -- r is what a definition makes of the assignment
-abbrev pub Gives : {A : Type 0} → Operation → A → (Assignment → A) → Type 0
+abbrev pub Gives : {A : Type 0} → MaskedAssignment → A → (Assignment → A) → Type 0
 Gives operation r meaning = (b : Assignment) → Performs operation b → r ≡ meaning b
 
 -- the same where the definition asks whether the row is active
-abbrev pub GivesKnown : {A : Type 0} → Operation → (active : Bool) → A → (Assignment → Activity → A) → Type 0
+abbrev pub GivesKnown : {A : Type 0} → MaskedAssignment → (active : Bool) → A → (Assignment → Activity → A) → Type 0
 GivesKnown operation active r meaning = (known : Activity) → known .active ≡ active → Gives operation r (λ b. meaning b known)

@@ -11,24 +11,24 @@ use Rattle.sheet.specs.declared.kinds.Part.the-variants as part
 
 -- The innermost open block's last row so far, and both lists of partners. An open block's row has in `goes`, until its own partner is known,
 -- the row that was innermost outside it, so that no stack is needed.
-pub record Found : Type 0 where
+pub record PartnersSoFar : Type 0 where
   pub top : ℕ
   pub came : List ℕ
   pub goes : List ℕ
 
-abbrev pub found : (top : ℕ) (came goes : List ℕ) → Found
+abbrev pub found : (top : ℕ) (came goes : List ℕ) → PartnersSoFar
 found top came goes = record { top = top; came = came; goes = goes }
 
 -- a row opens a block or a branch, and keeps the row that was innermost
-abbrev pub opened : (row : ℕ) → Found → Found
+abbrev pub opened : (row : ℕ) → PartnersSoFar → PartnersSoFar
 opened p s = found p (s .came) (set (s .goes) p (s .top))
 
 -- two rows become partners, and the row that was innermost outside them is so again
-abbrev pub paired : (to from : ℕ) → Found → Found
+abbrev pub paired : (to from : ℕ) → PartnersSoFar → PartnersSoFar
 paired to from s = found (getD (s .goes) (s .top) 0) (set (s .came) to from) (set (s .goes) from to)
 
 -- what one row does, by what it is to the blocks
-unfoldable pub foundBy : Part → (row : ℕ) → Found → Found
+unfoldable pub foundBy : Part → (row : ℕ) → PartnersSoFar → PartnersSoFar
 foundBy part.Assignment p s = s
 foundBy part.If p s = opened p s
 foundBy part.Else p s = opened p (paired p (s .top) s)
@@ -37,17 +37,17 @@ foundBy part.Repeat p s = opened p s
 foundBy part.EndRepeat p s = paired (s .top) p s
 
 -- and so by its line
-unfoldable pub foundAt : SheetLine → (row : ℕ) → Found → Found
+unfoldable pub foundAt : SheetLine → (row : ℕ) → PartnersSoFar → PartnersSoFar
 unfolding foundBy
 foundAt l p s = foundBy (partOf l) p s
 
-unfoldable pub foundOver : (ℕ → SheetLine) → (from count : ℕ) → Found → Found
+unfoldable pub foundOver : (ℕ → SheetLine) → (from count : ℕ) → PartnersSoFar → PartnersSoFar
 unfolding foundAt
 foundOver line p zero s = s
 foundOver line p (suc n) s = foundOver line (suc p) n (foundAt (line p) p s)
 
 -- before each of so many rows the innermost open block's last row so far is one of n rows
-unfoldable pub TopsWithin : (ℕ → SheetLine) → (n from count : ℕ) → Found → Type 0
+unfoldable pub TopsWithin : (ℕ → SheetLine) → (n from count : ℕ) → PartnersSoFar → Type 0
 unfolding foundAt
 TopsWithin line n p zero s = Unit
 TopsWithin line n p (suc m) s = (s .top < n) × TopsWithin line n (suc p) m (foundAt (line p) p s)

@@ -166,22 +166,22 @@ abbrev pub blockSide : Which → Part → (own other : VariableSet) → Variable
 blockSide which part own other = cond (splits part) other (cond (joinsBy which part) (own ∪ other) own)
 
 -- an assignment's words are bits of a mask
-abbrev pub Small : Row → Type 0
-Small row = assigns (partFor (row .kind)) ≡ true → InMask row
+abbrev pub FitsMask : Row → Type 0
+FitsMask row = assigns (partFor (row .kind)) ≡ true → InMask row
 
 -- all words of a row are there
 abbrev pub RowThere : (words : List ℕ) (first row : ℕ) → Type 0
 RowThere words first p = first + (p + 1) * limit .rowWords ≤ List·length words
 
 -- the words of a row are there, say its line, and name no variable or constant beyond a mask's bits
-pub record Readable (words : List ℕ) (first row : ℕ) : Type 0 where
+pub record RowReadable (words : List ℕ) (first row : ℕ) : Type 0 where
   pub says : let r = numberedRow words first row in sheetRowOf (lineOfRow r) ≡ r
-  pub small : Small (numberedRow words first row)
+  pub small : FitsMask (numberedRow words first row)
   pub numbered : row < wordValues
   pub there : RowThere words first row
 
 abbrev pub AllReadable : List ℕ → (first rows : ℕ) → Type 0
-AllReadable words first rows = (p : ℕ) → p < rows → Readable words first p
+AllReadable words first rows = (p : ℕ) → p < rows → RowReadable words first p
 
 -- a row's kind was read: it is one of the table's
 pub record KindRead (words : List ℕ) (first row kind : ℕ) : Type 0 where

@@ -8,7 +8,7 @@ use lib.ListN.{getD, set, replicate, length as List·length}
 use Rattle.sheet.specs.inner.Kinds.{partFor}
 use Rattle.sheet.specs.declared.kinds.Part.{Part}
 use Rattle.sheet.specs.declared.kinds.Part.the-variants as part
-use Rattle.sets.specs.declared.walk.Reached.{Reached}
+use Rattle.sets.specs.declared.walk.WalkedTo.{WalkedTo}
 use Rattle.sets.specs.declared.Which.{Which}
 use Rattle.sets.specs.declared.Which.the-variants.{Varied, Useful, Required}
 use Rattle.sets.specs.VariableSets.{VariableSet, empty, _∪_}
@@ -100,7 +100,7 @@ pub record Grown (before : List VariableSet) (point : ℕ) (more : VariableSet) 
   pub stands : r ≡ setAt after point
 
 -- a row was passed: the right side that was due is stored, and this is how far the walk has come
-pub record Went (which : Which) (part : Part) (side : VariableSet) (rows row : ℕ) (others : List ℕ) (before after : List VariableSet) (reached : Reached) : Type 0 where
+pub record PassedRow (which : Which) (part : Part) (side : VariableSet) (rows row : ℕ) (others : List ℕ) (before after : List VariableSet) (reached : WalkedTo) : Type 0 where
   pub due : ℕ
   pub more : VariableSet
   pub isDue : Due which part side row others before due more
@@ -118,7 +118,7 @@ pub record Brings (which : Which) (part : Part) (row : ℕ) (others : List ℕ) 
   pub nothing : r ≡ false → endsRepeat which part ≡ true → Brought which sets (getD others row 0) row
 
 -- what it needs to pass a row of a block
-pub record AtBlock (which : Which) (part : Part) (rows row : ℕ) (partners others : List ℕ) (sets : List VariableSet) (reached : Reached) : Type 0 where
+pub record AtBlock (which : Which) (part : Part) (rows row : ℕ) (partners others : List ℕ) (sets : List VariableSet) (reached : WalkedTo) : Type 0 where
   pub judging : Judging which part row others sets (reached .own)
   pub turns : reached .turn ≡ rowInTurn which rows row
   pub below : row < rows

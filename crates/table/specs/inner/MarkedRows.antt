@@ -50,7 +50,7 @@ abbrev pub anyRow : RowNumber
 anyRow = record { index = 0 }
 
 -- small enough words that every number in the table fits a word
-pub record Small (variables : ℕ) (r : Row) : Type 0 where
+pub record SmallWords (variables : ℕ) (r : Row) : Type 0 where
   pub few : variables ≤ limit .variables
   pub d : r .d ≤ limit .turns
   pub a : r .a ≤ limit .turns
@@ -139,7 +139,7 @@ abbrev pub rowNumbered : (words : List ℕ) (first p : ℕ) → Row
 rowNumbered words first p = rowAt words (first + p * limit .rowWords)
 
 -- what the reader has made sure of: the rows are there, few, each says a line, and a mark is there for each
-pub record Readable (words : List ℕ) (shape : Shape) (marks : List ℕ) : Type 0 where
+pub record RowsReadable (words : List ℕ) (shape : Shape) (marks : List ℕ) : Type 0 where
   pub few : shape .rows ≤ limit .rows
   pub marked : shape .rows ≤ length marks
   pub says : (p : ℕ) → p < shape .rows → Says (rowNumbered words (shape .«first_row») p)

@@ -14,12 +14,12 @@ use Rattle.sheet.specs.declared.Shape.{Shape}
 use Rattle.sheet.specs.declared.kinds.Part.{Part}
 use Rattle.sheet.specs.declared.kinds.Part.the-variants as part
 use Rattle.table.specs.TableRows.{wordsOf}
-use Rattle.table.specs.inner.MarkedRows.{rowWith, rowNumbered, forwardOfLine, backwardOfLine, Small}
+use Rattle.table.specs.inner.MarkedRows.{rowWith, rowNumbered, forwardOfLine, backwardOfLine, SmallWords}
 
 -- ---- rows in a buffer
 
 -- a buffer has room for rows from a place on
-pub record Room (buffer : List ℕ) (place : ℕ) (rs : List Row) : Type 0 where
+pub record RowRoom (buffer : List ℕ) (place : ℕ) (rs : List Row) : Type 0 where
   pub fits : place + limit .rowWords * length rs ≤ length buffer
 
 -- the buffer holds the rows' words from a place on and is else as it was; `reached` is the place after them
@@ -135,7 +135,7 @@ module _ (given : Handed) where
   -- what the reader has made sure of besides
   pub record Walkable : Type 0 where
     pub few : given .variables ≤ limit .variables
-    pub small : (p : ℕ) → p < given .rows → Small (given .variables) (rowOfNumber p)
+    pub small : (p : ℕ) → p < given .rows → SmallWords (given .variables) (rowOfNumber p)
     pub cameThere : given .rows ≤ length (given .came)
     pub goesThere : given .rows ≤ length (given .goes)
     pub walks : Walks (given .rows) (given .rows)

@@ -6,7 +6,7 @@ use mathlib.Core.Bool.{true}
 use lib.ListN.{length, getD}
 use borrow.Author.Needs.{needs}
 use native.Mathlib.Omega.{arith}
-use Rattle.table.specs.inner.MarkedRows.{Says, SaysPart, Small}
+use Rattle.table.specs.inner.MarkedRows.{Says, SaysPart, SmallWords}
 use Rattle.writer.specs.inner.RowsWritten.{leadsOn, Handed, handed, backwardAll, backwardRows, Visited, Walks}
 use Rattle.writer.specs.inner.JumpsNoted.{noting}
 use Rattle.writer.proofs.WritingLaws.{Underway, underway-start, underway-room, underway-next, underway-end, underway-length, room-first}
@@ -111,7 +111,7 @@ backward-row-requires c κs =
     let given = start turn .pre in
     let left = backward-next (handedTo turn) _ _ (turn .loop-test .taken) is (said row .is) (c .before .before .turns-back .ensures) refl in (
       room-first _ _ (rw left at (underway-room (turn .before .loop .inv .1) (given .0))),
-      (said row, subst (Small (handedTo turn .variables)) (sym is) (given .1 .1 .1 .small _ (there turn))),
+      (said row, subst (SmallWords (handedTo turn .variables)) (sym is) (given .1 .1 .1 .small _ (there turn))),
     )
 
 backward-requires : tie.Need-backward-requires Inv-loop μ-loop

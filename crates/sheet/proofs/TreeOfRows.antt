@@ -112,8 +112,8 @@ pub record Exact (sheet : Sheet) : Type 0 where
   pub says : treeRows (sheet .body) ≡ sheet .rows
   pub only : (t : Body) → treeRows t ≡ sheet .rows → t ≡ sheet .body
 
-pub reading-exact : (words : List ℕ) (sheet : Sheet) → read words ≡ given sheet → Exact sheet
-reading-exact words sheet e =
+pub tree-of-rows : (words : List ℕ) (sheet : Sheet) → read words ≡ given sheet → Exact sheet
+tree-of-rows words sheet e =
     let parts = accepted words sheet e in
     let says = body-rows _ _ (sheet .rows) _ (sheet .body) (parts .body) in
     record { says = says; only = λ t p. only-body t (sheet .body) (p ∙ sym says) }

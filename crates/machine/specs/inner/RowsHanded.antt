@@ -40,7 +40,7 @@ pub record Indexes (buffer : List ℕ) (count variables : ℕ) : Type 0 where
   pub indexed : Indexed buffer count variables constants
 
 -- how far a search goes, and that a list of rows names the row there
-pub record Reached (found : Option ℕ) (from to : ℕ) : Type 0 where
+pub record Arrives (found : Option ℕ) (from to : ℕ) : Type 0 where
   pub far : ℕ
   pub finds : found ≡ some far
   pub arrives : to ≡ from + far
@@ -48,9 +48,9 @@ pub record Reached (found : Option ℕ) (from to : ℕ) : Type 0 where
 -- for each "if" the row after its "else", for each "else" the row after its "end if"
 pub record Jumps (lines : List TableLine) (beyond : List ℕ) : Type 0 where
   pub fromIf : (p : ℕ) (test : TableTest) (rest : List TableLine) → drop p lines ≡ ifLine test ∷ rest
-      → Reached (oneMore (seek itsElse 0 rest)) p (getD beyond p 0)
+      → Arrives (oneMore (seek itsElse 0 rest)) p (getD beyond p 0)
   pub fromElse : (p : ℕ) (rest : List TableLine) → drop p lines ≡ elseLine ∷ rest
-      → Reached (oneMore (seek itsEnd 0 rest)) p (getD beyond p 0)
+      → Arrives (oneMore (seek itsEnd 0 rest)) p (getD beyond p 0)
 
 -- the setting that a run's sections and seeds make
 pub record Suits (A : Arithmetic) (roleWords constantWords : List ℕ) (lentSeeds : List (A .Carrier)) (setting : Setting A) : Type 0 where
