@@ -116,11 +116,11 @@ listed (x ∷ l) (suc i) h = let later = listed l i h in omega arith
 
 module _ {A : Arithmetic} where
   turn-out : (state : State A) (r : Repeat) (outer : List Repeat) → r .left ≡ 0
-      → afterTurn A state (r ∷ outer) ≡ goTo A (suc (state .at)) outer (state .memory)
+      → afterTurn A state (r ∷ outer) ≡ goTo A (suc (state .at .index)) outer (state .memory)
   turn-out state r outer is = rw is
 
   turn-back : (state : State A) (r : Repeat) (n : ℕ) (outer : List Repeat) → r .left ≡ suc n
-      → afterTurn A state (r ∷ outer) ≡ goTo A (suc (r .start)) (record { start = r .start; left = n } ∷ outer) (state .memory)
+      → afterTurn A state (r ∷ outer) ≡ goTo A (suc (r .start .index)) (record { start = r .start; left = n } ∷ outer) (state .memory)
   turn-back state r n outer is = rw is
 
   -- what is to be shown of one line
@@ -283,9 +283,9 @@ module _ {A : Arithmetic} where
             → Crosses at next setting (repeat (pred (row .a))) rest repeats cells cells held bodiesAfter toComeAfter answer
         by-room {setting} {rest} {repeats} {cells} {held} count follows opened sound (yes room) =
             let m = pred (row .a) in
-            goes-to (within next (suc (next .depth))) (record { start = at; left = m } ∷ repeats) (opens .room room m count) refl
+            goes-to (within next (suc (next .depth))) (record { start = record { index = at }; left = m } ∷ repeats) (opens .room room m count) refl
             (opens .opened room m at repeats count follows opened) sound
-            (ap (λ (n : ℕ). goTo A n (record { start = at; left = m } ∷ repeats) (memoryOf A (buffersAt A next cells held))) (sym follows))
+            (ap (λ (n : ℕ). goTo A n (record { start = record { index = at }; left = m } ∷ repeats) (memoryOf A (buffersAt A next cells held))) (sym follows))
         by-room {setting} {rest} {repeats} {cells} {held} count follows opened sound (no full) =
             let deep = opened-length (next .depth) bodies toCome repeats opened in
             let full-up = opens .full (omega arith) in
@@ -315,7 +315,7 @@ module _ {A : Arithmetic} where
             ∙ ap (λ (n : ℕ). goTo A n outer (memoryOf A (buffersAt A next cells held))) (sym follows))
         by-left {setting} {rest} {cells} {held} r outer (suc n) left follows opened shallow sound =
             let back = closes .back shallow r n outer opened left in
-            goes-to (moved next (suc (r .start))) (record { start = r .start; left = n } ∷ outer) (back .0) refl (back .1) sound
+            goes-to (moved next (suc (r .start .index))) (record { start = r .start; left = n } ∷ outer) (back .0) refl (back .1) sound
             (turn-back (stateAt A (preceding next at) (r ∷ outer) cells held) r n outer left)
 
         by-repeats : {setting : Setting A} {rest : List TableLine} {cells : Cells A} {held : List (A .Carrier)} (repeats : List Repeat)

@@ -40,7 +40,7 @@ set-above l n x i h = getD-set-other l n i x 0 (λ same. omega arith)
 
 nested-more : (n : ℕ) (bodies toCome : List ℕ) (start m : ℕ) (repeats : List Repeat) → n < length bodies → n < length toCome
     → Nested n bodies toCome repeats
-    → Nested (suc n) (set bodies n (suc start)) (set toCome n m) (record { start = start; left = m } ∷ repeats)
+    → Nested (suc n) (set bodies n (suc start)) (set toCome n m) (record { start = record { index = start }; left = m } ∷ repeats)
 unfolding Nested
 nested-more n bodies toCome start m repeats roomBodies roomTurns now = (
   getD-set-same bodies n (suc start) 0 roomBodies,
@@ -105,7 +105,7 @@ nested-none (suc n) bodies toCome now = absurd now
 
 -- the nearest open repeat
 nested-nearest : (n top : ℕ) (bodies toCome : List ℕ) (r : Repeat) (outer : List Repeat) → n ≡ suc top → Nested n bodies toCome (r ∷ outer)
-    → (getD bodies top 0 ≡ suc (r .start)) × (getD toCome top 0 ≡ r .left) × Nested top bodies toCome outer
+    → (getD bodies top 0 ≡ suc (r .start .index)) × (getD toCome top 0 ≡ r .left) × Nested top bodies toCome outer
 unfolding Nested
 nested-nearest n top bodies toCome r outer is now = rw is at now
 

@@ -58,7 +58,7 @@ module _ (A : Arithmetic) (setting : Setting A) (lines : List TableLine) where
           let bound = shallow (n + 1) next (after-one-more n first now next so-far is) in
           absurd (omega arith)
       by-step (ended memory) is blocked = absurd blocked
-      by-step (stops row origin why) is blocked = absurd blocked
+      by-step (stops row stop) is blocked = absurd blocked
       by-step sticks is blocked = is
 
 module _ (A : Arithmetic) where
@@ -221,7 +221,7 @@ module _ {A : Arithmetic} (task : Task A) where
         (opened : Opened (place .depth) bodiesAfter toComeAfter (now .repeats))
         (copies : CopiesOn A (now .held) cells held after) where
       abbrev state-of : Buffers A → State A
-      state-of b = record { at = place .at .0; repeats = now .repeats; memory = memoryOf A b }
+      state-of b = record { at = record { index = place .at .0 }; repeats = now .repeats; memory = memoryOf A b }
 
       abbrev running-stays : Running first setting lines start place after bodiesAfter toComeAfter
       running-stays =
@@ -248,7 +248,7 @@ module _ {A : Arithmetic} (task : Task A) where
           → Leaves A setting lines start (task .steps) first after bodiesAfter toComeAfter (leftAt place (ended-as.Stopped row))
       running-stops row at some-left stop =
           leaves-by (ended-as.Stopped row)
-          (some-left, at, record { origin = stop .origin; why = stop .why; is = found-again ∙ stop .is })
+          (some-left, at, record { stop = stop .stop; is = found-again ∙ stop .is })
 
       running-sticks : Shallow A setting lines (firstState A start) → 0 < place .left → Blocked A (step A setting lines state)
           → Leaves A setting lines start (task .steps) first after bodiesAfter toComeAfter (leftAt place ended-as.Stuck)

@@ -53,7 +53,7 @@ module _ (A : Arithmetic) where
             → (next : State A) × (step A setting lines now ≡ goesOn next)
         by-step (goesOn next) is goes = (next, is)
         by-step (ended memory) is goes = let z : _≡_ {A = ℕ} 0 1 = cc in absurd (omega arith)
-        by-step (stops row origin why) is goes = let z : _≡_ {A = ℕ} 0 1 = cc in absurd (omega arith)
+        by-step (stops row stop) is goes = let z : _≡_ {A = ℕ} 0 1 = cc in absurd (omega arith)
         by-step sticks is goes = let z : _≡_ {A = ℕ} 0 1 = cc in absurd (omega arith)
 
   -- where the next step goes on, no step was left
@@ -79,7 +79,7 @@ module _ (A : Arithmetic) where
   reasonOf zero at found = ended-as.Unfinished
   reasonOf (suc n) at (goesOn state) = ended-as.Unfinished
   reasonOf (suc n) at (ended memory) = ended-as.Finished
-  reasonOf (suc n) at (stops row origin why) = ended-as.Stopped (record { 0 = at })
+  reasonOf (suc n) at (stops row stop) = ended-as.Stopped (record { 0 = at })
   reasonOf (suc n) at sticks = ended-as.Stuck
 
   reason-is : (place : Place) (memory : Memory A) (found : Step A) (how : Ended) → LeavesBy A place memory found how
@@ -151,7 +151,7 @@ module _ (A : Arithmetic) where
         alike : l .stands .taken ≡ l′ .stands .taken → now ≡ now′
             → Alike after after′ (l .stands .repeats) (l′ .stands .repeats) answer answer′
         alike taken same =
-            let at = ap (λ (s : State A). s .at) same in
+            let at = ap (λ (s : State A). s .at .index) same in
             let repeats = ap (λ (s : State A). s .repeats) same in
             let buffers = buffers-pinned A setting (buffersAt A (answer .place) after (l .stands .held)) (buffersAt A (answer′ .place) after′ (l′ .stands .held))
             (l .stands .sound) (l′ .stands .sound) (ap (λ (s : State A). s .memory) same) in

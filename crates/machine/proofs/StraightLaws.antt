@@ -19,7 +19,7 @@ use Rattle.sheet.specs.Rows.{Source, _≔_, Row, rowOf}
 use Rattle.sheet.specs.Reading.{rowAt}
 use Rattle.table.specs.TableRows.{Action, assign, save, takeBack, saveTurn, clear, turnRound, TableLine, TableRow, rowOfAction, tableRowOf}
 use Rattle.machine.specs.Attempts.{Attempt, through, halted, stuck}
-use Rattle.machine.specs.Actions.{Setting, Try, evaluated, acted}
+use Rattle.machine.specs.Actions.{Memory, Setting, Try, stoppingAt, evaluated, acted}
 use Rattle.machine.specs.inner.RowAnswers.{whetherWent, whetherDid, whetherMoved, heightAfter}
 use Rattle.machine.specs.Machine.{Repeat, Step, step, stepAt, afterAction, goTo}
 use Rattle.machine.specs.inner.Buffers.{Buffers, Cells, cellsOf, memoryOf, Sound, Does, Assigns, MovesValues, SavesTurn, Clears, RoundSizes, TurnsRound}
@@ -231,8 +231,11 @@ module _ {A : Arithmetic} where
     abbrev step-there : Step A
     step-there = step A setting lines (stateAt A place repeats before former)
 
+    abbrev after-acting : Try A (Memory A) → Step A
+    after-acting x = afterAction A (stateAt A place repeats before former) (stoppingAt A (row .origin) x)
+
     there-acted : step-there
-        ≡ afterAction A (stateAt A place repeats before former) (row .origin) (acted A setting (row .action) (memoryOf A (buffersAt A place before former)))
+        ≡ after-acting (acted A setting (row .action) (memoryOf A (buffersAt A place before former)))
     unfolding step stepAt
     there-acted = rw here
 
@@ -262,7 +265,7 @@ module _ {A : Arithmetic} where
           record {
             is =
                 there-acted
-                ∙ ap (afterAction A (stateAt A place repeats before former) (row .origin)) (sym (does .meaning))
+                ∙ ap after-acting (sym (does .meaning))
                 ∙ ap (λ (n : ℕ). goTo A n repeats (memoryOf A (buffersAt A (raised next height turnHeight) after held))) (sym (add-one (place .at .0)));
             fewer = spends;
             sound = does .sound;
@@ -272,14 +275,13 @@ module _ {A : Arithmetic} where
         subst (λ (r : Acted). ActedSays A setting lines place repeats before after former held step-there r) (sym is) (
           omega arith,
           record {
-            origin = row .origin;
-            why = why;
-            is = there-acted ∙ ap (afterAction A (stateAt A place repeats before former) (row .origin)) (sym (does .meaning));
+            stop = record { origin = row .origin; why = why };
+            is = there-acted ∙ ap after-acting (sym (does .meaning));
           },
           stays-there height turnHeight held (does .unchanged (halted-apart why)),
         )
     outcome-said stuck height turnHeight held ahead is does =
-        let stays = there-acted ∙ ap (afterAction A (stateAt A place repeats before former) (row .origin)) (sym (does .meaning)) in
+        let stays = there-acted ∙ ap after-acting (sym (does .meaning)) in
         subst (λ (r : Acted). ActedSays A setting lines place repeats before after former held step-there r) (sym is)
         (omega arith, subst (λ (s : Step A). Blocked A s) (sym stays) tt, stays-there height turnHeight held (does .unchanged stuck-apart))
 

@@ -8,8 +8,8 @@ use lib.Dec.{eqb}
 use Rattle.number.specs.Arithmetic.{Arithmetic}
 use Rattle.number.specs.Constants.{signed}
 use Rattle.sheet.specs.Rows.{_≔_, Source, copy, fixed, sum, difference, product, negation, Test, less, isDependent}
-use Rattle.table.specs.TableRows.{Action, assign, save, takeBack, saveTurn, clear, turnRound, TableTest, whether, onTurn, turnWord}
-use Rattle.machine.specs.Attempts.{Attempt, through, stuck, _>>=_, fromOutcome, look, replaced, pushed}
+use Rattle.table.specs.TableRows.{Action, assign, save, takeBack, saveTurn, clear, turnRound, TableTest, whether, onTurn, turnWord, Origin}
+use Rattle.machine.specs.Attempts.{Attempt, through, halted, stuck, _>>=_, fromOutcome, look, replaced, pushed}
 
 module _ (A : Arithmetic) where
   -- what a run works on: the 2V + 2 variables, both stacks, top first, and the values that row 17 copies out
@@ -110,6 +110,17 @@ module _ (A : Arithmetic) where
   acted setting (saveTurn first) memory = turnSaved (setting .turnRoom) memory (turnWord first)
   acted setting (clear d) memory = stored memory d (A .zero)
   acted setting turnRound memory = through (turnedRound setting memory)
+
+  -- a stop: the row and the operation that it comes from, and why
+  pub record Stop : Type 0 where
+    pub origin : Origin
+    pub why : A .Why
+
+  -- an attempt whose stop says where it comes from
+  abbrev pub stoppingAt : {X : Type 0} → Origin → Try X → Attempt Stop X
+  stoppingAt origin (through x) = through x
+  stoppingAt origin (halted why) = halted (record { origin = origin; why = why })
+  stoppingAt origin stuck = stuck
 
   -- "if value a < value b, strictly"; none where a variable is unknown
   abbrev pub lessOf : Option (A .Carrier) → Option (A .Carrier) → Option Bool

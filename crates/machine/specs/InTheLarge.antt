@@ -3,26 +3,16 @@ use Prim.Native.Nat.{zero, suc}
 use mathlib.Core.Bool.{cond}
 use Rattle.number.specs.Arithmetic.{Arithmetic}
 use Rattle.sheet.specs.Tree.{done, one, fork, again}
-use Rattle.table.specs.TableRows.{Origin, Table}
-use Rattle.machine.specs.Attempts.{Attempt, through, halted, stuck, _>>=_, present}
-use Rattle.machine.specs.Actions.{Memory, Setting, acted, tested}
+use Rattle.table.specs.TableRows.{Table}
+use Rattle.machine.specs.Attempts.{Attempt, through, _>>=_, present}
+use Rattle.machine.specs.Actions.{Memory, Setting, Stop, stoppingAt, acted, tested}
 
 module _ (A : Arithmetic) where
-  -- where it stopped, and why
-  pub record Stop : Type 0 where
-    pub origin : Origin
-    pub why : A .Why
-
-  abbrev pub stoppingAt : {X : Type 0} → Origin → Attempt (A .Why) X → Attempt Stop X
-  stoppingAt origin (through x) = through x
-  stoppingAt origin (halted why) = halted (record { origin = origin; why = why })
-  stoppingAt origin stuck = stuck
-
-  unfoldable pub tableRun : Setting A → Table → Memory A → Attempt Stop (Memory A)
+  unfoldable pub tableRun : Setting A → Table → Memory A → Attempt (Stop A) (Memory A)
   unfolding acted tested
   tableRun setting done memory = through memory
   tableRun setting (one row k) memory = do
-    next ← stoppingAt (row .origin) (acted A setting (row .action) memory)
+    next ← stoppingAt A (row .origin) (acted A setting (row .action) memory)
     tableRun setting k next
   tableRun setting (fork f a b k) memory = do
     verdict ← present (tested A f memory)

@@ -7,9 +7,9 @@ use mathlib.Core.Option.{Option, none, some}
 use lib.ListN.{drop}
 use Rattle.number.specs.Arithmetic.{Arithmetic}
 use Rattle.sheet.specs.Tree.{Tree, done, one, fork, again, Line, basic, ifLine, elseLine, endIf, repeat, endRepeat, RowNumber}
-use Rattle.table.specs.TableRows.{TableLine, Origin}
-use Rattle.machine.specs.Attempts.{through, halted, stuck}
-use Rattle.machine.specs.Actions.{Memory, Setting, Try, Verdict, acted, tested}
+use Rattle.table.specs.TableRows.{TableLine}
+use Rattle.machine.specs.Attempts.{Attempt, through, halted, stuck}
+use Rattle.machine.specs.Actions.{Memory, Setting, Stop, stoppingAt, Verdict, acted, tested}
 
 -- ---- from an "if" past its "else", and from an "else" past its "end if"
 
@@ -38,38 +38,38 @@ module _ {B F : Type 0} where
 
 -- a repeat under way: its row, and the turns still to come after this one
 pub record Repeat : Type 0 where
-  pub start : ℕ
+  pub start : RowNumber
   pub left : ℕ
 
 module _ (A : Arithmetic) where
   pub record State : Type 0 where
-    pub at : ℕ
+    pub at : RowNumber
     pub repeats : List Repeat
     pub memory : Memory A
 
-  -- what one step comes to. A stop names its table row, from 0, and its origin.
+  -- what one step, or so many in turn, come to. A stop names its table row, from 0.
   pub data Step : Type 0 where
     goesOn : State → Step
     ended : Memory A → Step
-    stops : RowNumber → Origin → A .Why → Step
+    stops : RowNumber → Stop A → Step
     sticks : Step
 
-  -- to row `at`, all else as it is
+  -- to the row of this number
   abbrev pub goTo : ℕ → List Repeat → Memory A → Step
-  goTo at repeats memory = goesOn (record { at = at; repeats = repeats; memory = memory })
+  goTo at repeats memory = goesOn (record { at = record { index = at }; repeats = repeats; memory = memory })
 
   abbrev pub jump : State → Memory A → Option ℕ → Step
   jump state memory none = sticks
-  jump state memory (some n) = goTo (state .at + n) (state .repeats) memory
+  jump state memory (some n) = goTo (state .at .index + n) (state .repeats) memory
 
-  abbrev pub afterAction : State → Origin → Try A (Memory A) → Step
-  afterAction state origin (through memory) = goTo (suc (state .at)) (state .repeats) memory
-  afterAction state origin (halted why) = stops (record { index = state .at }) origin why
-  afterAction state origin stuck = sticks
+  abbrev pub afterAction : State → Attempt (Stop A) (Memory A) → Step
+  afterAction state (through memory) = goTo (suc (state .at .index)) (state .repeats) memory
+  afterAction state (halted stop) = stops (state .at) stop
+  afterAction state stuck = sticks
 
   -- the branch that a test picks; the rest are the lines after the test
   abbrev pub branchTo : State → List TableLine → Bool → Memory A → Step
-  branchTo state rest true memory = goTo (suc (state .at)) (state .repeats) memory
+  branchTo state rest true memory = goTo (suc (state .at .index)) (state .repeats) memory
   branchTo state rest false memory = jump state memory (oneMore (seek itsElse 0 rest))
 
   abbrev pub afterTest : State → List TableLine → Option (Verdict A) → Step
@@ -81,57 +81,40 @@ module _ (A : Arithmetic) where
   afterTurn state (r ∷ outer) = turn (r .left)
     where
       turn : ℕ → Step
-      turn zero = goTo (suc (state .at)) outer (state .memory)
-      turn (suc n) = goTo (suc (r .start)) (record { start = r .start; left = n } ∷ outer) (state .memory)
+      turn zero = goTo (suc (state .at .index)) outer (state .memory)
+      turn (suc n) = goTo (suc (r .start .index)) (record { start = r .start; left = n } ∷ outer) (state .memory)
 
   -- the lines from this row on
   unfoldable pub stepAt : Setting A → State → List TableLine → Step
   unfolding acted tested seek
   stepAt setting state [] = ended (state .memory)
-  stepAt setting state (basic row ∷ rest) = afterAction state (row .origin) (acted A setting (row .action) (state .memory))
+  stepAt setting state (basic row ∷ rest) = afterAction state (stoppingAt A (row .origin) (acted A setting (row .action) (state .memory)))
   stepAt setting state (ifLine test ∷ rest) = afterTest state rest (tested A test (state .memory))
   stepAt setting state (elseLine ∷ rest) = jump state (state .memory) (oneMore (seek itsEnd 0 rest))
-  stepAt setting state (endIf ∷ rest) = goTo (suc (state .at)) (state .repeats) (state .memory)
-  stepAt setting state (repeat m ∷ rest) = goTo (suc (state .at)) (record { start = state .at; left = m } ∷ state .repeats) (state .memory)
+  stepAt setting state (endIf ∷ rest) = goTo (suc (state .at .index)) (state .repeats) (state .memory)
+  stepAt setting state (repeat m ∷ rest) =
+      goTo (suc (state .at .index)) (record { start = state .at; left = m } ∷ state .repeats) (state .memory)
   stepAt setting state (endRepeat ∷ rest) = afterTurn state (state .repeats)
 
   unfoldable pub step : Setting A → List TableLine → State → Step
   unfolding stepAt
-  step setting lines state = stepAt setting state (drop (state .at) lines)
+  step setting lines state = stepAt setting state (drop (state .at .index) lines)
 
   -- ---- the steps in turn
-
-  pub data Ending : Type 0 where
-    finished : Memory A → Ending
-    -- "the first result that isn't finite ends the run"
-    stoppedAt : RowNumber → Origin → A .Why → Ending
-    gotStuck : Ending
-    outOfFuel : Ending
-
-  unfoldable pub runFor : (fuel : ℕ) → Setting A → List TableLine → State → Ending
-  unfolding step
-  runFor zero setting lines state = outOfFuel
-  runFor (suc n) setting lines state =
-      elim (step setting lines state) [
-        | goesOn next ↦ runFor n setting lines next
-        | ended memory ↦ finished memory
-        | stops row origin why ↦ stoppedAt row origin why
-        | sticks ↦ gotStuck
-      ]
 
   abbrev pub ifItGoesOn : Step → (State → Step) → Step
   ifItGoesOn (goesOn state) next = next state
   ifItGoesOn (ended memory) next = ended memory
-  ifItGoesOn (stops row origin why) next = stops row origin why
+  ifItGoesOn (stops row stop) next = stops row stop
   ifItGoesOn sticks next = sticks
 
-  -- what n steps in turn come to, as long as they go on
+  -- what n steps in turn come to: a step that does not go on is the last. "the first result that isn't finite ends the run"
   unfoldable pub stateAfter : (n : ℕ) → Setting A → List TableLine → State → Step
   unfolding step
   stateAfter zero setting lines state = goesOn state
   stateAfter (suc n) setting lines state = ifItGoesOn (step setting lines state) (λ next. stateAfter n setting lines next)
 
--- how many steps a tree takes at most: the fuel that suffices is one more, for the step that ends the run
+-- how many steps a tree takes at most; a run takes one more, which ends it
 unfoldable pub stepsOf : {B F : Type 0} → Tree B F → ℕ
 stepsOf done = 0
 stepsOf (one b k) = 1 + stepsOf k

@@ -10,9 +10,9 @@ use Rattle.sheet.specs.Tree.{done, one, fork, again, basic, ifLine, elseLine, e
 use Rattle.sheet.specs.Rows.{_≔_, Source, copy, fixed, sum, difference, product, negation}
 use Rattle.table.specs.TableRows.{Table, TableRow, TableLine, Action, assign, save, takeBack, saveTurn, clear, turnRound, Operation, saving, itself, turning, takingBack, holding, clearing, scalingForA, addingToA, scalingForB, addingToB, Origin, ofRow, ofTurningRound}
 use Rattle.machine.specs.Attempts.{Attempt, through, halted, stuck, present}
-use Rattle.machine.specs.Actions.{Memory, Setting, acted, tested}
-use Rattle.machine.specs.Machine.{State, Step, goesOn, ended, stops, sticks, step}
-use Rattle.machine.specs.InTheLarge.{Stop, stoppingAt, tableRun}
+use Rattle.machine.specs.Actions.{Memory, Setting, Stop, stoppingAt, acted, tested}
+use Rattle.machine.specs.Machine.{State, Step, goesOn, ended, stops, sticks, stateAfter}
+use Rattle.machine.specs.InTheLarge.{tableRun}
 
 -- the rows of a derivative rule, as against saving, taking back and the sheet's own rows
 abbrev pub isDerivative : Operation → Bool
@@ -80,15 +80,16 @@ module _ (A : Arithmetic) where
   abbrev pub onNext : Step A → (State A → List Entry) → List Entry
   onNext (goesOn next) log = log next
   onNext (ended memory) log = []
-  onNext (stops row origin why) log = []
+  onNext (stops row stop) log = []
   onNext sticks log = []
 
+  -- what n steps in turn note: each notes the row that the steps before it lead to, if they go on
   unfoldable pub machineLog : (steps : ℕ) → Setting A → List TableLine → State A → List Entry
-  unfolding readsOf step
+  unfolding readsOf stateAfter
   machineLog zero setting lines state = []
   machineLog (suc n) setting lines state =
-      notedAt (setting .variables) (drop (state .at) lines) (state .memory)
-      ++ onNext (step A setting lines state) (λ next. machineLog n setting lines next)
+      machineLog n setting lines state
+      ++ onNext (stateAfter A n setting lines state) (λ next. notedAt (setting .variables) (drop (next .at .index) lines) (next .memory))
 
   -- ---- of a table in the large
 

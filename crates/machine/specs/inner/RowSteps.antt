@@ -11,9 +11,9 @@ use Rattle.sheet.specs.Tree.{basic}
 use Rattle.sheet.specs.Rows.{Row}
 use Rattle.sheet.specs.Answers.{rowSaid}
 use Rattle.sheet.specs.Reading.{rowAt}
-use Rattle.table.specs.TableRows.{TableLine, TableRow, Origin, Action, tableRowOf}
+use Rattle.table.specs.TableRows.{TableLine, TableRow, Action, tableRowOf}
 use Rattle.machine.specs.Attempts.{Attempt, through, halted, stuck}
-use Rattle.machine.specs.Actions.{Setting, Try}
+use Rattle.machine.specs.Actions.{Setting, Try, Stop}
 use Rattle.machine.specs.Machine.{Repeat, State, Step, goesOn, ended, stops, sticks, stepAt, step}
 use Rattle.machine.specs.inner.Buffers.{Buffers, Cells, cellsOf, memoryOf, Sound, Does, RoundSizes}
 use Rattle.machine.specs.inner.RowWords.{actionOf}
@@ -49,7 +49,7 @@ Nested zero bodies toCome [] = Unit {0}
 Nested zero bodies toCome (r ∷ outer) = ⊥
 Nested (suc n) bodies toCome [] = ⊥
 Nested (suc n) bodies toCome (r ∷ outer) =
-    (getD bodies n 0 ≡ suc (r .start)) × (getD toCome n 0 ≡ r .left) × Nested n bodies toCome outer
+    (getD bodies n 0 ≡ suc (r .start .index)) × (getD toCome n 0 ≡ r .left) × Nested n bodies toCome outer
 
 -- in arrays with room for as many as a sheet may nest
 pub record Opened (depth : ℕ) (bodies toCome : List ℕ) (repeats : List Repeat) : Type 0 where
@@ -199,7 +199,7 @@ pub record Opens (count : ℕ) (next : Place) (bodies toCome bodiesAfter toComeA
   pub room : next .depth < limit .depth → (m : ℕ) → count ≡ suc m → answer ≡ crossed.On (within next (suc (next .depth)))
   pub opened : next .depth < limit .depth → (m start : ℕ) (repeats : List Repeat) → count ≡ suc m → next .at .0 ≡ suc start
       → Opened (next .depth) bodies toCome repeats
-      → Opened (suc (next .depth)) bodiesAfter toComeAfter (record { start = start; left = m } ∷ repeats)
+      → Opened (suc (next .depth)) bodiesAfter toComeAfter (record { start = record { index = start }; left = m } ∷ repeats)
 
 -- the end of a turn: out of the repeat, or back to its body
 pub record Closes (next : Place) (bodies toCome bodiesAfter toComeAfter : List ℕ) (answer : Crossed) : Type 0 where
@@ -212,7 +212,7 @@ pub record Closes (next : Place) (bodies toCome bodiesAfter toComeAfter : List �
   pub back : next .depth ≤ limit .depth → (r : Repeat) (n : ℕ) (outer : List Repeat)
       → Opened (next .depth) bodies toCome (r ∷ outer)
       → r .left ≡ suc n
-      → (answer ≡ crossed.On (moved next (suc (r .start))))
+      → (answer ≡ crossed.On (moved next (suc (r .start .index))))
       × Opened (next .depth) bodiesAfter toComeAfter (record { start = r .start; left = n } ∷ outer)
 
 module _ (A : Arithmetic) where
@@ -229,7 +229,7 @@ module _ (A : Arithmetic) where
       }
 
   abbrev pub stateAt : Place → List Repeat → Cells A → (held : List (A .Carrier)) → State A
-  stateAt place repeats cells held = record { at = place .at .0; repeats = repeats; memory = memoryOf A (buffersAt place cells held) }
+  stateAt place repeats cells held = record { at = record { index = place .at .0 }; repeats = repeats; memory = memoryOf A (buffersAt place cells held) }
 
   -- a row copies nothing out, or all that its buffer then holds
   abbrev pub CopiesOn : (former : List (A .Carrier)) → (before : Cells A) → (held : List (A .Carrier)) → (after : Cells A) → Type 0
@@ -267,15 +267,14 @@ module _ (A : Arithmetic) where
 
   -- a stop at this row
   pub record StopsAt (at : ℕ) (found : Step A) : Type 0 where
-    pub origin : Origin
-    pub why : A .Why
-    pub is : found ≡ stops (record { index = at }) origin why
+    pub stop : Stop A
+    pub is : found ≡ stops (record { index = at }) stop
 
   -- the machine is stuck, or opens one repeat more than there is room for
   abbrev pub Blocked : Step A → Type 0
   Blocked (goesOn state) = limit .depth < length (state .repeats)
   Blocked (ended memory) = ⊥
-  Blocked (stops row origin why) = ⊥
+  Blocked (stops row stop) = ⊥
   Blocked sticks = Unit {0}
 
   -- the step goes on to a place, with one step fewer left

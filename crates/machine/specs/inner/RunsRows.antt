@@ -18,7 +18,7 @@ use Rattle.machine.specs.declared.Ended.the-variants as ended-as
 
 module _ (A : Arithmetic) where
   abbrev pub firstState : Memory A → State A
-  firstState start = record { at = 0; repeats = []; memory = start }
+  firstState start = record { at = record { index = 0 }; repeats = []; memory = start }
 
   -- what the runner is handed: a table's rows with their jumps, a setting, buffers of a run's sizes with empty stacks, and no more open
   -- repeats at any step than it has room for
