@@ -17,20 +17,20 @@ use Rattle.table.specs.Calls.{overwritten}
 use Rattle.table.specs.declared.Reply.{Reply}
 use Rattle.machine.specs.Attempts.{through, halted, stuck}
 use Rattle.machine.specs.Actions.{Memory, Setting}
-use Rattle.machine.specs.Machine.{Ending, finished}
+use Rattle.machine.specs.Machine.{Step, ended}
 use Rattle.machine.specs.InTheLarge.{tableRun}
 use Rattle.machine.specs.inner.Buffers.{Cells, cellsOf, Stack, Sound}
 use Rattle.machine.specs.inner.RunsRows.{Handed, RunsRows}
 use Rattle.machine.specs.declared.Ran.{Ran}
 use Rattle.machine.specs.declared.Ended.{Ended}
-use Rattle.machine.specs.declared.Ended.the-variants as ended
+use Rattle.machine.specs.declared.Ended.the-variants as ended-as
 use Rattle.run.proofs.MachineFollows.{Result, EndsAs, run-follows}
 use Rattle.run.proofs.RunsCopy.{adjoint-copies}
 use Rattle.run.proofs.RunEnds.{EndsLike, ends-like}
 use Rattle.run.specs.Calls.{settingOf, startOf, runOf, sheetRun, resultOf, lentAfter, ranTo, lentOf, ranOf}
 use Rattle.run.specs.inner.CallSteps.{ResultFits, answerAt, resultAt}
 use Rattle.run.specs.inner.CallAnswers.{Ready, RunRoom, StacksCleared, RanTo}
-use Rattle.run.proofs.Fuel.{enoughSteps, accepted-fuel-same}
+use Rattle.run.proofs.EnoughSteps.{enoughSteps, accepted-steps-same}
 use Rattle.run.proofs.OpenRepeats.{sheet-shallow}
 
 -- ---- the start
@@ -84,10 +84,10 @@ module _ (A : Arithmetic) where
 
   -- ---- the end
 
-  finished-in-the-large : (x : Result A) (ending : Ending A) (memory : Memory A) → EndsAs A x ending → ending ≡ finished memory → x ≡ through memory
-  finished-in-the-large (through after) ending memory ends e = cc
-  finished-in-the-large (halted s) ending memory ends e = let stopped = ends .1 in cc
-  finished-in-the-large stuck ending memory ends e = cc
+  ended-in-the-large : (x : Result A) (out : Step A) (memory : Memory A) → EndsAs A x out → out ≡ ended memory → x ≡ through memory
+  ended-in-the-large (through after) out memory ends e = cc
+  ended-in-the-large (halted stop) out memory ends e = let stopped = ends .1 in cc
+  ended-in-the-large stuck out memory ends e = cc
 
   -- whatever the run leaves in its store and of the copies, the result can be read off
   pub result-fits : {roles : List ℕ} {starts seeds before copied result : List (A .Carrier)} → RunRoom A roles starts seeds before copied result
@@ -103,7 +103,7 @@ module _ (A : Arithmetic) where
     abbrev start : Memory A
     start = startOf A sheet starts .memory
 
-    abbrev ending : Ending A
+    abbrev ending : Step A
     ending = sheetRun A sheet starts seeds (length values) (length turns)
 
     abbrev itsSetting : Setting A
@@ -141,12 +141,12 @@ module _ (A : Arithmetic) where
           shallow = sheet-shallow A itsSetting (ready .words) sheet (ready .accepted) starts;
         }
 
-    -- a finished run has copied every original
-    finished-copies : (memory : Memory A) → ending ≡ finished memory → length (memory .copied) ≡ variablesOf sheet
+    -- a run that ended has copied every original
+    ended-copies : (memory : Memory A) → ending ≡ ended memory → length (memory .copied) ≡ variablesOf sheet
     unfolding startOf settingOf tableOf
-    finished-copies memory e =
+    ended-copies memory e =
         adjoint-copies A itsSetting refl (marked sheet) start memory (omega (arith, room .startsFit, roles-counted, start-length sheet starts))
-        (finished-in-the-large (tableRun A itsSetting (tableOf sheet) start) _ memory (run-follows A (tableOf sheet) itsSetting start) e)
+        (ended-in-the-large (tableRun A itsSetting (tableOf sheet) start) _ memory (run-follows A (tableOf sheet) itsSetting start) e)
 
     -- the copies that the machine holds are those in the buffer
     held-is : (held copies : List (A .Carrier)) → length held ≡ variablesOf sheet → (held ≡ start .copied) ⊎ (held ≡ copies) → held ≡ copies
@@ -162,11 +162,11 @@ module _ (A : Arithmetic) where
         (lentAfter A sheet (lentOf A buffer values turns result) (resultAt A end roles (after .copied) (after .store) result))
         ≡ ranTo A sheet (lentOf A buffer values turns result) ending
     unfolding ranTo answerAt resultAt resultOf
-    ends-as ended.Finished after buffer ends =
-        rw (ends .is, held-is (ends .held) (after .copied) (finished-copies _ (ends .is)) (ends .copies), ready .rolesAre)
-    ends-as (ended.Stopped row) after buffer ends = rw (ends .is)
-    ends-as ended.Stuck after buffer is = rw is
-    ends-as ended.Unfinished after buffer is = rw is
+    ends-as ended-as.Finished after buffer ends =
+        rw (ends .is, held-is (ends .held) (after .copied) (ended-copies _ (ends .is)) (ends .copies), ready .rolesAre)
+    ends-as (ended-as.Stopped row) after buffer ends = rw (ends .is)
+    ends-as ended-as.Stuck after buffer is = rw is
+    ends-as ended-as.Unfinished after buffer (state, is) = rw is
 
     -- from each step of a call's run to what it comes to
     pub comes-to : (buffer : List ℕ) {store cleared : List (A .Carrier)} {clearedTurns : List ℕ} (after : Cells A) {bodies toCome : List ℕ} (ran : Ran)
@@ -184,8 +184,8 @@ module _ (A : Arithmetic) where
     comes-to buffer {store} {cleared} {clearedTurns} after {bodies} {toCome} ran laid empty runs kept keptTurns empty-again written answered =
         let many = kept ∙ ap length (empty .valuesAre) ∙ length-replicate (length values) (A .zero) in
         let manyTurns = keptTurns ∙ ap length (empty .turnsAre) ∙ length-replicate (length turns) 0 in
-        let fuelled = accepted-fuel-same A itsSetting (ready .words) sheet (ready .accepted) starts enoughSteps (omega arith) in
+        let enough = accepted-steps-same A itsSetting (ready .words) sheet (ready .accepted) starts enoughSteps (omega arith) in
         let leaves = runs itsSetting (linesOf (tableOf sheet)) start (handed (starts-laid laid) empty) in
-        let ends = subst (EndsLike A start after (ran .ended)) fuelled
+        let ends = subst (EndsLike A start after (ran .ended)) enough
         (ends-like A itsSetting (linesOf (tableOf sheet)) start enoughSteps (cellsOf A store cleared clearedTurns copied) after bodies toCome ran leaves) in
         rw (empty-again .valuesAre, empty-again .turnsAre, many, manyTurns, written, answered) (ends-as (ran .ended) after buffer ends)

@@ -6,7 +6,7 @@ pub mod JumpsRight
 pub mod RunsCopy
 pub mod MachineFollows
 pub mod RunEnds
-pub mod Fuel
+pub mod EnoughSteps
 pub mod OpenRepeats
 pub mod TableHeld
 pub mod TableNames

@@ -1,40 +1,39 @@
 -- The row machine on a table's lines does what executing the table's tree in the large gives, noting the same of what derivative rows
--- read, and its fuel suffices.
+-- read, and a run takes no more steps than it may.
 use Prim.Native.Nat.{ℕ, zero, suc, _+_, _*_, _-_, _≤_, max}
 use mathlib.Core.Path.{_≡_, refl, sym, ap, subst, _∙_}
 use mathlib.Core.Bool.{Bool, true, false, cond}
-use mathlib.Core.List.{List, [], _∷_, _++_, append-nil, append-assoc}
+use mathlib.Core.List.{List, [], _∷_, _++_, append-nil}
 use mathlib.Core.Option.{Option, none, some}
 use lib.ListN.{drop}
-use native.Mathlib.Nat.{zero-add, suc-add, add-zero}
+use native.Mathlib.Nat.{add-zero}
 use native.Mathlib.Omega.{arith}
 use Rattle.number.specs.Arithmetic.{Arithmetic}
 use Rattle.sheet.specs.Tree.{done, one, fork, again, basic, ifLine, elseLine, endIf, endRepeat, flat, rows, RowNumber}
-use Rattle.table.specs.TableRows.{Origin, TableRow, TableTest, TableLine, Table, linesOf}
+use Rattle.table.specs.TableRows.{TableRow, TableTest, TableLine, Table, linesOf}
 use Rattle.machine.specs.Attempts.{Attempt, through, halted, stuck, _>>=_, present}
-use Rattle.machine.specs.Actions.{Memory, Setting, Verdict, acted, tested}
+use Rattle.machine.specs.Actions.{Memory, Setting, Stop, stoppingAt, Verdict, acted, tested}
 use Rattle.machine.specs.Machine.{oneMore, Repeat, State, Step, goesOn, ended, stops, sticks}
 use Rattle.machine.specs.Machine.{jump, afterAction, branchTo, afterTest, stepAt, step, ifItGoesOn, stateAfter, stepsOf}
-use Rattle.machine.specs.Machine.{Ending, finished, stoppedAt, gotStuck, outOfFuel, runFor}
-use Rattle.machine.specs.InTheLarge.{Stop, stoppingAt, tableRun}
-use Rattle.machine.specs.RowReads.{Entry, noted, notedAt, onNext, machineLog, onThrough, tableLog}
+use Rattle.machine.specs.InTheLarge.{tableRun}
+use Rattle.machine.specs.RowReads.{Entry, noted, notedAt, machineLog, onThrough, tableLog}
 use Rattle.machine.proofs.LinesPassed.{past-line, past-tree, seek-else, seek-end}
-use Rattle.machine.proofs.StepsInTurn.{steps-add}
+use Rattle.machine.proofs.StepsInTurn.{steps-add, one-step-is, log-add, log-first}
 use Rattle.run.specs.Calls.{runOf}
 
 -- ---- what so many steps come to
 
 module _ (A : Arithmetic) where
   abbrev pub atRow : ℕ → List Repeat → Memory A → State A
-  atRow p repeats memory = record { at = p; repeats = repeats; memory = memory }
+  atRow p repeats memory = record { at = record { index = p }; repeats = repeats; memory = memory }
 
   abbrev pub Result : Type 0
   Result = Attempt (Stop A) (Memory A)
 
-  -- a step comes to what an execution in the large gives: on to row p, a stop of the same origin, or stuck
+  -- a step comes to what an execution in the large gives: on to row p, the same stop, or stuck
   abbrev pub LandsAt : ℕ → List Repeat → Result → Step A → Type 0
   LandsAt p repeats (through memory) out = out ≡ goesOn (atRow p repeats memory)
-  LandsAt p repeats (halted s) out = (row : RowNumber) × (out ≡ stops row (s .origin) (s .why))
+  LandsAt p repeats (halted stop) out = (row : RowNumber) × (out ≡ stops row stop)
   LandsAt p repeats stuck out = out ≡ sticks
 
   module _ (setting : Setting A) (lines : List TableLine) where
@@ -51,28 +50,6 @@ module _ (A : Arithmetic) where
         (memory : Memory A)
         → Reaches (atRow p repeats memory) (stepsOf t) (p + rows t) repeats (tableRun A setting t memory) (tableLog A setting t memory)
 
-    pub log-add : (n m : ℕ) (s : State A)
-        → machineLog A (n + m) setting lines s
-        ≡ machineLog A n setting lines s ++ onNext A (stateAfter A n setting lines s) (λ next. machineLog A m setting lines next)
-    unfolding stateAfter machineLog
-    log-add zero m s = rw zero-add
-    log-add (suc n) m s =
-        let here = notedAt A (setting .variables) (drop (s .at) lines) (s .memory) in
-        let later = onNext A (step A setting lines s) (λ next. machineLog A n setting lines next) in
-        rw suc-add (ap (here ++_) (by-step (step A setting lines s) (λ next. log-add n m next)) ∙ sym (append-assoc here later _))
-      where
-        by-step : (x : Step A)
-            → ((next : State A)
-            → machineLog A (n + m) setting lines next
-            ≡ machineLog A n setting lines next ++ onNext A (stateAfter A n setting lines next) (λ last. machineLog A m setting lines last))
-            → onNext A x (λ next. machineLog A (n + m) setting lines next)
-            ≡ onNext A x (λ next. machineLog A n setting lines next)
-            ++ onNext A (ifItGoesOn A x (λ next. stateAfter A n setting lines next)) (λ next. machineLog A m setting lines next)
-        by-step (goesOn next) ih = ih next
-        by-step (ended memory) ih = refl
-        by-step (stops row origin why) ih = refl
-        by-step sticks ih = refl
-
     -- one execution after another
     then-reaches : {s : State A} {n m p q : ℕ} {outer inner : List Repeat} {log : List (Entry A)} (x : Result)
         (next : Memory A → Result) (later : Memory A → List (Entry A)) → Reaches s n p inner x log
@@ -84,14 +61,14 @@ module _ (A : Arithmetic) where
           steps = first .steps + h .steps;
           few = omega (arith, first .few, h .few);
           lands = rw (steps-add A setting lines (first .steps) (h .steps) s, first .lands) (h .lands);
-          notes = rw (log-add (first .steps) (h .steps) s, first .lands, first .notes, h .notes);
+          notes = rw (log-add A setting lines (first .steps) (h .steps) s, first .lands, first .notes, h .notes);
         }
     then-reaches {s} {log} (halted why) next later first second =
         record { steps = first .steps; few = omega (arith, first .few); lands = first .lands; notes = first .notes ∙ sym (append-nil log) }
     then-reaches {s} {log} stuck next later first second =
         record { steps = first .steps; few = omega (arith, first .few); lands = first .lands; notes = first .notes ∙ sym (append-nil log) }
 
-    step-at : (s : State A) (here : List TableLine) → drop (s .at) lines ≡ here → step A setting lines s ≡ stepAt A setting s here
+    step-at : (s : State A) (here : List TableLine) → drop (s .at .index) lines ≡ here → step A setting lines s ≡ stepAt A setting s here
     unfolding step
     step-at s here e = ap (stepAt A setting s) e
 
@@ -99,42 +76,30 @@ module _ (A : Arithmetic) where
     notedFrom s here = notedAt A (setting .variables) here (s .memory)
 
     -- one step by itself
-    one-step : {s : State A} {here : List TableLine} {p : ℕ} {repeats : List Repeat} (x : Result) → drop (s .at) lines ≡ here
+    one-step : {s : State A} {here : List TableLine} {p : ℕ} {repeats : List Repeat} (x : Result) → drop (s .at .index) lines ≡ here
         → LandsAt p repeats x (stepAt A setting s here) → Reaches s 1 p repeats x (notedFrom s here)
-    unfolding stateAfter machineLog
+    unfolding machineLog
     one-step {s} {here} {p} {repeats} x e h =
         record {
           steps = 1;
           few = omega arith;
-          lands = subst (LandsAt p repeats x) (sym (comes-to (step A setting lines s) ∙ step-at s here e)) h;
-          notes = ap (notedFrom s (drop (s .at) lines) ++_) (notes-no-more (step A setting lines s)) ∙ append-nil _ ∙ ap (notedFrom s) e;
+          lands = subst (LandsAt p repeats x) (sym (one-step-is A setting lines s ∙ step-at s here e)) h;
+          notes = ap (notedFrom s) e;
         }
-      where
-        comes-to : (y : Step A) → ifItGoesOn A y (λ next. goesOn next) ≡ y
-        comes-to (goesOn next) = refl
-        comes-to (ended memory) = refl
-        comes-to (stops row origin why) = refl
-        comes-to sticks = refl
-
-        notes-no-more : (y : Step A) → onNext A y (λ next. []) ≡ []
-        notes-no-more (goesOn next) = refl
-        notes-no-more (ended memory) = refl
-        notes-no-more (stops row origin why) = refl
-        notes-no-more sticks = refl
 
     -- a step that notes nothing, and what comes after it
     after-step : {s s′ : State A} {here : List TableLine} {n p : ℕ} {repeats : List Repeat} {x : Result} {log : List (Entry A)}
-        → drop (s .at) lines ≡ here → notedFrom s here ≡ [] → stepAt A setting s here ≡ goesOn s′ → Reaches s′ n p repeats x log
+        → drop (s .at .index) lines ≡ here → notedFrom s here ≡ [] → stepAt A setting s here ≡ goesOn s′ → Reaches s′ n p repeats x log
         → Reaches s (1 + n) p repeats x log
-    unfolding stateAfter machineLog
+    unfolding stateAfter
     after-step {s} {s′} {here} e nothing on h =
         let next : step A setting lines s ≡ goesOn s′ = step-at s here e ∙ on in
-        let quiet : notedFrom s (drop (s .at) lines) ≡ [] = ap (notedFrom s) e ∙ nothing in
+        let quiet : notedFrom s (drop (s .at .index) lines) ≡ [] = ap (notedFrom s) e ∙ nothing in
         record {
           steps = suc (h .steps);
           few = omega (arith, h .few);
           lands = rw next (h .lands);
-          notes = rw (quiet, next) (h .notes);
+          notes = log-first A setting lines (h .steps) s ∙ rw (quiet, next) (h .notes);
         }
 
     -- the bound may be larger, and the row written otherwise
@@ -150,39 +115,39 @@ module _ (A : Arithmetic) where
 
     -- ---- a tree's lines, line by line
 
-    action-lands : (p : ℕ) (repeats : List Repeat) (memory : Memory A) (origin : Origin) (x : Attempt (A .Why) (Memory A))
-        → LandsAt (suc p) repeats (stoppingAt A origin x) (afterAction A (atRow p repeats memory) origin x)
-    action-lands p repeats memory origin (through next) = refl
-    action-lands p repeats memory origin (halted why) = (record { index = p }, refl)
-    action-lands p repeats memory origin stuck = refl
+    action-lands : (p : ℕ) (repeats : List Repeat) (memory : Memory A) (x : Result)
+        → LandsAt (suc p) repeats x (afterAction A (atRow p repeats memory) x)
+    action-lands p repeats memory (through next) = refl
+    action-lands p repeats memory (halted stop) = (record { index = p }, refl)
+    action-lands p repeats memory stuck = refl
 
     row-follows : (p : ℕ) (repeats : List Repeat) (memory : Memory A) (row : TableRow) (rest : List TableLine) → drop p lines ≡ basic row ∷ rest
         → Reaches (atRow p repeats memory) 1 (suc p) repeats (stoppingAt A (row .origin) (acted A setting (row .action) memory))
         (noted A (setting .variables) row memory)
     unfolding stepAt
     row-follows p repeats memory row rest e =
-        one-step (stoppingAt A (row .origin) (acted A setting (row .action) memory)) e
-        (action-lands p repeats memory (row .origin) (acted A setting (row .action) memory))
+        let x = stoppingAt A (row .origin) (acted A setting (row .action) memory) in
+        one-step x e (action-lands p repeats memory x)
 
     -- a repeat's turns, once its row has been passed: by the turns still to come
     turns-follow : (p : ℕ) (repeats : List Repeat) (a k : Table) (rest : List TableLine) → drop (suc p) lines ≡ flat a (endRepeat ∷ rest)
         → ((inner : List Repeat) → Follows a (suc p) inner) → Follows k (suc (suc p + rows a)) repeats → (m : ℕ) (memory : Memory A)
-        → Reaches (atRow (suc p) (record { start = p; left = m } ∷ repeats) memory) (suc m * (stepsOf a + 1) + stepsOf k)
+        → Reaches (atRow (suc p) (record { start = record { index = p }; left = m } ∷ repeats) memory) (suc m * (stepsOf a + 1) + stepsOf k)
         (suc (suc p + rows a) + rows k) repeats (tableRun A setting (again m a k) memory) (tableLog A setting (again m a k) memory)
     unfolding tableRun tableLog stepAt
     turns-follow p repeats a k rest e body after zero memory =
         within-more (omega arith) refl
         (then-reaches (tableRun A setting a memory) (tableRun A setting k) (tableLog A setting k)
-        (body (record { start = p; left = 0 } ∷ repeats) memory)
+        (body (record { start = record { index = p }; left = 0 } ∷ repeats) memory)
         (λ next. after-step (past-tree lines (suc p) a _ e) refl refl (after next)))
     turns-follow p repeats a k rest e body after (suc m) memory =
         within-more (omega arith) refl
         (then-reaches (tableRun A setting a memory) (tableRun A setting (again m a k)) (tableLog A setting (again m a k))
-        (body (record { start = p; left = suc m } ∷ repeats) memory)
+        (body (record { start = record { index = p }; left = suc m } ∷ repeats) memory)
         (λ next. after-step (past-tree lines (suc p) a _ e) refl refl (turns-follow p repeats a k rest e body after m next)))
 
     -- past a line that was found
-    jumps : (s : State A) (memory : Memory A) (o : Option ℕ) (n : ℕ) {q : ℕ} → o ≡ some n → s .at + suc n ≡ q
+    jumps : (s : State A) (memory : Memory A) (o : Option ℕ) (n : ℕ) {q : ℕ} → o ≡ some n → s .at .index + suc n ≡ q
         → jump A s memory (oneMore o) ≡ goesOn (atRow q (s .repeats) memory)
     jumps s memory o n e h = ap (λ x. jump A s memory (oneMore x)) e ∙ ap (λ q. goesOn (atRow q (s .repeats) memory)) h
 
@@ -272,117 +237,58 @@ module _ (A : Arithmetic) where
         let there = stateAfter A (h .steps) setting lines (atRow p repeats memory) in
         (h .steps, h .few, subst (λ x. LandsAt (p + rows t) repeats x there) went (h .lands))
 
-    -- ---- the same of a run with fuel
-
-    -- how a run ends after a step, with so much fuel left
-    abbrev pub endingFrom : (fuel : ℕ) → Step A → Ending A
-    endingFrom fuel (goesOn s) = runFor A fuel setting lines s
-    endingFrom fuel (ended memory) = finished memory
-    endingFrom fuel (stops row origin why) = stoppedAt row origin why
-    endingFrom fuel sticks = gotStuck
-
-    pub run-step : (fuel : ℕ) (s : State A) → runFor A (suc fuel) setting lines s ≡ endingFrom fuel (step A setting lines s)
-    unfolding runFor
-    run-step fuel s = by-step (step A setting lines s) refl
+    -- where the steps no longer go on, more of them change nothing
+    pub more-steps-same : (n more : ℕ) (s : State A) → ((state : State A) → stateAfter A n setting lines s ≡ goesOn state → ⊥)
+        → stateAfter A (n + more) setting lines s ≡ stateAfter A n setting lines s
+    more-steps-same n more s enough = steps-add A setting lines n more s ∙ by-step (stateAfter A n setting lines s) enough
       where
-        by-step : (x : Step A) → step A setting lines s ≡ x → runFor A (suc fuel) setting lines s ≡ endingFrom fuel x
-        by-step (goesOn next) e = rw (runFor, e)
-        by-step (ended memory) e = rw (runFor, e)
-        by-step (stops row origin why) e = rw (runFor, e)
-        by-step sticks e = rw (runFor, e)
-
-    pub run-on : (n fuel : ℕ) (s : State A) → runFor A (n + fuel) setting lines s ≡ endingFrom fuel (stateAfter A n setting lines s)
-    unfolding stateAfter
-    run-on zero fuel s = rw zero-add
-    run-on (suc n) fuel s =
-        rw suc-add (run-step (n + fuel) s ∙ by-step (step A setting lines s) (λ next. run-on n fuel next))
-      where
-        by-step : (x : Step A)
-            → ((next : State A) → runFor A (n + fuel) setting lines next ≡ endingFrom fuel (stateAfter A n setting lines next))
-            → endingFrom (n + fuel) x ≡ endingFrom fuel (ifItGoesOn A x (λ next. stateAfter A n setting lines next))
-        by-step (goesOn next) ih = ih next
-        by-step (ended memory) ih = refl
-        by-step (stops row origin why) ih = refl
-        by-step sticks ih = refl
-
-    -- in particular, with all of the fuel
-    run-through : (n : ℕ) (s : State A) → runFor A n setting lines s ≡ endingFrom 0 (stateAfter A n setting lines s)
-    run-through n s = ap (λ fuel. runFor A fuel setting lines s) (sym (add-zero n)) ∙ run-on n 0 s
-
-    -- fuel that suffices: more of it changes nothing
-    pub more-fuel-same : (fuel more : ℕ) (s : State A) → (runFor A fuel setting lines s ≡ outOfFuel → ⊥)
-        → runFor A (fuel + more) setting lines s ≡ runFor A fuel setting lines s
-    more-fuel-same fuel more s enough =
-        run-on fuel more s ∙ by-step (stateAfter A fuel setting lines s) (λ e. enough (run-through fuel s ∙ e))
-        ∙ sym (run-through fuel s)
-      where
-        by-step : (x : Step A) → (endingFrom 0 x ≡ outOfFuel → ⊥) → endingFrom more x ≡ endingFrom 0 x
-        by-step (goesOn next) h = absurd (h (unfold runFor in refl))
+        by-step : (x : Step A) → ((state : State A) → x ≡ goesOn state → ⊥) → ifItGoesOn A x (λ next. stateAfter A more setting lines next) ≡ x
+        by-step (goesOn next) h = absurd (h next refl)
         by-step (ended memory) h = refl
-        by-step (stops row origin why) h = refl
+        by-step (stops row stop) h = refl
         by-step sticks h = refl
-
-    -- a run comes to what an execution in the large gives: its rest from row p on with at least so much fuel, a stop of the same origin, or stuck
-    abbrev pub RunsTo : (fuel p : ℕ) → List Repeat → Result → Ending A → Type 0
-    RunsTo fuel p repeats (through memory) ending = (left : ℕ) × (fuel ≤ left) × (ending ≡ runFor A left setting lines (atRow p repeats memory))
-    RunsTo fuel p repeats (halted s) ending = (row : RowNumber) × (ending ≡ stoppedAt row (s .origin) (s .why))
-    RunsTo fuel p repeats stuck ending = ending ≡ gotStuck
-
-    landed-runs : (s : State A) (n more fuel p : ℕ) (repeats : List Repeat) (x : Result) → fuel ≤ more
-        → LandsAt p repeats x (stateAfter A n setting lines s) → RunsTo fuel p repeats x (runFor A (n + more) setting lines s)
-    landed-runs s n more fuel p repeats (through memory) le h = (more, le, run-on n more s ∙ ap (endingFrom more) h)
-    landed-runs s n more fuel p repeats (halted stop) le h = (h .0, run-on n more s ∙ ap (endingFrom more) (h .1))
-    landed-runs s n more fuel p repeats stuck le h = run-on n more s ∙ ap (endingFrom more) h
-
-    pub follows : (t : Table) (p : ℕ) (rest : List TableLine) (repeats : List Repeat) (memory : Memory A) (fuel : ℕ) → drop p lines ≡ flat t rest
-        → RunsTo fuel (p + rows t) repeats (tableRun A setting t memory) (runFor A (stepsOf t + fuel) setting lines (atRow p repeats memory))
-    follows t p rest repeats memory fuel e =
-        let h = reaches t p rest repeats memory e in
-        let few = h .few in
-        let more = stepsOf t - h .steps + fuel in
-        let same : h .steps + more ≡ stepsOf t + fuel = omega arith in
-        subst (λ n. RunsTo fuel (p + rows t) repeats (tableRun A setting t memory) (runFor A n setting lines (atRow p repeats memory))) same
-        (landed-runs (atRow p repeats memory) (h .steps) more fuel (p + rows t) repeats (tableRun A setting t memory) (omega arith) (h .lands))
 
   -- ---- a whole table
 
-  abbrev pub EndsAs : Result → Ending A → Type 0
-  EndsAs (through memory) ending = ending ≡ finished memory
-  EndsAs (halted s) ending = (row : RowNumber) × (ending ≡ stoppedAt row (s .origin) (s .why))
-  EndsAs stuck ending = ending ≡ gotStuck
+  -- a run comes to what an execution in the large gives: its end, the same stop, or stuck
+  abbrev pub EndsAs : Result → Step A → Type 0
+  EndsAs (through memory) out = out ≡ ended memory
+  EndsAs (halted stop) out = (row : RowNumber) × (out ≡ stops row stop)
+  EndsAs stuck out = out ≡ sticks
 
-  -- behind the last line a run ends, if it has any fuel left
-  ends-behind : (setting : Setting A) (lines : List TableLine) (p : ℕ) (repeats : List Repeat) (memory : Memory A) (fuel : ℕ) → drop p lines ≡ []
-      → 1 ≤ fuel → runFor A fuel setting lines (atRow p repeats memory) ≡ finished memory
-  unfolding stepAt
-  ends-behind setting lines p repeats memory zero e le = absurd (omega arith)
-  ends-behind setting lines p repeats memory (suc fuel) e le =
-      run-step setting lines fuel (atRow p repeats memory) ∙ ap (endingFrom setting lines fuel) (step-at setting lines (atRow p repeats memory) [] e)
+  module _ (setting : Setting A) (lines : List TableLine) (p : ℕ) (behind : drop p lines ≡ []) (repeats : List Repeat) where
+    -- behind the last line the next step ends the run
+    ends-behind : (n : ℕ) (memory : Memory A) → stateAfter A (suc n) setting lines (atRow p repeats memory) ≡ ended memory
+    unfolding stateAfter stepAt
+    ends-behind n memory = rw (step-at setting lines (atRow p repeats memory) [] behind)
 
-  runs-end : (setting : Setting A) (lines : List TableLine) (p : ℕ) (repeats : List Repeat) (x : Result) (ending : Ending A)
-      → drop p lines ≡ [] → RunsTo setting lines 1 p repeats x ending → EndsAs x ending
-  runs-end setting lines p repeats (through memory) ending e h = h .2 ∙ ends-behind setting lines p repeats memory (h .0) e (h .1)
-  runs-end setting lines p repeats (halted s) ending e h = h
-  runs-end setting lines p repeats stuck ending e h = h
+    landed-ends : (n : ℕ) (x : Result) (out : Step A) → LandsAt p repeats x out
+        → EndsAs x (ifItGoesOn A out (λ next. stateAfter A (suc n) setting lines next))
+    landed-ends n (through memory) out h = rw h (ends-behind n memory)
+    landed-ends n (halted stop) out h = (h .0, rw (h .1))
+    landed-ends n stuck out h = rw h
 
   module _ (table : Table) (setting : Setting A) (memory : Memory A) where
     pub run-follows : EndsAs (tableRun A setting table memory) (runOf A table setting (atRow 0 [] memory))
     unfolding runOf linesOf
     run-follows =
         let lines = flat table [] in
+        let start = atRow 0 [] memory in
         let result = tableRun A setting table memory in
-        let same : stepsOf table + 1 ≡ suc (stepsOf table) = omega arith in
-        runs-end setting lines (0 + rows table) [] result _ (past-tree lines 0 table [] refl)
-        (subst (λ fuel. RunsTo setting lines 1 (0 + rows table) [] result (runFor A fuel setting lines (atRow 0 [] memory))) same
-        (follows setting lines table 0 [] [] memory 1 refl))
+        let h = reaches setting lines table 0 [] [] memory refl in
+        let few = h .few in
+        let more = stepsOf table - h .steps in
+        let all : h .steps + suc more ≡ suc (stepsOf table) = omega arith in
+        subst (EndsAs result) (sym (steps-add A setting lines (h .steps) (suc more) start) ∙ ap (λ n. stateAfter A n setting lines start) all)
+        (landed-ends setting lines (0 + rows table) (past-tree lines 0 table [] refl) [] more result _ (h .lands))
 
-    pub fuel-suffices : runOf A table setting (atRow 0 [] memory) ≡ outOfFuel → ⊥
-    fuel-suffices = by-result (tableRun A setting table memory) (runOf A table setting (atRow 0 [] memory)) run-follows
+    pub steps-suffice : (state : State A) → runOf A table setting (atRow 0 [] memory) ≡ goesOn state → ⊥
+    steps-suffice state = by-result (tableRun A setting table memory) (runOf A table setting (atRow 0 [] memory)) run-follows
       where
-        by-result : (x : Result) (ending : Ending A) → EndsAs x ending → ending ≡ outOfFuel → ⊥
-        by-result (through next) ending h e = let z : _≡_ {A = ℕ} 0 1 = cc in absurd (omega arith)
-        by-result (halted s) ending h e =
+        by-result : (x : Result) (out : Step A) → EndsAs x out → out ≡ goesOn state → ⊥
+        by-result (through next) out h e = let z : _≡_ {A = ℕ} 0 1 = cc in absurd (omega arith)
+        by-result (halted stop) out h e =
             let stopped = h .1 in
             let z : _≡_ {A = ℕ} 0 1 = cc in
             absurd (omega arith)
-        by-result stuck ending h e = let z : _≡_ {A = ℕ} 0 1 = cc in absurd (omega arith)
+        by-result stuck out h e = let z : _≡_ {A = ℕ} 0 1 = cc in absurd (omega arith)

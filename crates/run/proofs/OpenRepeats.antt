@@ -9,15 +9,15 @@ use native.Mathlib.Omega.{arith}
 use Rattle.number.specs.Arithmetic.{Arithmetic}
 use Rattle.sheet.specs.Bounds.{limit}
 use Rattle.sheet.specs.Refusals.{given}
-use Rattle.sheet.specs.Tree.{done, one, fork, again, rows, flat, basic, ifLine, elseLine, endIf, repeat, endRepeat}
+use Rattle.sheet.specs.Tree.{done, one, fork, again, rows, flat, basic, ifLine, elseLine, endIf, repeat, endRepeat, RowNumber}
 use Rattle.sheet.specs.Reading.{Sheet, variablesOf, read}
 use Rattle.sheet.proofs.Depth.{deep, sheet-deep}
 use Rattle.sets.specs.Marks.{marked, markBy, varied, useful, required}
-use Rattle.table.specs.TableRows.{Table, TableLine, TableTest, Origin, linesOf}
+use Rattle.table.specs.TableRows.{Table, TableLine, TableTest, linesOf}
 use Rattle.table.specs.Adjoint.{tableOf}
 use Rattle.table.proofs.TableBounds.{table-deep, marked-deep}
 use Rattle.machine.specs.Attempts.{Attempt, through, halted, stuck}
-use Rattle.machine.specs.Actions.{Memory, Setting, Verdict, acted, tested}
+use Rattle.machine.specs.Actions.{Memory, Setting, Stop, stoppingAt, Verdict, acted, tested}
 use Rattle.machine.specs.Machine.{itsElse, itsEnd, oneMore, seek, Repeat, State, Step, goesOn, ended, stops, sticks}
 use Rattle.machine.specs.Machine.{jump, afterAction, branchTo, afterTest, afterTurn, stepAt, step, ifItGoesOn, stateAfter}
 use Rattle.machine.specs.inner.RowsHanded.{Shallow}
@@ -83,86 +83,86 @@ module _ (lines : List TableLine) where
   -- each open repeat has as many outside it as stand open at its row
   Starts : List Repeat → Type 0
   Starts [] = Unit {0}
-  Starts (r ∷ outer) = (openAt (drop (suc (r .start)) lines) ≡ suc (length outer)) × Starts outer
+  Starts (r ∷ outer) = (openAt (drop (suc (r .start .index)) lines) ≡ suc (length outer)) × Starts outer
 
   module _ (A : Arithmetic) where
     record Open (state : State A) : Type 0 where
-      many : length (state .repeats) ≡ openAt (drop (state .at) lines)
+      many : length (state .repeats) ≡ openAt (drop (state .at .index) lines)
       starts : Starts (state .repeats)
 
     OpenAfter : Step A → Type 0
     OpenAfter (goesOn state) = Open state
     OpenAfter (ended memory) = Unit {0}
-    OpenAfter (stops row origin why) = Unit {0}
+    OpenAfter (stops row stop) = Unit {0}
     OpenAfter sticks = Unit {0}
 
     -- on to a row where as many stand open
-    moved : (s : State A) (q : ℕ) (here behind : List TableLine) (memory : Memory A) → drop (s .at) lines ≡ here → drop q lines ≡ behind
-        → openAt behind ≡ openAt here → Open s → Open (record { at = q; repeats = s .repeats; memory = memory })
+    moved : (s : State A) (q : ℕ) (here behind : List TableLine) (memory : Memory A) → drop (s .at .index) lines ≡ here → drop q lines ≡ behind
+        → openAt behind ≡ openAt here → Open s → Open (record { at = record { index = q }; repeats = s .repeats; memory = memory })
     moved s q here behind memory e f same o =
         record { many = o .many ∙ ap openAt e ∙ sym same ∙ sym (ap openAt f); starts = o .starts }
 
-    action-open : (s : State A) (origin : Origin) (x : Attempt (A .Why) (Memory A))
-        → ((memory : Memory A) → Open (record { at = suc (s .at); repeats = s .repeats; memory = memory })) → OpenAfter (afterAction A s origin x)
+    action-open : (s : State A) (x : Attempt (Stop A) (Memory A))
+        → ((memory : Memory A) → Open (record { at = record { index = suc (s .at .index) }; repeats = s .repeats; memory = memory })) → OpenAfter (afterAction A s x)
     unfolding OpenAfter
-    action-open s origin (through memory) h = h memory
-    action-open s origin (halted why) h = tt
-    action-open s origin stuck h = tt
+    action-open s (through memory) h = h memory
+    action-open s (halted stop) h = tt
+    action-open s stuck h = tt
 
     -- past a branch that a search has found the end of
-    jump-open : (s : State A) (memory : Memory A) (line : TableLine) (rest : List TableLine) → drop (s .at) lines ≡ line ∷ rest
+    jump-open : (s : State A) (memory : Memory A) (line : TableLine) (rest : List TableLine) → drop (s .at .index) lines ≡ line ∷ rest
         → openAt (line ∷ rest) ≡ openAt rest → (mark : TableLine) → ((behind : List TableLine) → openAt (mark ∷ behind) ≡ openAt behind)
         → (branch : Branch mark rest) (found : Option ℕ) → found ≡ some (rows (branch .tree) + 1) → Open s
         → OpenAfter (jump A s memory (oneMore found))
     unfolding OpenAfter
     jump-open s memory line rest e plain mark passes branch found is o =
         rw is
-        (moved s (s .at + suc (rows (branch .tree) + 1)) (line ∷ rest) (branch .behind) memory e
-        (past-branch (s .at) rest mark branch (past-line lines (s .at) line rest e))
+        (moved s (s .at .index + suc (rows (branch .tree) + 1)) (line ∷ rest) (branch .behind) memory e
+        (past-branch (s .at .index) rest mark branch (past-line lines (s .at .index) line rest e))
         (sym (passes (branch .behind)) ∙ sym (open-flat (branch .tree) (mark ∷ branch .behind)) ∙ ap openAt (sym (branch .is)) ∙ sym plain) o)
 
-    test-open : (s : State A) (f : TableTest) (rest : List TableLine) → drop (s .at) lines ≡ ifLine f ∷ rest → Branch elseLine rest → Open s
+    test-open : (s : State A) (f : TableTest) (rest : List TableLine) → drop (s .at .index) lines ≡ ifLine f ∷ rest → Branch elseLine rest → Open s
         → (verdict : Option (Verdict A)) → OpenAfter (afterTest A s rest verdict)
     unfolding OpenAfter openAt
     test-open s f rest e branch o none = tt
     test-open s f rest e branch o (some verdict) = by-turn (verdict .first)
       where
         by-turn : (first : Bool) → OpenAfter (branchTo A s rest first (verdict .memory))
-        by-turn true = moved s (suc (s .at)) (ifLine f ∷ rest) rest (verdict .memory) e (past-line lines (s .at) (ifLine f) rest e) refl o
+        by-turn true = moved s (suc (s .at .index)) (ifLine f ∷ rest) rest (verdict .memory) e (past-line lines (s .at .index) (ifLine f) rest e) refl o
         by-turn false =
             jump-open s (verdict .memory) (ifLine f) rest e refl elseLine (λ behind. refl) branch (seek itsElse 0 rest)
             (ap (seek itsElse 0) (branch .is) ∙ seek-else (branch .tree) (branch .behind)) o
 
-    turn-open : (s : State A) (rest : List TableLine) → drop (s .at) lines ≡ endRepeat ∷ rest → (repeats : List Repeat)
+    turn-open : (s : State A) (rest : List TableLine) → drop (s .at .index) lines ≡ endRepeat ∷ rest → (repeats : List Repeat)
         → length repeats ≡ suc (openAt rest) → Starts repeats → OpenAfter (afterTurn A s repeats)
     unfolding OpenAfter Starts
     turn-open s rest e [] many starts = tt
     turn-open s rest e (r ∷ outer) many starts = by-left (r .start) (r .left) (starts .0)
       where
-        by-left : (start left : ℕ) → openAt (drop (suc start) lines) ≡ suc (length outer)
+        by-left : (start : RowNumber) (left : ℕ) → openAt (drop (suc (start .index)) lines) ≡ suc (length outer)
             → OpenAfter (afterTurn A s (record { start = start; left = left } ∷ outer))
         by-left start zero there =
-            record { many = omega (arith, ap openAt (past-line lines (s .at) endRepeat rest e)); starts = starts .1 }
+            record { many = omega (arith, ap openAt (past-line lines (s .at .index) endRepeat rest e)); starts = starts .1 }
         by-left start (suc n) there = record { many = sym there; starts = (there, starts .1) }
 
-    step-open : (setting : Setting A) (s : State A) (here : List TableLine) → drop (s .at) lines ≡ here → Stands here → Open s
+    step-open : (setting : Setting A) (s : State A) (here : List TableLine) → drop (s .at .index) lines ≡ here → Stands here → Open s
         → OpenAfter (stepAt A setting s here)
     unfolding stepAt OpenAfter openAt Starts
     step-open setting s [] e stands o = tt
     step-open setting s (basic row ∷ rest) e stands o =
-        action-open s (row .origin) (acted A setting (row .action) (s .memory))
-        (λ memory. moved s (suc (s .at)) (basic row ∷ rest) rest memory e (past-line lines (s .at) (basic row) rest e) refl o)
+        action-open s (stoppingAt A (row .origin) (acted A setting (row .action) (s .memory)))
+        (λ memory. moved s (suc (s .at .index)) (basic row ∷ rest) rest memory e (past-line lines (s .at .index) (basic row) rest e) refl o)
     step-open setting s (ifLine f ∷ rest) e stands o = test-open s f rest e stands o (tested A f (s .memory))
     step-open setting s (elseLine ∷ rest) e stands o =
         jump-open s (s .memory) elseLine rest e refl endIf (λ behind. refl) stands (seek itsEnd 0 rest)
         (ap (seek itsEnd 0) (stands .is) ∙ seek-end (stands .tree) (stands .behind)) o
     step-open setting s (endIf ∷ rest) e stands o =
-        moved s (suc (s .at)) (endIf ∷ rest) rest (s .memory) e (past-line lines (s .at) endIf rest e) refl o
+        moved s (suc (s .at .index)) (endIf ∷ rest) rest (s .memory) e (past-line lines (s .at .index) endIf rest e) refl o
     step-open setting s (repeat m ∷ rest) e stands o =
-        let inside = ap openAt (past-line lines (s .at) (repeat m) rest e) in
+        let inside = ap openAt (past-line lines (s .at .index) (repeat m) rest e) in
         let body : openAt rest ≡ suc (openAt (stands .behind)) = ap openAt (stands .is) ∙ open-flat (stands .tree) (endRepeat ∷ stands .behind) in
         let here : length (s .repeats) ≡ openAt (stands .behind) = o .many ∙ ap openAt e ∙ ap pred body in
-        let there : openAt (drop (suc (s .at)) lines) ≡ suc (length (s .repeats)) = omega arith in
+        let there : openAt (drop (suc (s .at .index)) lines) ≡ suc (length (s .repeats)) = omega arith in
         record { many = sym there; starts = (there, o .starts) }
     step-open setting s (endRepeat ∷ rest) e stands o = turn-open s rest e (s .repeats) (o .many ∙ ap openAt e) (o .starts)
 
@@ -170,25 +170,25 @@ module _ (lines : List TableLine) where
     unfolding stateAfter step OpenAfter
     steps-open setting stand zero s o = o
     steps-open setting stand (suc n) s o =
-        by-step (step A setting lines s) (step-open setting s (drop (s .at) lines) refl (stand (s .at)) o) (λ next. steps-open setting stand n next)
+        by-step (step A setting lines s) (step-open setting s (drop (s .at .index) lines) refl (stand (s .at .index)) o) (λ next. steps-open setting stand n next)
       where
         by-step : (x : Step A) → OpenAfter x → ((next : State A) → Open next → OpenAfter (stateAfter A n setting lines next))
             → OpenAfter (ifItGoesOn A x (λ next. stateAfter A n setting lines next))
         by-step (goesOn next) h ih = ih next h
         by-step (ended memory) h ih = tt
-        by-step (stops row origin why) h ih = tt
+        by-step (stops row stop) h ih = tt
         by-step sticks h ih = tt
 
 -- ---- a whole table
 
 module _ (A : Arithmetic) (setting : Setting A) where
   table-shallow : (t : Table) (memory : Memory A) → deep t ≤ limit .depth
-      → Shallow A setting (linesOf t) (record { at = 0; repeats = []; memory = memory })
+      → Shallow A setting (linesOf t) (record { at = record { index = 0 }; repeats = []; memory = memory })
   unfolding OpenAfter openAt Starts linesOf
   table-shallow t memory h n state e =
-      let start : Open (linesOf t) A (record { at = 0; repeats = []; memory = memory }) = record { many = sym (open-flat t []); starts = tt } in
+      let start : Open (linesOf t) A (record { at = record { index = 0 }; repeats = []; memory = memory }) = record { many = sym (open-flat t []); starts = tt } in
       let o = subst (OpenAfter (linesOf t) A) e (steps-open (linesOf t) A setting (λ p. stands-at t p _ refl) n _ start) in
-      let few = open-deep (limit .depth) t [] (from-each-end (AtMostOpen (limit .depth)) (omega arith)) (omega arith) (state .at) in
+      let few = open-deep (limit .depth) t [] (from-each-end (AtMostOpen (limit .depth)) (omega arith)) (omega arith) (state .at .index) in
       omega (arith, o .many)
 
   pub sheet-shallow : (words : List ℕ) (sheet : Sheet) → read words ≡ given sheet → (starts : List (A .Carrier))

@@ -16,9 +16,9 @@ use Rattle.table.specs.TableRows.{Table, TableRow, saving, itself, ofTurningRou
 use Rattle.sets.specs.Marks.{Marked}
 use Rattle.table.specs.Adjoint.{Body, put, putIf, targetOf, forwardRow, forwardPart, backwardPart, adjointTable}
 use Rattle.machine.specs.Attempts.{through, _>>=_, present, replaced, pushed, look}
-use Rattle.machine.specs.Actions.{Memory, Setting, evaluated, stored, restored, acted, turnedRound, seeded}
+use Rattle.machine.specs.Actions.{Memory, Setting, stoppingAt, evaluated, stored, restored, acted, turnedRound, seeded}
 use Rattle.machine.specs.Actions.{Verdict, verdictOn, turnTaken, tested, compared}
-use Rattle.machine.specs.InTheLarge.{stoppingAt, tableRun}
+use Rattle.machine.specs.InTheLarge.{tableRun}
 use Rattle.machine.proofs.AttemptLaws.{went, same-through, is-present, was-replaced, came}
 use Rattle.machine.proofs.RoleLaws.{counting-length}
 

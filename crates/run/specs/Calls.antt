@@ -14,7 +14,7 @@ use Rattle.table.specs.Sizes.{valuesNeeded, turnsNeeded, valuesFor, turnsFor}
 use Rattle.table.specs.Calls.{readFor, overwritten}
 use Rattle.table.specs.declared.Reply as declared
 use Rattle.machine.specs.Actions.{Memory, Setting, counting}
-use Rattle.machine.specs.Machine.{State, Ending, finished, stoppedAt, gotStuck, outOfFuel, runFor, stepsOf}
+use Rattle.machine.specs.Machine.{State, Step, goesOn, ended, stops, sticks, stateAfter, stepsOf}
 
 module _ (A : Arithmetic) where
   pub record Lent : Type 0 where
@@ -61,17 +61,18 @@ module _ (A : Arithmetic) where
   unfoldable pub startOf : Sheet → (starts : List (A .Carrier)) → State A
   startOf sheet starts =
       record {
-        at = 0;
+        at = record { index = 0 };
         repeats = [];
         memory = record { store = starts ++ replicate (variablesOf sheet + 2) (A .zero); values = []; turns = []; copied = [] };
       }
 
-  unfoldable pub runOf : Table → Setting A → State A → Ending A
-  unfolding linesOf runFor stepsOf
-  runOf table setting start = runFor A (suc (stepsOf table)) setting (linesOf table) start
+  -- the steps in turn, as many as a table takes at most and the one that ends the run
+  unfoldable pub runOf : Table → Setting A → State A → Step A
+  unfolding linesOf stateAfter stepsOf
+  runOf table setting start = stateAfter A (suc (stepsOf table)) setting (linesOf table) start
 
   -- the run of a sheet's own table
-  abbrev pub sheetRun : Sheet → (starts seeds : List (A .Carrier)) → (valueRoom turnRoom : ℕ) → Ending A
+  abbrev pub sheetRun : Sheet → (starts seeds : List (A .Carrier)) → (valueRoom turnRoom : ℕ) → Step A
   sheetRun sheet starts seeds valueRoom turnRoom = runOf (tableOf sheet) (settingOf sheet seeds valueRoom turnRoom) (startOf sheet starts)
 
   -- "the values copied at row 17, then each independent's final adjoint and 0 for every other variable"
@@ -92,7 +93,7 @@ module _ (A : Arithmetic) where
     pub place : ℕ
     pub lent : Lent
 
-  -- No number of 01's: what a machine that got stuck would be answered by. No run ever is (claims, "never stuck").
+  -- No number of 01's: what a machine that got stuck, or went on and on, would be answered by. No run does (claims, "never stuck").
   abbrev pub stuckNumber : ℕ
   stuckNumber = 65535
 
@@ -108,14 +109,14 @@ module _ (A : Arithmetic) where
       }
 
   -- "On 12 the result is unchanged."
-  unfoldable pub ranTo : Sheet → Lent → Ending A → Ran
+  unfoldable pub ranTo : Sheet → Lent → Step A → Ran
   unfolding lentAfter resultOf numberOf placeOf
-  ranTo sheet lent (finished memory) = record { number = 0; place = 0; lent = lentAfter sheet lent (resultOf sheet memory) }
-  ranTo sheet lent (stoppedAt row origin why) =
+  ranTo sheet lent (ended memory) = record { number = 0; place = 0; lent = lentAfter sheet lent (resultOf sheet memory) }
+  ranTo sheet lent (stops row stop) =
       let stopped = notFiniteResult (row .index) in
       record { number = numberOf stopped; place = placeOf stopped; lent = lentAfter sheet lent (lent .result) }
-  ranTo sheet lent gotStuck = record { number = stuckNumber; place = 0; lent = lentAfter sheet lent (lent .result) }
-  ranTo sheet lent outOfFuel = record { number = stuckNumber; place = 0; lent = lentAfter sheet lent (lent .result) }
+  ranTo sheet lent sticks = record { number = stuckNumber; place = 0; lent = lentAfter sheet lent (lent .result) }
+  ranTo sheet lent (goesOn state) = record { number = stuckNumber; place = 0; lent = lentAfter sheet lent (lent .result) }
 
   -- "Refusals 1 to 11 change no buffer."
   unfoldable pub ranOn : Answer Sheet → (starts seeds : List (A .Carrier)) → Lent → Ran

@@ -18,8 +18,8 @@ use Rattle.table.specs.Adjoint.{Body, put, forwardPart, backwardOf, backwardPar
 use Rattle.table.specs.Sizes.{mostForward, mostBackward}
 use Rattle.table.proofs.TableBounds.{EachRow, backward-row, forward-row, marked-run}
 use Rattle.machine.specs.Actions.{Setting}
-use Rattle.machine.specs.Machine.{stepsOf, runFor}
-use Rattle.run.proofs.MachineFollows.{more-fuel-same, fuel-suffices}
+use Rattle.machine.specs.Machine.{stepsOf, stateAfter}
+use Rattle.run.proofs.MachineFollows.{more-steps-same, steps-suffice}
 use Rattle.run.specs.Calls.{startOf, runOf}
 
 -- ---- steps
@@ -76,20 +76,20 @@ sheet-steps-within words sheet e =
       accepted words sheet e .short,
     )
 
--- ---- fuel
+-- ---- enough
 
--- suffices for every accepted sheet: these for each that W counts, row 17, and the step that ends the run
+-- for every accepted sheet: these for each that W counts, row 17, and the step that ends the run
 abbrev pub enoughSteps : ℕ
 enoughSteps = mostStepsEach * limit .longestRun + 2
 
-pub accepted-fuel-same : (A : Arithmetic) (setting : Setting A) (words : List ℕ) (sheet : Sheet) → read words ≡ given sheet
+pub accepted-steps-same : (A : Arithmetic) (setting : Setting A) (words : List ℕ) (sheet : Sheet) → read words ≡ given sheet
     → (starts : List (A .Carrier)) (steps : ℕ) → enoughSteps ≤ steps
-    → runFor A steps setting (linesOf (tableOf sheet)) (startOf A sheet starts) ≡ runOf A (tableOf sheet) setting (startOf A sheet starts)
+    → stateAfter A steps setting (linesOf (tableOf sheet)) (startOf A sheet starts) ≡ runOf A (tableOf sheet) setting (startOf A sheet starts)
 unfolding runOf startOf
-accepted-fuel-same A setting words sheet e starts steps h =
+accepted-steps-same A setting words sheet e starts steps h =
     let table = tableOf sheet in
     let start = startOf A sheet starts in
-    let fuel = suc (stepsOf table) in
-    let all : steps ≡ fuel + (steps - fuel) = omega (arith, sheet-steps-within words sheet e) in
-    ap (λ n. runFor A n setting (linesOf table) start) all
-    ∙ more-fuel-same A setting (linesOf table) fuel (steps - fuel) start (fuel-suffices A table setting (start .memory))
+    let most = suc (stepsOf table) in
+    let all : steps ≡ most + (steps - most) = omega (arith, sheet-steps-within words sheet e) in
+    ap (λ n. stateAfter A n setting (linesOf table) start) all
+    ∙ more-steps-same A setting (linesOf table) most (steps - most) start (steps-suffice A table setting (start .memory))
