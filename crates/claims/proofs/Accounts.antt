@@ -8,8 +8,8 @@ use Rattle.sheet.specs.Rows.{Assignment}
 use Rattle.sets.specs.Transfers.{Activity}
 use Rattle.table.specs.TableRows.{Table}
 use Rattle.machine.specs.Attempts.{Attempt, through, halted, _>>=_}
-use Rattle.machine.specs.Actions.{Memory, Setting}
-use Rattle.machine.specs.InTheLarge.{Stop, tableRun}
+use Rattle.machine.specs.Actions.{Memory, Setting, Stop}
+use Rattle.machine.specs.InTheLarge.{tableRun}
 use Rattle.machine.specs.RowReads.{Entry, onThrough, tableLog}
 use Rattle.claims.specs.Execution.{Executed}
 use Rattle.claims.specs.IdealSweep.{derivedBy, swept}

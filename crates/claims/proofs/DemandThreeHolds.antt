@@ -15,7 +15,7 @@ use Rattle.table.specs.Adjoint.{Body, forwardPart, backwardPart, adjointTable, 
 use Rattle.table.specs.Sizes.{valuesNeeded, turnsNeeded}
 use Rattle.machine.specs.Attempts.{Attempt, through, _>>=_}
 use Rattle.machine.specs.Actions.{Memory, Setting}
-use Rattle.machine.specs.Machine.{State, goesOn, gotStuck}
+use Rattle.machine.specs.Machine.{State, goesOn, sticks}
 use Rattle.machine.specs.InTheLarge.{tableRun}
 use Rattle.machine.specs.RowReads.{tableLog, onThrough}
 use Rattle.machine.proofs.LinesPassed.{past-tree}
@@ -47,7 +47,7 @@ module _ (A : Arithmetic) (words : List ℕ) (sheet : Sheet) (accepted : read wo
         (runOf A (tableOf sheet) (settingIn valueRoom turnRoom) (startOf A sheet starts))
     matches = own-run-matches A words sheet accepted starts seeds n valueRoom turnRoom values turns
 
-    unstuck : runOf A (tableOf sheet) (settingIn valueRoom turnRoom) (startOf A sheet starts) ≡ gotStuck → ⊥
+    unstuck : runOf A (tableOf sheet) (settingIn valueRoom turnRoom) (startOf A sheet starts) ≡ sticks → ⊥
     unstuck = unstuck-run A v (ideal A sheet (settingIn valueRoom turnRoom) starts) _ matches
 
   -- ---- never stuck, and never higher than S and T

@@ -13,7 +13,7 @@ use Rattle.table.specs.TableRows.{linesOf}
 use Rattle.table.specs.Adjoint.{tableOf}
 use Rattle.table.specs.declared.Reply.{Reply}
 use Rattle.machine.specs.Actions.{Memory}
-use Rattle.machine.specs.Machine.{Ending, stepsOf}
+use Rattle.machine.specs.Machine.{Step, stepsOf}
 use Rattle.run.specs.Calls.{Lent, Ran, startOf, runOf, independentAdjoints, resultOf, lentAfter, ranTo, run, ranOf}
 use Rattle.claims.specs.ExactlyWhen.{Runnable, endingOf}
 use Rattle.claims.specs.SavedRows.{every}
@@ -50,10 +50,10 @@ module _ (A : Arithmetic) (words : List ℕ) (sheet : Sheet) (starts seeds : Lis
 
   module _ (before : Lent A) (ready : Runnable A words starts seeds before sheet) (answer : Ran A)
       (contract : answer ≡ run A words starts seeds before) where
-    abbrev ending : Ending A
+    abbrev ending : Step A
     ending = endingOf A words starts seeds before sheet
 
-    answers-like : (other : Ending A) → SameOutcome A (variablesOf sheet) ending other → AnswersLike A sheet starts seeds before answer other
+    answers-like : (other : Step A) → SameOutcome A (variablesOf sheet) ending other → AnswersLike A sheet starts seeds before answer other
     unfolding ranTo lentAfter runOf
     answers-like other (bothEnd first second e e′ copied adjoints) =
         let says = contract ∙ started A words starts seeds before sheet _ ready e in
@@ -63,7 +63,7 @@ module _ (A : Arithmetic) (words : List ℕ) (sheet : Sheet) (starts seeds : Lis
         let says = contract ∙ started A words starts seeds before sheet _ ready e in
         subst (AnswersLike A sheet starts seeds before answer) (sym e′)
         (sameStop row (ap (λ r. r .number) says) (ap (λ r. r .place) says)
-        (stop-names-its-row A _ (linesOf (tableOf sheet)) (suc (stepsOf (tableOf sheet))) (startOf A sheet starts) row (stop .origin) (stop .why) e))
+        (stop-names-its-row A _ (linesOf (tableOf sheet)) (suc (stepsOf (tableOf sheet))) (startOf A sheet starts) row stop e))
 
     pub answers-like-all-saved : (valueRoom turnRoom : ℕ) → StackRoom A every sheet valueRoom turnRoom
         → AnswersLike A sheet starts seeds before answer (runSaving A every sheet starts seeds valueRoom turnRoom)

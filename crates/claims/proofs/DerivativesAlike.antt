@@ -19,8 +19,8 @@ use Rattle.sets.proofs.VariableSetLaws.{single-has, union-left, union-right}
 use Rattle.table.specs.TableRows.{Table, TableRow, Action, assign, clear, adjointOf, t, u, Operation, Origin, ofRow, ofTurningRound}
 use Rattle.table.specs.Adjoint.{put, putIf, partsOf, derivativeRows}
 use Rattle.machine.specs.Attempts.{Attempt, through, _>>=_}
-use Rattle.machine.specs.Actions.{Memory, Setting, acted, withStore}
-use Rattle.machine.specs.InTheLarge.{Stop, stoppingAt, tableRun}
+use Rattle.machine.specs.Actions.{Memory, Setting, Stop, stoppingAt, acted, withStore}
+use Rattle.machine.specs.InTheLarge.{tableRun}
 use Rattle.machine.specs.RowReads.{Entry, isDerivative, readsOf, entryIf, notedBy, noted, tableLog}
 use Rattle.claims.specs.IdealSweep.{derivedBy}
 use Rattle.claims.specs.ReadLog.{derivedLog}

@@ -21,8 +21,7 @@ use Rattle.sets.specs.Marks.{varied, useful, variedEquations, usefulEquations, 
 use Rattle.sets.proofs.VariableSetLaws.{places-has}
 use Rattle.sets.proofs.EquationsAlong.{forward-along, backward-along}
 use Rattle.machine.specs.Attempts.{Attempt, through}
-use Rattle.machine.specs.Actions.{counting}
-use Rattle.machine.specs.InTheLarge.{Stop}
+use Rattle.machine.specs.Actions.{Stop, counting}
 use Rattle.run.specs.Calls.{settingOf}
 use Rattle.claims.specs.Execution.{Progress, beginning, execution, executed}
 use Rattle.claims.specs.IdealSweep.{swept, firstAdjoints, Ideal, ideal}

@@ -17,7 +17,7 @@ use Rattle.table.specs.Adjoint.{tableOf}
 use Rattle.table.specs.Calls.{Checked, noSizes, sizesIn, check, readFor, overwritten, tableIn, Written, write}
 use Rattle.table.proofs.TableLength.{table-length}
 use Rattle.machine.specs.Actions.{Memory}
-use Rattle.machine.specs.Machine.{Ending, finished, stoppedAt, gotStuck, outOfFuel}
+use Rattle.machine.specs.Machine.{Step, goesOn, ended, stops, sticks}
 use Rattle.run.specs.Calls.{Lent, Ran, resultOf, stuckNumber, lentAfter, ranTo, ranOn, run}
 use Rattle.claims.specs.ExactlyWhen.{ReadingRefuses, Read, WritingRefuses, Writable, Runnable, endingOf, StartRefused, RunRefuses, Stops, beforeStart, resultNotFinite, Finishes}
 use Rattle.claims.specs.CallsExactly.{Names, ReadExactly, CheckExactly, StartsWith, WriteExactly, LeftBehind, RunExactly}
@@ -140,10 +140,10 @@ module _ (A : Arithmetic) (words : List ℕ) (starts seeds : List (A .Carrier)) 
   unfolding ranTo
   stopped sheet row is = started A words starts seeds lent sheet _ (is .runnable) (is .ending)
 
-  ended : (sheet : Sheet) (memory : Memory A) → Finished sheet memory
+  finished : (sheet : Sheet) (memory : Memory A) → Finished sheet memory
       → answer ≡ record { number = 0; place = 0; lent = lentAfter A sheet lent (resultOf A sheet memory) }
   unfolding ranTo
-  ended sheet memory is = started A words starts seeds lent sheet _ (is .runnable) (is .ending)
+  finished sheet memory is = started A words starts seeds lent sheet _ (is .runnable) (is .ending)
 
   not-stuck : (sheet : Sheet) → Ready sheet → answer .number ≡ stuckNumber A → ⊥
   not-stuck sheet is e = by (zero-or-twelve A words starts seeds lent sheet is answer refl)
@@ -171,12 +171,12 @@ module _ (A : Arithmetic) (words : List ℕ) (starts seeds : List (A .Carrier)) 
     finishing : (sheet : Sheet) (memory : Memory A) → Finished sheet memory → Way
     stopping : (sheet : Sheet) (row : RowNumber) → Stopped sheet row → Way
 
-  way-to : (sheet : Sheet) → Ready sheet → (ending : Ending A) → endingOf A words starts seeds lent sheet ≡ ending → Way
+  way-to : (sheet : Sheet) → Ready sheet → (ending : Step A) → endingOf A words starts seeds lent sheet ≡ ending → Way
   unfolding ranTo
-  way-to sheet is (finished memory) e = finishing sheet memory (record { runnable = is; ending = e })
-  way-to sheet is (stoppedAt row origin why) e = stopping sheet row (record { runnable = is; origin = origin; why = why; ending = e })
-  way-to sheet is gotStuck e = absurd (not-stuck sheet is (ap (λ r. r .number) (started A words starts seeds lent sheet gotStuck is e)))
-  way-to sheet is outOfFuel e = absurd (not-stuck sheet is (ap (λ r. r .number) (started A words starts seeds lent sheet outOfFuel is e)))
+  way-to sheet is (ended memory) e = finishing sheet memory (record { runnable = is; ending = e })
+  way-to sheet is (stops row stop) e = stopping sheet row (record { runnable = is; stop = stop; ending = e })
+  way-to sheet is sticks e = absurd (not-stuck sheet is (ap (λ r. r .number) (started A words starts seeds lent sheet sticks is e)))
+  way-to sheet is (goesOn state) e = absurd (not-stuck sheet is (ap (λ r. r .number) (started A words starts seeds lent sheet (goesOn state) is e)))
 
   way : Way
   way = by (start-settled A words starts seeds lent .either)
@@ -199,7 +199,7 @@ module _ (A : Arithmetic) (words : List ℕ) (starts seeds : List (A .Carrier)) 
   rule-of-name r (notStarted r′ rule) names = same-name r r′ (beforeStart rule) names
   rule-of-name r (stopping sheet row is) names = same-name r _ (resultNotFinite sheet row is) names
   rule-of-name r (finishing sheet memory is) names =
-      absurd (omega (arith, ap (λ r. r .number) (ended sheet memory is), names .0, from-1-to-12 r))
+      absurd (omega (arith, ap (λ r. r .number) (finished sheet memory is), names .0, from-1-to-12 r))
 
   finished-on-0 : Way → answer .number ≡ 0 → (sheet : Sheet) × (memory : Memory A) × Finished sheet memory
   finished-on-0 (notStarted r rule) e = absurd (omega (arith, named-by-rule (beforeStart rule) .0, from-1-to-12 r))
@@ -208,31 +208,31 @@ module _ (A : Arithmetic) (words : List ℕ) (starts seeds : List (A .Carrier)) 
 
   stopped-on-12 : Way → answer .number ≡ 12 → (sheet : Sheet) × (row : RowNumber) × Stopped sheet row
   stopped-on-12 (notStarted r rule) e = absurd (omega (arith, named-by-rule (beforeStart rule) .0, start-numbers rule))
-  stopped-on-12 (finishing sheet memory is) e = absurd (omega (arith, ap (λ r. r .number) (ended sheet memory is)))
+  stopped-on-12 (finishing sheet memory is) e = absurd (omega (arith, ap (λ r. r .number) (finished sheet memory is)))
   stopped-on-12 (stopping sheet row is) e = (sheet, row, is)
 
   numbers-of : Way → answer .number ≤ 12
   numbers-of (notStarted r rule) = omega (arith, named-by-rule (beforeStart rule) .0, from-1-to-12 r)
-  numbers-of (finishing sheet memory is) = omega (arith, ap (λ r. r .number) (ended sheet memory is))
+  numbers-of (finishing sheet memory is) = omega (arith, ap (λ r. r .number) (finished sheet memory is))
   numbers-of (stopping sheet row is) = omega (arith, ap (λ r. r .number) (stopped sheet row is))
 
   kept-on-1-to-11 : Way → 1 ≤ answer .number → answer .number ≤ 11 → answer .lent ≡ lent
   kept-on-1-to-11 (notStarted r rule) low high = ap (λ r. r .lent) (not-started r rule)
-  kept-on-1-to-11 (finishing sheet memory is) low high = absurd (omega (arith, ap (λ r. r .number) (ended sheet memory is)))
+  kept-on-1-to-11 (finishing sheet memory is) low high = absurd (omega (arith, ap (λ r. r .number) (finished sheet memory is)))
   kept-on-1-to-11 (stopping sheet row is) low high = absurd (omega (arith, ap (λ r. r .number) (stopped sheet row is)))
 
   pub run-exactly : RunExactly A words starts seeds lent answer
   run-exactly =
       record {
         refuses = λ r. (rule-of-name r way, named-by-rule);
-        done = (finished-on-0 way, λ (sheet, memory, is). ap (λ r. r .number) (ended sheet memory is));
+        done = (finished-on-0 way, λ (sheet, memory, is). ap (λ r. r .number) (finished sheet memory is));
         stopped = (stopped-on-12 way, λ (sheet, row, is). ap (λ r. r .number) (stopped sheet row is));
         numbers = numbers-of way;
         whenRefused = kept-on-1-to-11 way;
         whenStopped = λ sheet row is. left-and-result sheet 12 (row .index) (lent .result) (is .runnable) (stopped sheet row is);
         whenDone =
             λ sheet memory is.
-            let e = ended sheet memory is in
+            let e = finished sheet memory is in
             let left = left-and-result sheet 0 0 (resultOf A sheet memory) (is .runnable) e in
             (ap (λ r. r .place) e, left .0, left .1);
       }

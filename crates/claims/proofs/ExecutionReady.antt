@@ -11,8 +11,7 @@ use Rattle.sheet.specs.Tree.{Tree, done, one, fork, again, rows}
 use Rattle.sheet.specs.Rows.{Assignment, _≔_, Source, copy, fixed, sum, difference, product, negation, Test, less}
 use Rattle.sheet.specs.Names.{SourcePresent, AssignmentPresent, TestPresent, Present}
 use Rattle.machine.specs.Attempts.{Attempt, through, _>>=_, fromOutcome, look}
-use Rattle.machine.specs.Actions.{evaluated, compared}
-use Rattle.machine.specs.InTheLarge.{Stop}
+use Rattle.machine.specs.Actions.{Stop, evaluated, compared}
 use Rattle.claims.specs.Execution.{Progress, performed, turned, executed}
 use Rattle.machine.proofs.AttemptLaws.{Ready, gives, ready-then, stops, from-outcome-ready}
 use Rattle.machine.proofs.PlaceLaws.{place-there}

@@ -18,8 +18,8 @@ use Rattle.table.specs.TableRows.{Table, ofRow, itself, turning, saving, assign
 use Rattle.table.specs.Adjoint.{put, putIf, forwardRow, forwardPart}
 use Rattle.table.specs.Sizes.{valuesNeeded, turnsNeeded}
 use Rattle.machine.specs.Attempts.{Attempt, through, halted, stuck, _>>=_, present, replaced}
-use Rattle.machine.specs.Actions.{Memory, Setting, evaluated, acted, compared, verdictOn, stored}
-use Rattle.machine.specs.InTheLarge.{Stop, stoppingAt, tableRun}
+use Rattle.machine.specs.Actions.{Memory, Setting, Stop, stoppingAt, evaluated, acted, compared, verdictOn, stored}
+use Rattle.machine.specs.InTheLarge.{tableRun}
 use Rattle.claims.specs.Execution.{Progress, onward, performed, turned, executed}
 use Rattle.claims.specs.SavedRows.{onto, savedValues}
 use Rattle.machine.proofs.AttemptLaws.{bind-assoc, bind-same}

@@ -13,8 +13,8 @@ use Rattle.table.specs.TableRows.{Table, Action, assign, save, saveTurn, TableT
 use Rattle.table.specs.Adjoint.{Body, put, putIf, targetOf, forwardRow, forwardPart}
 use Rattle.table.specs.Sizes.{valuesNeeded, turnsNeeded}
 use Rattle.machine.specs.Attempts.{Attempt, through, halted, stuck, _>>=_, present}
-use Rattle.machine.specs.Actions.{Memory, Setting, acted, tested}
-use Rattle.machine.specs.InTheLarge.{Stop, stoppingAt, tableRun}
+use Rattle.machine.specs.Actions.{Memory, Setting, Stop, stoppingAt, acted, tested}
+use Rattle.machine.specs.InTheLarge.{tableRun}
 use Rattle.machine.specs.RowReads.{Entry, isDerivative, notedBy, onThrough, tableLog}
 use Rattle.claims.specs.Execution.{Progress, executed}
 use Rattle.claims.specs.SavedRows.{savedValues}

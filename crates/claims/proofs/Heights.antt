@@ -8,13 +8,14 @@ use lib.ListN.{length, drop}
 use lib.Dec.{eqb, ltb, ltb→lt}
 use native.Mathlib.Omega.{arith}
 use Rattle.number.specs.Arithmetic.{Arithmetic}
-use Rattle.sheet.specs.Tree.{basic, ifLine, elseLine, endIf, repeat, endRepeat}
+use Rattle.sheet.specs.Tree.{basic, ifLine, elseLine, endIf, repeat, endRepeat, RowNumber}
 use Rattle.sheet.specs.Rows.{_≔_}
 use Rattle.table.specs.TableRows.{Action, assign, save, takeBack, saveTurn, clear, turnRound, whether, onTurn, turnWord, Origin, TableLine, Table, linesOf}
 use Rattle.machine.specs.Attempts.{Attempt, through, halted, stuck, _>>=_, look, replaced, pushed}
-use Rattle.machine.specs.Actions.{Memory, Setting, evaluated, restored, turnedRound, acted, compared, verdictOn, turnTaken, tested}
-use Rattle.machine.specs.Machine.{itsElse, itsEnd, oneMore, seek, Repeat, State, Step, goesOn, ended, stops, sticks, jump, afterAction, branchTo, afterTest, afterTurn, stepAt, step, gotStuck, outOfFuel, runFor, ifItGoesOn, stateAfter, stepsOf}
-use Rattle.run.proofs.MachineFollows.{atRow, endingFrom, run-on, more-fuel-same, fuel-suffices}
+use Rattle.machine.specs.Actions.{Memory, Setting, stoppingAt, evaluated, restored, turnedRound, acted, compared, verdictOn, turnTaken, tested}
+use Rattle.machine.specs.Machine.{itsElse, itsEnd, oneMore, seek, Repeat, State, Step, goesOn, ended, stops, sticks, jump, afterAction, branchTo, afterTest, afterTurn, stepAt, step, ifItGoesOn, stateAfter, stepsOf}
+use Rattle.machine.proofs.StepsInTurn.{steps-add}
+use Rattle.run.proofs.MachineFollows.{atRow, more-steps-same, steps-suffice}
 use Rattle.run.specs.Calls.{runOf}
 use Rattle.claims.proofs.MoreRoom.{withRooms, more-room-same}
 
@@ -54,7 +55,7 @@ module _ (A : Arithmetic) where
     abbrev FitsAfter : Step A → Type 0
     FitsAfter (goesOn s) = Fits (s .memory)
     FitsAfter (ended memory) = Unit {0}
-    FitsAfter (stops row origin why) = Unit {0}
+    FitsAfter (stops row stop) = Unit {0}
     FitsAfter sticks = Unit {0}
 
     restored-within : (memory : Memory A) (d : ℕ) (values : List (A .Carrier)) → length values ≤ setting .valueRoom
@@ -78,7 +79,7 @@ module _ (A : Arithmetic) where
         through-then Fits (replaced (memory .store) d (A .zero)) _ (λ store. record { valuesFit = h .valuesFit; turnsFit = h .turnsFit })
     acted-within turnRound memory h = record { valuesFit = h .valuesFit; turnsFit = h .turnsFit }
 
-    action-within : (s : State A) (origin : Origin) (x : Attempt (A .Why) (Memory A)) → Through Fits x → FitsAfter (afterAction A s origin x)
+    action-within : (s : State A) (origin : Origin) (x : Attempt (A .Why) (Memory A)) → Through Fits x → FitsAfter (afterAction A s (stoppingAt A origin x))
     action-within s origin (through memory) h = h
     action-within s origin (halted why) h = tt
     action-within s origin stuck h = tt
@@ -107,7 +108,7 @@ module _ (A : Arithmetic) where
     turn-within s [] h = tt
     turn-within s (r ∷ outer) h = by-left (r .start) (r .left)
       where
-        by-left : (start left : ℕ) → FitsAfter (afterTurn A s (record { start = start; left = left } ∷ outer))
+        by-left : (start : RowNumber) (left : ℕ) → FitsAfter (afterTurn A s (record { start = start; left = left } ∷ outer))
         by-left start zero = h
         by-left start (suc n) = h
 
@@ -125,7 +126,7 @@ module _ (A : Arithmetic) where
 
     step-within : (lines : List TableLine) (s : State A) → Fits (s .memory) → FitsAfter (step A setting lines s)
     unfolding step
-    step-within lines s h = step-at-within s (drop (s .at) lines) h
+    step-within lines s h = step-at-within s (drop (s .at .index) lines) h
 
     steps-within : (n : ℕ) (lines : List TableLine) (s : State A) → Fits (s .memory) → FitsAfter (stateAfter A n setting lines s)
     unfolding stateAfter
@@ -136,7 +137,7 @@ module _ (A : Arithmetic) where
             → FitsAfter (ifItGoesOn A x (λ next. stateAfter A n setting lines next))
         by-step (goesOn next) fits ih = ih next fits
         by-step (ended memory) fits ih = tt
-        by-step (stops row origin why) fits ih = tt
+        by-step (stops row stop) fits ih = tt
         by-step sticks fits ih = tt
 
     within-room : (n : ℕ) (lines : List TableLine) (start s : State A) → Within (setting .valueRoom) (setting .turnRoom) (start .memory)
@@ -147,12 +148,13 @@ module _ (A : Arithmetic) where
 
   module _ (setting : Setting A) (lines : List TableLine) where
     -- if a run ends and not by being stuck, no number of steps is stuck
-    never-sticks : (fuel : ℕ) (s : State A) → (runFor A fuel setting lines s ≡ gotStuck → ⊥) → (runFor A fuel setting lines s ≡ outOfFuel → ⊥)
+    never-sticks : (most : ℕ) (s : State A) → (stateAfter A most setting lines s ≡ sticks → ⊥)
+        → ((state : State A) → stateAfter A most setting lines s ≡ goesOn state → ⊥)
         → (n : ℕ) → stateAfter A n setting lines s ≡ sticks → ⊥
-    never-sticks fuel s unstuck enough n e =
-        let swap : fuel + n ≡ n + fuel = omega arith in
-        unstuck (sym (more-fuel-same A setting lines fuel n s enough) ∙ ap (λ m. runFor A m setting lines s) swap ∙ run-on A setting lines n fuel s
-        ∙ ap (endingFrom A setting lines fuel) e)
+    never-sticks most s unstuck enough n e =
+        let swap : most + n ≡ n + most = omega arith in
+        unstuck (sym (more-steps-same A setting lines most n s enough) ∙ ap (λ m. stateAfter A m setting lines s) swap
+        ∙ steps-add A setting lines n most s ∙ ap (λ x. ifItGoesOn A x (λ next. stateAfter A most setting lines next)) e)
 
     heights-within : (values turns : ℕ) → setting .valueRoom ≤ values → setting .turnRoom ≤ turns → (start : State A)
         → Within (setting .valueRoom) (setting .turnRoom) (start .memory) → ((n : ℕ) → stateAfter A n setting lines start ≡ sticks → ⊥)
@@ -162,11 +164,11 @@ module _ (A : Arithmetic) where
         within-room setting n lines start s h (sym (more-room-same A setting values turns moreValues moreTurns n lines start (unstuck n)) ∙ e)
 
   -- a table's run that does not get stuck: no number of steps is, and the stacks stay within these rooms whatever more is lent
-  module _ (table : Table) (setting : Setting A) (memory : Memory A) (unstuck : runOf A table setting (atRow A 0 [] memory) ≡ gotStuck → ⊥) where
+  module _ (table : Table) (setting : Setting A) (memory : Memory A) (unstuck : runOf A table setting (atRow A 0 [] memory) ≡ sticks → ⊥) where
     pub table-never-sticks : (n : ℕ) → stateAfter A n setting (linesOf table) (atRow A 0 [] memory) ≡ sticks → ⊥
     unfolding runOf
     table-never-sticks =
-        never-sticks setting (linesOf table) (suc (stepsOf table)) (atRow A 0 [] memory) unstuck (fuel-suffices A table setting memory)
+        never-sticks setting (linesOf table) (suc (stepsOf table)) (atRow A 0 [] memory) unstuck (steps-suffice A table setting memory)
 
     pub table-heights : Within (setting .valueRoom) (setting .turnRoom) memory → (values turns : ℕ)
         → setting .valueRoom ≤ values → setting .turnRoom ≤ turns

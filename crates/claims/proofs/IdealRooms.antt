@@ -10,8 +10,8 @@ use Rattle.sheet.specs.Reading.{Sheet}
 use Rattle.sets.specs.Transfers.{Activity}
 use Rattle.table.specs.Adjoint.{derivativeRows}
 use Rattle.machine.specs.Attempts.{Attempt, stuck}
-use Rattle.machine.specs.Actions.{Setting}
-use Rattle.machine.specs.InTheLarge.{Stop, tableRun}
+use Rattle.machine.specs.Actions.{Setting, Stop}
+use Rattle.machine.specs.InTheLarge.{tableRun}
 use Rattle.run.specs.Calls.{settingOf}
 use Rattle.claims.specs.Execution.{Executed, execution}
 use Rattle.claims.specs.IdealSweep.{derivedBy, swept, Ideal, ideal}

@@ -14,14 +14,15 @@ use Rattle.machine.specs.Machine.{Repeat, Step, step, stepAt, stepsOf}
 use Rattle.machine.specs.InTheLarge.{tableRun}
 use Rattle.machine.specs.RowReads.{onNext, machineLog, tableLog}
 use Rattle.machine.proofs.LinesPassed.{past-tree}
-use Rattle.run.proofs.MachineFollows.{atRow, Result, LandsAt, log-add, reaches}
+use Rattle.machine.proofs.StepsInTurn.{log-add, log-first}
+use Rattle.run.proofs.MachineFollows.{atRow, Result, LandsAt, reaches}
 
 module _ (A : Arithmetic) (setting : Setting A) where
   module _ (lines : List TableLine) (p : ℕ) (behind : drop p lines ≡ []) (repeats : List Repeat) where
     nothing-noted-behind : (n : ℕ) (memory : Memory A) → machineLog A n setting lines (atRow A p repeats memory) ≡ []
     unfolding machineLog step stepAt
     nothing-noted-behind zero memory = refl
-    nothing-noted-behind (suc n) memory = rw behind
+    nothing-noted-behind (suc n) memory = log-first A setting lines n (atRow A p repeats memory) ∙ rw behind
 
     nothing-noted-after : (n : ℕ) (x : Result A) (out : Step A) → LandsAt A p repeats x out
         → onNext A out (λ next. machineLog A n setting lines next) ≡ []

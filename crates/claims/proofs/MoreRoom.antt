@@ -11,9 +11,9 @@ use Rattle.sheet.specs.Tree.{done, one, fork, again, basic, ifLine, elseLine, e
 use Rattle.sheet.specs.Rows.{_≔_}
 use Rattle.table.specs.TableRows.{Action, assign, save, takeBack, saveTurn, clear, turnRound, turnWord, TableLine, Table}
 use Rattle.machine.specs.Attempts.{Attempt, through, stuck, present, look, pushed}
-use Rattle.machine.specs.Actions.{Memory, Setting, saved, turnedRound, acted, tested}
+use Rattle.machine.specs.Actions.{Memory, Setting, Stop, stoppingAt, saved, turnedRound, acted, tested}
 use Rattle.machine.specs.Machine.{State, Step, goesOn, ended, stops, sticks, afterAction, stepAt, step, ifItGoesOn, stateAfter}
-use Rattle.machine.specs.InTheLarge.{Stop, stoppingAt, tableRun}
+use Rattle.machine.specs.InTheLarge.{tableRun}
 use Rattle.machine.proofs.AttemptLaws.{bind-unless}
 
 -- ---- the same, unless the first is a thing that means stuck
@@ -74,7 +74,8 @@ module _ (A : Arithmetic) where
     unfolding stepAt
     step-at-alike s [] = λ unstuck. refl
     step-at-alike s (basic row ∷ rest) =
-        same-under (afterAction A s (row .origin)) stuck (acted A setting (row .action) (s .memory)) (acted A roomier (row .action) (s .memory))
+        same-under (λ x. afterAction A s (stoppingAt A (row .origin) x)) stuck (acted A setting (row .action) (s .memory))
+        (acted A roomier (row .action) (s .memory))
         (acted-alike (row .action) (s .memory))
     step-at-alike s (ifLine f ∷ rest) = λ unstuck. refl
     step-at-alike s (elseLine ∷ rest) = λ unstuck. refl
@@ -84,7 +85,7 @@ module _ (A : Arithmetic) where
 
     step-alike : (lines : List TableLine) (s : State A) → SameUnless sticks (step A setting lines s) (step A roomier lines s)
     unfolding step
-    step-alike lines s = step-at-alike s (drop (s .at) lines)
+    step-alike lines s = step-at-alike s (drop (s .at .index) lines)
 
     pub more-room-same : (n : ℕ) (lines : List TableLine) (s : State A) → (stateAfter A n setting lines s ≡ sticks → ⊥)
         → stateAfter A n (withRooms setting values turns) lines s ≡ stateAfter A n setting lines s
@@ -100,7 +101,7 @@ module _ (A : Arithmetic) where
             (ifItGoesOn A x (λ next. stateAfter A n roomier lines next))
         by-step (goesOn next) ih = ih next
         by-step (ended memory) ih = λ unstuck′. refl
-        by-step (stops row origin why) ih = λ unstuck′. refl
+        by-step (stops row stop) ih = λ unstuck′. refl
         by-step sticks ih = λ unstuck′. refl
 
     -- the same in the large

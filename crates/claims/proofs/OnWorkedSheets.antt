@@ -12,8 +12,7 @@ use Rattle.sheet.specs.Reading.{Sheet, variablesOf, read}
 use Rattle.sets.specs.Marks.{marked, markBy, varied, useful, required, activityAt}
 use Rattle.table.specs.Sizes.{valuesNeeded, turnsNeeded}
 use Rattle.machine.specs.Attempts.{Attempt, through, halted, stuck}
-use Rattle.machine.specs.Actions.{counting}
-use Rattle.machine.specs.InTheLarge.{Stop}
+use Rattle.machine.specs.Actions.{Stop, counting}
 use Rattle.run.specs.Calls.{Lent, settingOf, readToRun, run}
 use Rattle.claims.specs.ExactlyWhen.{Runnable}
 use Rattle.claims.specs.Execution.{Progress, execution}

@@ -17,8 +17,8 @@ use Rattle.sets.proofs.VariableSetLaws.{union-left, union-right}
 use Rattle.sets.proofs.EquationsAlong.{ForwardAlong}
 use Rattle.table.specs.TableRows.{Table, onTurn}
 use Rattle.table.specs.Adjoint.{backwardPart}
-use Rattle.machine.specs.Actions.{Memory, Setting}
-use Rattle.machine.specs.InTheLarge.{Stop, tableRun}
+use Rattle.machine.specs.Actions.{Memory, Setting, Stop}
+use Rattle.machine.specs.InTheLarge.{tableRun}
 use Rattle.machine.specs.RowReads.{Entry, tableLog}
 use Rattle.claims.specs.Execution.{Executed, Progress, onward, turned}
 use Rattle.claims.specs.IdealSweep.{swept}

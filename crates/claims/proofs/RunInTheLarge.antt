@@ -23,8 +23,8 @@ use Rattle.table.specs.TableRows.{Table, turnRound, ofTurningRound}
 use Rattle.table.specs.Adjoint.{forwardPart, backwardPart, adjointTable}
 use Rattle.table.specs.Sizes.{valuesNeeded, turnsNeeded}
 use Rattle.machine.specs.Attempts.{Attempt, through, halted, _>>=_}
-use Rattle.machine.specs.Actions.{Memory, Setting, acted}
-use Rattle.machine.specs.InTheLarge.{Stop, tableRun}
+use Rattle.machine.specs.Actions.{Memory, Setting, Stop, acted}
+use Rattle.machine.specs.InTheLarge.{tableRun}
 use Rattle.machine.specs.RowReads.{tableLog, onThrough}
 use Rattle.machine.proofs.AttemptLaws.{Ready, gives, stops}
 use Rattle.run.proofs.MachineFollows.{EndsAs, run-follows}

@@ -12,9 +12,8 @@ use Rattle.sheet.specs.Tree.{RowNumber}
 use Rattle.sheet.specs.Refusals.{given, numberOf, placeOf, notFiniteResult}
 use Rattle.sheet.specs.Reading.{Sheet, variablesOf, read}
 use Rattle.machine.specs.Attempts.{Attempt, through, halted, stuck}
-use Rattle.machine.specs.Machine.{Ending, gotStuck}
-use Rattle.machine.specs.Actions.{counting}
-use Rattle.machine.specs.InTheLarge.{Stop}
+use Rattle.machine.specs.Machine.{Step, sticks}
+use Rattle.machine.specs.Actions.{Stop, counting}
 use Rattle.run.specs.Calls.{Lent, Ran, settingOf, independentAdjoints, resultOf, lentAfter, ranTo, run}
 use Rattle.claims.specs.ExactlyWhen.{Runnable}
 use Rattle.claims.specs.IdealSweep.{Ideal, ideal}
@@ -47,7 +46,7 @@ module _ (A : Arithmetic) where
       })
   AnswersAs sheet lent stuck ran = ⊥
 
-  answers-as : (sheet : Sheet) (lent : Lent A) (i : Attempt (Stop A) (Ideal A)) (ending : Ending A) → Matches A (variablesOf sheet) i ending
+  answers-as : (sheet : Sheet) (lent : Lent A) (i : Attempt (Stop A) (Ideal A)) (ending : Step A) → Matches A (variablesOf sheet) i ending
       → AnswersAs sheet lent i (ranTo A sheet lent ending)
   unfolding Matches AnswersAs ranTo resultOf
   answers-as sheet lent (through i) ending m = rw (m .ends, m .values, m .adjoints) refl
@@ -77,7 +76,7 @@ module _ (A : Arithmetic) where
 
   -- ---- any two choices of saved rows
 
-  same-outcome : (v : ℕ) (i : Attempt (Stop A) (Ideal A)) (first second : Ending A) → Matches A v i first → Matches A v i second
+  same-outcome : (v : ℕ) (i : Attempt (Stop A) (Ideal A)) (first second : Step A) → Matches A v i first → Matches A v i second
       → SameOutcome A v first second
   unfolding Matches
   same-outcome v (through i) first second m k =
@@ -86,13 +85,13 @@ module _ (A : Arithmetic) where
   same-outcome v stuck first second m k = absurd m
 
   -- what matches the ideal isn't stuck, and neither is the ideal
-  pub unstuck-run : (v : ℕ) (i : Attempt (Stop A) (Ideal A)) (ending : Ending A) → Matches A v i ending → ending ≡ gotStuck → ⊥
+  pub unstuck-run : (v : ℕ) (i : Attempt (Stop A) (Ideal A)) (ending : Step A) → Matches A v i ending → ending ≡ sticks → ⊥
   unfolding Matches
   unstuck-run v (through i) ending m e = let z : _≡_ {A = ℕ} 0 1 = cc (m .ends) in absurd (omega arith)
   unstuck-run v (halted stop) ending m e = let z : _≡_ {A = ℕ} 0 1 = cc (m .1) in absurd (omega arith)
   unstuck-run v stuck ending m e = absurd m
 
-  unstuck-ideal : (v : ℕ) (i : Attempt (Stop A) (Ideal A)) (ending : Ending A) → Matches A v i ending → i ≡ stuck → ⊥
+  unstuck-ideal : (v : ℕ) (i : Attempt (Stop A) (Ideal A)) (ending : Step A) → Matches A v i ending → i ≡ stuck → ⊥
   unfolding Matches
   unstuck-ideal v i ending m e = subst (λ x. Matches A v x ending) e m
 

@@ -13,7 +13,7 @@ use Rattle.sheet.proofs.Judgements.{Tells, leb-tells, eqb-tells, unmet, judged,
 use Rattle.sheet.proofs.Settled.{Settled}
 use Rattle.table.specs.Sizes.{rowsNeeded, valuesFor, turnsFor}
 use Rattle.table.specs.Calls.{tableRoom, readFor}
-use Rattle.machine.specs.Machine.{Ending}
+use Rattle.machine.specs.Machine.{Step}
 use Rattle.run.specs.Calls.{Lent, allAdmitted, readToRun, ranTo, ranOn, run}
 use Rattle.claims.specs.ExactlyWhen.{First, ReadingRefuses, Read, WritingRefuses, whileReading, tableTooSmall, Writable, StacksSuffice, LengthsRight, NotFinite, Runnable, endingOf, StartRefused, whileWriting, valueStackTooSmall, turnStackTooSmall, startsNotV, seedsNotV, resultNot2V, givenNotFinite}
 use Rattle.claims.proofs.FirstFailing.{eachJudged, all-pass, first-refused, all-or-first}
@@ -154,7 +154,7 @@ module _ (A : Arithmetic) (words : List ℕ) (starts seeds : List (A .Carrier)) 
   accepted-to-run sheet is = reading-settled words .byResult sheet (is .lengths .stacks .writable .isRead)
 
   -- it answers by how the machine ends
-  pub started : (sheet : Sheet) (ending : Ending A) → Runnable A words starts seeds lent sheet → endingOf A words starts seeds lent sheet ≡ ending
+  pub started : (sheet : Sheet) (ending : Step A) → Runnable A words starts seeds lent sheet → endingOf A words starts seeds lent sheet ≡ ending
       → run A words starts seeds lent ≡ ranTo A sheet lent ending
   unfolding run ranOn
   started sheet ending is e = ap (λ answer. ranOn A answer starts seeds lent) (start-result sheet is) ∙ ap (ranTo A sheet lent) e

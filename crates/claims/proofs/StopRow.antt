@@ -7,20 +7,19 @@ use mathlib.Core.Option.{Option, none, some}
 use lib.ListN.{drop}
 use Rattle.number.specs.Arithmetic.{Arithmetic}
 use Rattle.sheet.specs.Tree.{basic, ifLine, elseLine, endIf, repeat, endRepeat, RowNumber}
-use Rattle.table.specs.TableRows.{TableRow, TableLine, Origin}
+use Rattle.table.specs.TableRows.{TableRow, TableLine}
 use Rattle.machine.specs.Attempts.{Attempt, through, halted, stuck}
-use Rattle.machine.specs.Actions.{Memory, Setting, Verdict, acted, tested}
-use Rattle.machine.specs.Machine.{Ending, finished, gotStuck, outOfFuel, State, Step, goesOn, ended, stops, sticks, Repeat, oneMore, itsElse, itsEnd, seek, jump, afterAction, branchTo, afterTest, afterTurn, stepAt, step, stateAfter, stoppedAt, runFor}
-use Rattle.run.proofs.MachineFollows.{endingFrom, run-step}
+use Rattle.machine.specs.Actions.{Memory, Setting, Stop, stoppingAt, Verdict, acted, tested}
+use Rattle.machine.specs.Machine.{State, Step, goesOn, ended, stops, sticks, Repeat, oneMore, itsElse, itsEnd, seek, jump, afterAction, branchTo, afterTest, afterTurn, stepAt, step, ifItGoesOn, stateAfter}
 use Rattle.claims.specs.Demands.{StoppedThere}
 
 module _ (A : Arithmetic) (setting : Setting A) (lines : List TableLine) where
   module _ (state : State A) where
-    -- a step that goes on, ends or sticks reports no row
+    -- what goes on, ends or sticks reports no row
     abbrev Reports : Step A → Type 0
     Reports (goesOn next) = Unit {0}
     Reports (ended memory) = Unit {0}
-    Reports (stops row origin why) = StoppedThere A setting lines state row origin why
+    Reports (stops row stop) = StoppedThere A setting lines state row stop
     Reports sticks = Unit {0}
 
     jump-reports : (memory : Memory A) (o : Option ℕ) → Reports (jump A state memory o)
@@ -35,7 +34,7 @@ module _ (A : Arithmetic) (setting : Setting A) (lines : List TableLine) where
     test-reports rest none = tt
     test-reports rest (some verdict) = branch-reports rest (verdict .first) (verdict .memory)
 
-    turn-reports : (start left : ℕ) (outer : List Repeat) → Reports (afterTurn A state (record { start = start; left = left } ∷ outer))
+    turn-reports : (start : RowNumber) (left : ℕ) (outer : List Repeat) → Reports (afterTurn A state (record { start = start; left = left } ∷ outer))
     turn-reports start zero outer = tt
     turn-reports start (suc left) outer = tt
 
@@ -43,16 +42,16 @@ module _ (A : Arithmetic) (setting : Setting A) (lines : List TableLine) where
     turns-report [] = tt
     turns-report (r ∷ outer) = turn-reports (r .start) (r .left) outer
 
-    action-reports : (r : TableRow) (rest : List TableLine) → drop (state .at) lines ≡ basic r ∷ rest
+    action-reports : (r : TableRow) (rest : List TableLine) → drop (state .at .index) lines ≡ basic r ∷ rest
         → (attempt : Attempt (A .Why) (Memory A)) → acted A setting (r .action) (state .memory) ≡ attempt
-        → Reports (afterAction A state (r .origin) attempt)
+        → Reports (afterAction A state (stoppingAt A (r .origin) attempt))
     unfolding stateAfter
     action-reports r rest here (through memory) e = tt
     action-reports r rest here stuck e = tt
     action-reports r rest here (halted why) e =
         record { steps = 0; state = state; reached = refl; atRow = refl; line = r; rest = rest; there = here; comesFrom = refl; refuses = e }
 
-    step-reports : (here : List TableLine) → drop (state .at) lines ≡ here → Reports (stepAt A setting state here)
+    step-reports : (here : List TableLine) → drop (state .at .index) lines ≡ here → Reports (stepAt A setting state here)
     unfolding stepAt
     step-reports [] h = tt
     step-reports (basic r ∷ rest) h = action-reports r rest h (acted A setting (r .action) (state .memory)) refl
@@ -62,20 +61,13 @@ module _ (A : Arithmetic) (setting : Setting A) (lines : List TableLine) where
     step-reports (repeat m ∷ rest) h = tt
     step-reports (endRepeat ∷ rest) h = turns-report (state .repeats)
 
-    abbrev EndReports : Ending A → Type 0
-    EndReports (finished memory) = Unit {0}
-    EndReports (stoppedAt row origin why) = StoppedThere A setting lines state row origin why
-    EndReports gotStuck = Unit {0}
-    EndReports outOfFuel = Unit {0}
-
-  -- what a run reports from the state after a step, it reports from the state before it
-  step-earlier : (state next : State A) → step A setting lines state ≡ goesOn next → (ending : Ending A) → EndReports next ending
-      → EndReports state ending
+  -- what steps report from the state after the first, they report from the state before it
+  step-earlier : (state next : State A) → step A setting lines state ≡ goesOn next → (out : Step A) → Reports next out → Reports state out
   unfolding stateAfter
-  step-earlier state next goes (finished memory) h = tt
-  step-earlier state next goes gotStuck h = tt
-  step-earlier state next goes outOfFuel h = tt
-  step-earlier state next goes (stoppedAt row origin why) h =
+  step-earlier state next goes (goesOn last) h = tt
+  step-earlier state next goes (ended memory) h = tt
+  step-earlier state next goes sticks h = tt
+  step-earlier state next goes (stops row stop) h =
       record {
         steps = suc (h .steps);
         state = h .state;
@@ -88,22 +80,21 @@ module _ (A : Arithmetic) (setting : Setting A) (lines : List TableLine) where
         refuses = h .refuses;
       }
 
-  -- by what the first step comes to
-  end-reports : (n : ℕ) (state : State A) (out : Step A) → step A setting lines state ≡ out → Reports state out
-      → ((next : State A) → EndReports next (runFor A n setting lines next))
-      → EndReports state (endingFrom A setting lines n out)
-  end-reports n state (goesOn next) is h later = step-earlier state next is (runFor A n setting lines next) (later next)
-  end-reports n state (ended memory) is h later = tt
-  end-reports n state (stops row origin why) is h later = h
-  end-reports n state sticks is h later = tt
+  -- by what the first comes to
+  first-reports : (n : ℕ) (state : State A) (out : Step A) → step A setting lines state ≡ out → Reports state out
+      → ((next : State A) → Reports next (stateAfter A n setting lines next))
+      → Reports state (ifItGoesOn A out (λ next. stateAfter A n setting lines next))
+  first-reports n state (goesOn next) is h later = step-earlier state next is (stateAfter A n setting lines next) (later next)
+  first-reports n state (ended memory) is h later = tt
+  first-reports n state (stops row stop) is h later = h
+  first-reports n state sticks is h later = tt
 
-  run-reports : (fuel : ℕ) (state : State A) → EndReports state (runFor A fuel setting lines state)
-  unfolding runFor step
-  run-reports zero state = tt
-  run-reports (suc n) state =
-      rw (run-step A setting lines n state)
-      (end-reports n state (step A setting lines state) refl (step-reports state (drop (state .at) lines) refl) (run-reports n))
+  steps-report : (n : ℕ) (state : State A) → Reports state (stateAfter A n setting lines state)
+  unfolding stateAfter step
+  steps-report zero state = tt
+  steps-report (suc n) state =
+      first-reports n state (step A setting lines state) refl (step-reports state (drop (state .at .index) lines) refl) (steps-report n)
 
-  pub stop-names-its-row : (fuel : ℕ) (state : State A) (row : RowNumber) (origin : Origin) (why : A .Why)
-      → runFor A fuel setting lines state ≡ stoppedAt row origin why → StoppedThere A setting lines state row origin why
-  stop-names-its-row fuel state row origin why e = subst (EndReports state) e (run-reports fuel state)
+  pub stop-names-its-row : (n : ℕ) (state : State A) (row : RowNumber) (stop : Stop A) → stateAfter A n setting lines state ≡ stops row stop
+      → StoppedThere A setting lines state row stop
+  stop-names-its-row n state row stop e = subst (Reports state) e (steps-report n state)

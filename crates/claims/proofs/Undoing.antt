@@ -19,8 +19,8 @@ use Rattle.sets.proofs.VariableSetLaws.{union-has, without-has, union-left, uni
 use Rattle.table.specs.TableRows.{Table}
 use Rattle.table.specs.Adjoint.{derivativeRows, backwardOf}
 use Rattle.machine.specs.Attempts.{through}
-use Rattle.machine.specs.Actions.{Setting, acted}
-use Rattle.machine.specs.InTheLarge.{Stop, tableRun}
+use Rattle.machine.specs.Actions.{Setting, Stop, acted}
+use Rattle.machine.specs.InTheLarge.{tableRun}
 use Rattle.machine.specs.RowReads.{Entry, tableLog}
 use Rattle.claims.specs.Execution.{Progress, onward}
 use Rattle.claims.specs.SavedRows.{savedValues}

@@ -12,7 +12,7 @@ use Rattle.sheet.specs.Reading.{Sheet, variablesOf, read}
 use Rattle.sets.specs.Marks.{varied, useful, required, numbered, markBy, marked}
 use Rattle.table.specs.Adjoint.{Body, tableOf}
 use Rattle.table.specs.Sizes.{valuesNeeded, turnsNeeded}
-use Rattle.machine.specs.Machine.{Ending}
+use Rattle.machine.specs.Machine.{Step}
 use Rattle.run.specs.Calls.{settingOf, startOf, runOf}
 use Rattle.claims.specs.IdealSweep.{ideal}
 use Rattle.claims.specs.SavedRows.{alsoSaving, recordedIn}
@@ -71,7 +71,7 @@ module _ (A : Arithmetic) (sheet : Sheet) where
 
 module _ (A : Arithmetic) (words : List ℕ) (sheet : Sheet) (accepted : read words ≡ given sheet) (starts seeds : List (A .Carrier))
     (n : length starts ≡ variablesOf sheet) where
-  abbrev Like : (valueRoom turnRoom : ℕ) → Ending A → Type 0
+  abbrev Like : (valueRoom turnRoom : ℕ) → Step A → Type 0
   Like valueRoom turnRoom = Matches A (variablesOf sheet) (ideal A sheet (settingOf A sheet seeds valueRoom turnRoom) starts)
 
   pub run-matches : (choice : RowNumber → Bool) (valueRoom turnRoom : ℕ) → StackRoom A choice sheet valueRoom turnRoom

@@ -20,8 +20,8 @@ use Rattle.table.specs.Calls.{checkedSaid, check, writtenOf, write}
 use Rattle.table.specs.declared.Checked as declared
 use Rattle.table.specs.declared.Reply.{Reply}
 use Rattle.machine.specs.Attempts.{through, halted}
-use Rattle.machine.specs.Actions.{Memory, Setting, acted}
-use Rattle.machine.specs.Machine.{State, Step, goesOn, sticks, stateAfter, stepsOf, Ending, finished, stoppedAt}
+use Rattle.machine.specs.Actions.{Memory, Setting, Stop, acted}
+use Rattle.machine.specs.Machine.{State, Step, goesOn, ended, stops, sticks, stateAfter, stepsOf}
 use Rattle.machine.specs.RowReads.{machineLog}
 use Rattle.run.specs.Calls.{Lent, Ran, settingOf, startOf, sheetRun, resultOf, run, ranOf}
 use Rattle.claims.specs.ExactlyWhen.{Writable, Runnable}
@@ -65,17 +65,17 @@ pub record AuditSolves (sheet : Sheet) (starts seeds : List ℕ) (ran : Ran resi
 
 -- "A stop is .. reported in the rows of the real table": the machine came to the row reported, which has the stop's origin, and the arithmetic
 -- refused its operation there
-pub record StoppedThere (A : Arithmetic) (setting : Setting A) (lines : List TableLine) (start : State A)
-    (row : RowNumber) (origin : Origin) (why : A .Why) : Type 0 where
+pub record StoppedThere (A : Arithmetic) (setting : Setting A) (lines : List TableLine) (start : State A) (row : RowNumber) (stop : Stop A)
+    : Type 0 where
   pub steps : ℕ
   pub state : State A
   pub reached : stateAfter A steps setting lines start ≡ goesOn state
-  pub atRow : state .at ≡ row .index
+  pub atRow : state .at ≡ row
   pub line : TableRow
   pub rest : List TableLine
   pub there : drop (row .index) lines ≡ basic line ∷ rest
-  pub comesFrom : line .origin ≡ origin
-  pub refuses : acted A setting (line .action) (state .memory) ≡ halted why
+  pub comesFrom : line .origin ≡ stop .origin
+  pub refuses : acted A setting (line .action) (state .memory) ≡ halted (stop .why)
 
 module _ (A : Arithmetic) (sheet : Sheet) (starts seeds : List (A .Carrier)) where
   -- "run in doubles it gives bit for bit what the all-saved table gives, or stops at the same arithmetic row": stated over any arithmetic, for
@@ -89,12 +89,12 @@ module _ (A : Arithmetic) (sheet : Sheet) (starts seeds : List (A .Carrier)) whe
 
   -- the same of what a run's call answers, by how the all-saved table ends: 0 with that table's result, or 12 at the row of the real table
   -- that has the same origin
-  pub data AnswersLike (before : Lent A) (ran : Ran A) : (allSaved : Ending A) → Type 0 where
-    sameResult : {memory : Memory A} → ran .number ≡ 0 → ran .lent .result ≡ resultOf A sheet memory → AnswersLike before ran (finished memory)
-    sameStop : {other : RowNumber} {origin : Origin} {why : A .Why} (row : RowNumber) → ran .number ≡ 12 → ran .place ≡ row .index
+  pub data AnswersLike (before : Lent A) (ran : Ran A) : (allSaved : Step A) → Type 0 where
+    sameResult : {memory : Memory A} → ran .number ≡ 0 → ran .lent .result ≡ resultOf A sheet memory → AnswersLike before ran (ended memory)
+    sameStop : {other : RowNumber} {stop : Stop A} (row : RowNumber) → ran .number ≡ 12 → ran .place ≡ row .index
         → StoppedThere A (settingOf A sheet seeds (length (before .values)) (length (before .turns))) (linesOf (tableOf sheet))
-        (startOf A sheet starts) row origin why
-        → AnswersLike before ran (stoppedAt other origin why)
+        (startOf A sheet starts) row stop
+        → AnswersLike before ran (stops other stop)
 
 -- of an accepted sheet, whatever the calls answer within their contracts
 pub record DemandTwo (A : Arithmetic) (words : List ℕ) (sheet : Sheet) : Type 0 where
@@ -163,7 +163,7 @@ module _ (A : Arithmetic) (sheet : Sheet) (starts seeds : List (A .Carrier)) (va
     pub state : State A
     pub reached : afterSteps steps ≡ goesOn state
     pub rest : List TableLine
-    pub there : drop (state .at) lines ≡ basic (record { origin = ofTurningRound; action = turnRound }) ∷ rest
+    pub there : drop (state .at .index) lines ≡ basic (record { origin = ofTurningRound; action = turnRound }) ∷ rest
     pub originals : take (variablesOf sheet) (state .memory .store) ≡ progress .store
     pub values : state .memory .values ≡ savedValues A (recordedIn sheet) (progress .trace)
     pub turns : state .memory .turns ≡ map turnWord (progress .turns)

@@ -14,11 +14,10 @@ use Rattle.sheet.specs.Tree.{Tree, basic, ifLine, elseLine, endIf, repeat, endR
 use Rattle.sheet.specs.Rows.{Assignment, Test, SheetLine, Row, Slot, variable, constant, turns, unused, Kind, kindOf, treeRows}
 use Rattle.sheet.specs.LongestRun.{longestRun}
 use Rattle.sheet.specs.Reading.{Sheet, variablesOf, rowAt, rowsAt}
-use Rattle.table.specs.TableRows.{Origin}
 use Rattle.table.specs.Sizes.{rowsNeeded, valuesFor, turnsFor}
 use Rattle.table.specs.Calls.{tableRoom}
-use Rattle.machine.specs.Actions.{Memory}
-use Rattle.machine.specs.Machine.{Ending, finished, stoppedAt}
+use Rattle.machine.specs.Actions.{Memory, Stop}
+use Rattle.machine.specs.Machine.{Step, ended, stops}
 use Rattle.run.specs.Calls.{Lent, sheetRun}
 
 -- ---- where things stand
@@ -247,7 +246,7 @@ module _ (A : Arithmetic) (words : List ℕ) (starts seeds : List (A .Carrier)) 
     pub finite : (i : ℕ) → ¬ NotFinite A starts seeds i
 
   -- the machine over the sheet's table
-  abbrev pub endingOf : Sheet → Ending A
+  abbrev pub endingOf : Sheet → Step A
   endingOf sheet = sheetRun A sheet starts seeds (length (lent .values)) (length (lent .turns))
 
   -- refusals before the machine starts: 1 to 11
@@ -268,9 +267,8 @@ module _ (A : Arithmetic) (words : List ℕ) (starts seeds : List (A .Carrier)) 
   -- 12: the machine was stopped at a row
   pub record Stops (sheet : Sheet) (row : RowNumber) : Type 0 where
     pub runnable : Runnable sheet
-    pub origin : Origin
-    pub why : A .Why
-    pub ending : endingOf sheet ≡ stoppedAt row origin why
+    pub stop : Stop A
+    pub ending : endingOf sheet ≡ stops row stop
 
   -- "a run .. uses all"
   pub data RunRefuses : Refusal → Type 0 where
@@ -281,4 +279,4 @@ module _ (A : Arithmetic) (words : List ℕ) (starts seeds : List (A .Carrier)) 
   -- 0 | done | 0
   pub record Finishes (sheet : Sheet) (memory : Memory A) : Type 0 where
     pub runnable : Runnable sheet
-    pub ending : endingOf sheet ≡ finished memory
+    pub ending : endingOf sheet ≡ ended memory

@@ -8,8 +8,7 @@ use Rattle.sheet.specs.Rows.{Assignment, _≔_, Test}
 use Rattle.sheet.specs.Reading.{Sheet}
 use Rattle.table.specs.TableRows.{ofRow, itself}
 use Rattle.machine.specs.Attempts.{Attempt, through, _>>=_, present, replaced}
-use Rattle.machine.specs.Actions.{evaluated, compared}
-use Rattle.machine.specs.InTheLarge.{Stop, stoppingAt}
+use Rattle.machine.specs.Actions.{Stop, stoppingAt, evaluated, compared}
 
 module _ (A : Arithmetic) where
   -- one executed assignment, with the values just before it

@@ -11,8 +11,8 @@ use Rattle.sets.specs.Transfers.{Activity}
 use Rattle.sets.specs.Marks.{varied, useful, activityAt}
 use Rattle.table.specs.Adjoint.{derivativeRows}
 use Rattle.machine.specs.Attempts.{Attempt, through, _>>=_}
-use Rattle.machine.specs.Actions.{Setting, counting, seeded}
-use Rattle.machine.specs.InTheLarge.{Stop, tableRun}
+use Rattle.machine.specs.Actions.{Setting, Stop, counting, seeded}
+use Rattle.machine.specs.InTheLarge.{tableRun}
 use Rattle.claims.specs.Execution.{Executed, Progress, execution}
 
 module _ (A : Arithmetic) where
