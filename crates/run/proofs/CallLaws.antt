@@ -26,11 +26,12 @@ use Rattle.machine.specs.declared.Ended.{Ended}
 use Rattle.machine.specs.declared.Ended.the-variants as ended-as
 use Rattle.run.proofs.MachineFollows.{Result, EndsAs, run-follows}
 use Rattle.run.proofs.RunsCopy.{adjoint-copies}
-use Rattle.run.proofs.RunEnds.{EndsLike, ends-like}
+use Rattle.run.proofs.RunEnds.{ends-like}
 use Rattle.run.specs.Calls.{settingOf, startOf, runOf, sheetRun, resultOf, lentAfter, ranTo, lentOf, ranOf}
+use Rattle.run.specs.inner.TableRuns.{enoughSteps, EndsLike, cleared, RunsTable}
 use Rattle.run.specs.inner.CallSteps.{ResultFits, answerAt, resultAt}
 use Rattle.run.specs.inner.CallAnswers.{Ready, RunRoom, StacksCleared, RanTo}
-use Rattle.run.proofs.EnoughSteps.{enoughSteps, accepted-steps-same}
+use Rattle.run.proofs.EnoughSteps.{accepted-steps-same}
 use Rattle.run.proofs.OpenRepeats.{sheet-shallow}
 
 -- ---- the start
@@ -95,6 +96,39 @@ module _ (A : Arithmetic) where
   result-fits room kept keptCopies =
       record { copiedFits = keptCopies ∙ room .copiedFits; storeFits = omega (arith, kept, room .storeFits); resultFits = room .resultFits }
 
+  -- ---- a table's run
+
+  -- from the runner between cleared stacks
+  pub runs-table : {table : List ℕ} {rows : ℕ} {beyond roles constants : List ℕ} {seeds store values copied : List (A .Carrier)} {turns : List ℕ}
+      {emptied : List (A .Carrier)} {emptiedTurns : List ℕ} (after : Cells A) {bodies toCome : List ℕ} (ran : Ran)
+      {valuesAfter : List (A .Carrier)} {turnsAfter : List ℕ}
+      → StacksCleared A values turns emptied emptiedTurns
+      → RunsRows A table rows beyond roles constants seeds enoughSteps (cellsOf A store emptied emptiedTurns copied) after bodies toCome ran
+      → length (after .values) ≡ length emptied
+      → length (after .turns) ≡ length emptiedTurns
+      → StacksCleared A (after .values) (after .turns) valuesAfter turnsAfter
+      → RunsTable A table rows beyond roles constants seeds (cellsOf A store values turns copied)
+      (cellsOf A (after .store) valuesAfter turnsAfter (after .copied)) (ran .ended)
+  runs-table {store = store} {values} {copied} {turns} after {bodies} {toCome} ran {valuesAfter} {turnsAfter} empty runs kept keptTurns empty-again =
+      let many = kept ∙ ap length (empty .valuesAre) ∙ length-replicate (length values) (A .zero) in
+      let manyTurns = keptTurns ∙ ap length (empty .turnsAre) ∙ length-replicate (length turns) 0 in
+      record {
+        valuesCleared = empty-again .valuesAre ∙ ap (λ n. replicate n (A .zero)) many;
+        turnsCleared = empty-again .turnsAre ∙ ap (λ n. replicate n 0) manyTurns;
+        ends = λ setting lines start handed.
+            same-cells start _ (ran .ended)
+            (ends-like A setting lines start enoughSteps _ after bodies toCome ran
+            (runs setting lines start (rw (empty .valuesAre, empty .turnsAre) handed)));
+      }
+    where
+      -- an end says nothing of the stacks' cells
+      same-cells : (start : Memory A) (ending : Step A) (end : Ended) → EndsLike A start after end ending
+          → EndsLike A start (cellsOf A (after .store) valuesAfter turnsAfter (after .copied)) end ending
+      same-cells start ending ended-as.Finished ends = record { memory = ends .memory; is = ends .is; store = ends .store; copies = ends .copies }
+      same-cells start ending (ended-as.Stopped row) ends = ends
+      same-cells start ending ended-as.Stuck ends = ends
+      same-cells start ending ended-as.Unfinished ends = ends
+
   -- ---- the whole run
 
   module _ {sheet : Sheet} {roles constants table : List ℕ} {rows : ℕ} {beyond : List ℕ} (ready : Ready sheet roles constants table rows beyond)
@@ -119,10 +153,10 @@ module _ (A : Arithmetic) where
         is ∙ ap (overwritten starts) (room .zeros ∙ ap (λ n. replicate n (A .zero)) places) ∙ starts-then-zeros sheet starts (room .startsFit ∙ roles-counted)
 
     -- what the runner is handed
-    handed : {store cleared : List (A .Carrier)} {clearedTurns : List ℕ} → store ≡ start .store → StacksCleared A values turns cleared clearedTurns
-        → Handed A table rows beyond roles constants seeds (cellsOf A store cleared clearedTurns copied) itsSetting (linesOf (tableOf sheet)) start
+    handed : {store : List (A .Carrier)} → store ≡ start .store
+        → Handed A table rows beyond roles constants seeds (cleared A (cellsOf A store values turns copied)) itsSetting (linesOf (tableOf sheet)) start
     unfolding settingOf startOf
-    handed {store} is empty =
+    handed {store} is =
         record {
           holds = ready .holds;
           rows = ready .counted;
@@ -137,7 +171,7 @@ module _ (A : Arithmetic) where
           store = sym is;
           values = refl;
           turns = refl;
-          sound = rw (empty .valuesAre, empty .turnsAre) (both-empty sheet seeds (length values) (length turns) store (start .copied));
+          sound = both-empty sheet seeds (length values) (length turns) store (start .copied);
           shallow = sheet-shallow A itsSetting (ready .words) sheet (ready .accepted) starts;
         }
 
@@ -163,29 +197,20 @@ module _ (A : Arithmetic) where
         ≡ ranTo A sheet (lentOf A buffer values turns result) ending
     unfolding ranTo answerAt resultAt resultOf
     ends-as ended-as.Finished after buffer ends =
-        rw (ends .is, held-is (ends .held) (after .copied) (ended-copies _ (ends .is)) (ends .copies), ready .rolesAre)
+        rw (ends .is, ends .store, held-is (ends .memory .copied) (after .copied) (ended-copies _ (ends .is)) (ends .copies), ready .rolesAre)
     ends-as (ended-as.Stopped row) after buffer ends = rw (ends .is)
     ends-as ended-as.Stuck after buffer is = rw is
     ends-as ended-as.Unfinished after buffer (state, is) = rw is
 
     -- from each step of a call's run to what it comes to
-    pub comes-to : (buffer : List ℕ) {store cleared : List (A .Carrier)} {clearedTurns : List ℕ} (after : Cells A) {bodies toCome : List ℕ} (ran : Ran)
-        {answer : Reply} {valuesAfter : List (A .Carrier)} {turnsAfter : List ℕ} {left : List (A .Carrier)}
+    pub comes-to : (buffer : List ℕ) {store : List (A .Carrier)} (after : Cells A) {end : Ended} {answer : Reply} {left : List (A .Carrier)}
         → store ≡ overwritten starts before
-        → StacksCleared A values turns cleared clearedTurns
-        → RunsRows A table rows beyond roles constants seeds enoughSteps (cellsOf A store cleared clearedTurns copied) after bodies toCome ran
-        → length (after .values) ≡ length cleared
-        → length (after .turns) ≡ length clearedTurns
-        → StacksCleared A (after .values) (after .turns) valuesAfter turnsAfter
-        → left ≡ resultAt A (ran .ended) roles (after .copied) (after .store) result
-        → answer ≡ answerAt (ran .ended)
-        → RanTo A sheet buffer starts seeds values turns result answer valuesAfter turnsAfter left
+        → RunsTable A table rows beyond roles constants seeds (cellsOf A store values turns copied) after end
+        → left ≡ resultAt A end roles (after .copied) (after .store) result
+        → answer ≡ answerAt end
+        → RanTo A sheet buffer starts seeds values turns result answer (after .values) (after .turns) left
     unfolding lentAfter runOf startOf
-    comes-to buffer {store} {cleared} {clearedTurns} after {bodies} {toCome} ran laid empty runs kept keptTurns empty-again written answered =
-        let many = kept ∙ ap length (empty .valuesAre) ∙ length-replicate (length values) (A .zero) in
-        let manyTurns = keptTurns ∙ ap length (empty .turnsAre) ∙ length-replicate (length turns) 0 in
+    comes-to buffer after {end} laid runs written answered =
         let enough = accepted-steps-same A itsSetting (ready .words) sheet (ready .accepted) starts enoughSteps (omega arith) in
-        let leaves = runs itsSetting (linesOf (tableOf sheet)) start (handed (starts-laid laid) empty) in
-        let ends = subst (EndsLike A start after (ran .ended)) enough
-        (ends-like A itsSetting (linesOf (tableOf sheet)) start enoughSteps (cellsOf A store cleared clearedTurns copied) after bodies toCome ran leaves) in
-        rw (empty-again .valuesAre, empty-again .turnsAre, many, manyTurns, written, answered) (ends-as (ran .ended) after buffer ends)
+        let ends = subst (EndsLike A start after end) enough (runs .ends itsSetting (linesOf (tableOf sheet)) start (handed (starts-laid laid))) in
+        rw (runs .valuesCleared, runs .turnsCleared, written, answered) (ends-as end after buffer ends)

@@ -15,21 +15,15 @@ use Rattle.sheet.proofs.ReadingParts.{accepted}
 use Rattle.sets.specs.Marks.{marked, markBy, varied, useful, required}
 use Rattle.table.specs.TableRows.{Table, saveTurn, turnRound, onTurn, turning, ofTurningRound, linesOf}
 use Rattle.table.specs.Adjoint.{Body, put, forwardPart, backwardOf, backwardPart, adjointTable, tableOf}
-use Rattle.table.specs.Sizes.{mostForward, mostBackward}
+use Rattle.table.specs.Sizes.{mostBackward}
 use Rattle.table.proofs.TableBounds.{EachRow, backward-row, forward-row, marked-run}
 use Rattle.machine.specs.Actions.{Setting}
 use Rattle.machine.specs.Machine.{stepsOf, stateAfter}
 use Rattle.run.proofs.MachineFollows.{more-steps-same, steps-suffice}
 use Rattle.run.specs.Calls.{startOf, runOf}
+use Rattle.run.specs.inner.TableRuns.{mostStepsForward, mostStepsEach, enoughSteps}
 
 -- ---- steps
-
--- for each that W counts: forward an if block takes the "if", the save of its turn and its "else" or "end if", one more than any row has rows there
-abbrev mostStepsForward : ℕ
-mostStepsForward = 1 + mostForward
-
-abbrev mostStepsEach : ℕ
-mostStepsEach = mostStepsForward + mostBackward
 
 row-stepped : EachRow 1 stepsOf
 unfolding stepsOf
@@ -77,10 +71,6 @@ sheet-steps-within words sheet e =
     )
 
 -- ---- enough
-
--- for every accepted sheet: these for each that W counts, row 17, and the step that ends the run
-abbrev pub enoughSteps : ℕ
-enoughSteps = mostStepsEach * limit .longestRun + 2
 
 pub accepted-steps-same : (A : Arithmetic) (setting : Setting A) (words : List ℕ) (sheet : Sheet) → read words ≡ given sheet
     → (starts : List (A .Carrier)) (steps : ℕ) → enoughSteps ≤ steps

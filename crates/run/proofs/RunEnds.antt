@@ -7,33 +7,17 @@ use native.Mathlib.Omega.{arith}
 use Rattle.number.specs.Arithmetic.{Arithmetic}
 use Rattle.table.specs.TableRows.{TableLine}
 use Rattle.machine.specs.Actions.{Memory, Setting}
-use Rattle.machine.specs.Machine.{State, Step, goesOn, ended, sticks, step, ifItGoesOn, stateAfter}
+use Rattle.machine.specs.Machine.{State, Step, step, ifItGoesOn, stateAfter}
 use Rattle.machine.specs.inner.Buffers.{Cells, memoryOf}
-use Rattle.machine.specs.inner.RowSteps.{buffersAt, stateAt, CopiesOn, StopsAt}
+use Rattle.machine.specs.inner.RowSteps.{buffersAt, stateAt, CopiesOn}
 use Rattle.machine.specs.inner.RunsRows.{firstState, LeavesBy, Leaves}
 use Rattle.machine.specs.declared.Ran.{Ran}
 use Rattle.machine.specs.declared.Ended.{Ended}
 use Rattle.machine.specs.declared.Ended.the-variants as ended-as
 use Rattle.machine.proofs.StepsInTurn.{steps-add}
+use Rattle.run.specs.inner.TableRuns.{EndsLike}
 
 module _ (A : Arithmetic) where
-  -- the buffers hold the memory that the run ended with: the stacks up to some height, and the copies once row 17 has made them
-  pub record EndsFinished (start : Memory A) (after : Cells A) (ending : Step A) : Type 0 where
-    pub height : ℕ
-    pub turnHeight : ℕ
-    pub held : List (A .Carrier)
-    pub is : ending
-        ≡ ended
-        (memoryOf A
-        (record { store = after .store; values = after .values; height = height; turns = after .turns; turnHeight = turnHeight; copied = held }))
-    pub copies : (held ≡ start .copied) ⊎ (held ≡ after .copied)
-
-  abbrev pub EndsLike : (start : Memory A) → (after : Cells A) → Ended → Step A → Type 0
-  EndsLike start after ended-as.Finished ending = EndsFinished start after ending
-  EndsLike start after (ended-as.Stopped row) ending = StopsAt A (row .0) ending
-  EndsLike start after ended-as.Stuck ending = ending ≡ sticks
-  EndsLike start after ended-as.Unfinished ending = (state : State A) × (ending ≡ goesOn state)
-
   module _ (setting : Setting A) (lines : List TableLine) (start : Memory A) (steps : ℕ) (first after : Cells A) where
     abbrev ending : Step A
     ending = stateAfter A steps setting lines (firstState A start)
@@ -51,7 +35,7 @@ module _ (A : Arithmetic) where
     copies-somewhere held (inr is) = inr is
 
     pub ends-like : (bodies toCome : List ℕ) (answer : Ran) → Leaves A setting lines start steps first after bodies toCome answer
-        → EndsLike start after (answer .ended) ending
+        → EndsLike A start after (answer .ended) ending
     unfolding stateAfter
     ends-like bodies toCome answer leaves = by-end (answer .ended) (leaves .why)
       where
@@ -72,13 +56,12 @@ module _ (A : Arithmetic) where
 
         by-end : (how : Ended)
             → LeavesBy A (answer .place) (memoryOf A (buffersAt A (answer .place) after (leaves .stands .held))) (step A setting lines now) how
-            → EndsLike start after how ending
+            → EndsLike A start after how ending
         by-end ended-as.Finished (some-left, is) =
             record {
-              height = answer .place .values;
-              turnHeight = answer .place .turns;
-              held = leaves .stands .held;
+              memory = _;
               is = by-next _ some-left is .1;
+              store = refl;
               copies = copies-somewhere (leaves .stands .held) (leaves .stands .copies);
             }
         by-end (ended-as.Stopped row) (some-left, at, stop) =

@@ -8,7 +8,9 @@ ghost use Rattle.sheet.specs.Reading.{Sheet};
 ghost use Rattle.table.specs.TableRows.{tableVariables};
 ghost use Rattle.machine.specs.inner.RowsHanded.{Indexed};
 ghost use Rattle.run.specs.Calls.{run, lentOf, ranOf};
+ghost use Rattle.machine.specs.inner.Buffers.{cellsOf};
 ghost use Rattle.run.specs.inner.CallSteps.{ResultFits, resultAt};
+ghost use Rattle.run.specs.inner.TableRuns.{RunsTable};
 ghost use Rattle.run.specs.inner.CallAnswers.{StacksCleared, RunRoom, Ready, SheetRoom, TableInPlace, RanTo};
 use super::Judged;
 use super::Rooms;
@@ -43,7 +45,47 @@ fn write_result(end: Ended, roles: &[u16], copied: &[u32], store: &[u32], result
     }
 }
 
-// The run itself, between empty stacks, from the start values to the result, in a store of zeros and with room for the copies.
+// A table's run between empty stacks, from what its store holds: how it ended. What a run starts from and what its result is are the caller's.
+fn run_table(
+    roles: &[u16],
+    constants: &[u16],
+    table: &[u16],
+    rows: usize,
+    beyond: &[u16; MAX_TABLE_ROWS],
+    seeds: &[u32],
+    store: &mut [u32],
+    values: &mut [u32],
+    turns: &mut [u16],
+    copied: &mut [u32],
+) -> Ended
+    requires { ⌜ Indexed (now table) rows (length (now store)) (length (now constants)) ⌝ }
+    ensures { λ r. ⌜ RunsTable residues (now (table .entry)) rows (now (beyond .entry)) (now (roles .entry)) (now (constants .entry)) (now (seeds .entry))
+        (cellsOf residues (now (store .entry)) (now (values .entry)) (now (turns .entry)) (now (copied .entry)))
+        (cellsOf residues (now (store .exit)) (now (values .exit)) (now (turns .exit)) (now (copied .exit))) r ⌝ }
+{
+    clear_stacks(values, turns);
+    let mut bodies = [0usize; MAX_DEPTH];
+    let mut to_come = [0u16; MAX_DEPTH];
+    let ran = residue_rows::run_rows(
+        table,
+        rows,
+        beyond,
+        roles,
+        constants,
+        seeds,
+        store,
+        values,
+        turns,
+        copied,
+        &mut bodies,
+        &mut to_come,
+        buffers::STEPS,
+    );
+    clear_stacks(values, turns);
+    ran.ended
+}
+
+// The run of an adjoint table, from the start values to the result, in a store of zeros and with room for the copies.
 fn run_in(
     roles: &[u16],
     constants: &[u16],
@@ -65,26 +107,18 @@ fn run_in(
         r (now (values .exit)) (now (turns .exit)) (now (result .exit))) ⌝ }
 {
     buffers::copy_residues(starts, store);
-    clear_stacks(values, turns);
-    let mut bodies = [0usize; MAX_DEPTH];
-    let mut to_come = [0u16; MAX_DEPTH];
-    let ran = residue_rows::run_rows(
+    let end = run_table(
+        roles,
+        constants,
         table,
         rows,
         beyond,
-        roles,
-        constants,
         seeds,
         store,
         values,
         turns,
         copied,
-        &mut bodies,
-        &mut to_come,
-        buffers::STEPS,
     );
-    let end = ran.ended;
-    clear_stacks(values, turns);
     write_result(end, roles, copied, store, result);
     refusals::answer_end(end)
 }
