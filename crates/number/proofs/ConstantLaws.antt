@@ -1,22 +1,22 @@
 -- What a constant's word means: its whole number by the word's half, exactly at 0 and at the ends, and that number in both arithmetics.
 use Prim.Native.Nat.{ℕ, zero, suc, _+_, _-_, _<_, _≤_}
-use mathlib.Core.Path.{_≡_, refl}
+use mathlib.Core.Path.{_≡_, refl, subst}
 use mathlib.Core.Bool.{Bool, true, false}
 use native.Mathlib.Decide.{decLt}
 use native.Mathlib.Omega.{arith}
 use borrow.Author.Tests.{lt-ltb, le-ltb}
 use lib.Dec.{T}
-use lib.IntN.{ℤ, pos, negsuc, negℤ, natAbs, subℕ}
-use lib.Signed.{mag}
+use lib.IntN.{ℤ, pos, negsuc, negℤ, natAbs, subℕ, _+ℤ_}
+use lib.Signed.{mag, ltZ, nonNeg, pos-natAbs}
 use lib.Ieee.{Float, binary64, ofInt, toBits, fits}
 use lib.Ieee.Back.{round-whole, whole-unique}
 use lib.Ieee.Exact.{HasValue}
 use lib.Ieee.Fits.{ofInt-fits}
 use mir.Syntax.{w32}
 use mir.Val.{SFits}
-use Rattle.number.specs.Constants.{signed}
+use Rattle.number.specs.Arithmetic.{signed}
 use Rattle.number.specs.Doubles.{doubles}
-use Rattle.number.specs.Residues.{residues, residueOf, opposite}
+use Rattle.number.specs.Residues.{residues, residueOf, opposite, modulus}
 use Rattle.number.proofs.ResidueLaws.{residue-same}
 
 pub signed-low : (w : ℕ) → w < 32768 → signed w ≡ pos w
@@ -27,17 +27,10 @@ signed-high : (w : ℕ) → 32768 ≤ w → signed w ≡ negsuc (65535 - w)
 unfolding signed
 signed-high w h = rw (le-ltb w 32768 h)
 
--- ---- a word's number as a difference, which both the signed number and the double are made by
-
-pub low-difference : (k w : ℕ) → w < 32768 → subℕ (k + w) (k + 0) ≡ signed w
-low-difference k w h =
-    let same : k + w - (k + 0) ≡ w = omega arith in
-    rw (signed-low w h, le-ltb (k + w) (k + 0) (omega arith), same)
-
-pub high-difference : (k w : ℕ) → 32768 ≤ w → w < 65536 → subℕ (k + w) (k + 65536) ≡ signed w
-high-difference k w h below =
-    let same : k + 65536 - suc (k + w) ≡ 65535 - w = omega arith in
-    rw (signed-high w h, lt-ltb (k + w) (k + 65536) (omega arith), same)
+pub high-difference : (w : ℕ) → 32768 ≤ w → w < 65536 → subℕ w 65536 ≡ signed w
+high-difference w h below =
+    let same : 65536 - suc w ≡ 65535 - w = omega arith in
+    rw (signed-high w h, lt-ltb w 65536 below, same)
 
 -- ---- the range
 
@@ -46,7 +39,7 @@ signed-within w below (yes h) = rw (signed-low w h) h
 signed-within w below (no h) = rw (signed-high w (omega arith)) (omega arith)
 
 -- from −32768 to 32767
-signed-range : (w : ℕ) → w < 65536 → mag (signed w) < 32768
+pub signed-range : (w : ℕ) → w < 65536 → mag (signed w) < 32768
 signed-range w below = signed-within w below (decLt w 32768)
 
 negated-within : (z : ℤ) (n : ℕ) → mag z < n → mag (negℤ z) ≤ n
@@ -54,8 +47,27 @@ negated-within (pos zero) n h = omega arith
 negated-within (pos (suc k)) n h = omega arith
 negated-within (negsuc k) n h = h
 
+-- raised by h it is natural
+pub raised-natural : (z : ℤ) (h : ℕ) → mag z < h → T (nonNeg (z +ℤ pos h)) × (natAbs (z +ℤ pos h) < h + h)
+raised-natural (pos n) h less = (tt, omega arith)
+raised-natural (negsuc n) h less = rw (le-ltb h (suc n) less) (tt, omega arith)
+
+-- and the difference takes h off again
+pub raised-difference : (k : ℕ) (z : ℤ) (h : ℕ) → mag z < h → subℕ (k + natAbs (z +ℤ pos h)) (k + h) ≡ z
+raised-difference k (pos n) h less =
+    let same : k + (n + h) - (k + h) ≡ n = omega arith in
+    rw (le-ltb (k + (n + h)) (k + h) (omega arith), same)
+raised-difference k (negsuc n) h less =
+    let same : k + h - suc (k + (h - suc n)) ≡ n = omega arith in
+    rw (le-ltb h (suc n) less, lt-ltb (k + (h - suc n)) (k + h) (omega arith), same)
+
 pub signed-fits : (w : ℕ) → w < 65536 → SFits w32 (signed w)
 signed-fits w below = record { sfits = omega (arith, signed-range w below) }
+
+pub raised-fits : (w : ℕ) → w < 65536 → SFits w32 (signed w +ℤ pos 32768)
+raised-fits w below =
+    let natural = raised-natural (signed w) 32768 (signed-range w below) in
+    subst (SFits w32) (pos-natAbs (signed w +ℤ pos 32768) (natural .0)) (record { sfits = omega (arith, natural .1) })
 
 pub negated-fits : (w : ℕ) → w < 65536 → SFits w32 (negℤ (signed w))
 negated-fits w below = record { sfits = omega (arith, negated-within (signed w) 32768 (signed-range w below)) }
@@ -80,15 +92,20 @@ negated-meanings = (refl, refl, refl, refl, refl)
 
 -- ---- in residues
 
-pub residue-low : (w : ℕ) → w < 32768 → residues .constant (signed w) ≡ w
-unfolding residueOf
-residue-low w h = rw (signed-low w h) (residue-same w (omega arith))
+pub negative-natural : (z : ℤ) → ltZ z (pos 0) ≡ true → T (nonNeg (negℤ z))
+negative-natural (pos n) below = let z : _≡_ {A = ℕ} 0 1 = cc (le-ltb n 0 (omega arith)) in absurd (omega arith)
+negative-natural (negsuc n) below = tt
 
-pub residue-high : (w : ℕ) → 32768 ≤ w → w < 65536 → residues .constant (signed w) ≡ opposite (65536 - w)
+-- a negative number is the opposite of its negation
+pub residue-negative : (z : ℤ) → ltZ z (pos 0) ≡ true → residueOf z ≡ opposite (natAbs (negℤ z))
 unfolding residueOf
-residue-high w h below =
-    let same : suc (65535 - w) ≡ 65536 - w = omega arith in
-    rw (signed-high w h, same)
+residue-negative (pos n) below = let z : _≡_ {A = ℕ} 0 1 = cc (le-ltb n 0 (omega arith)) in absurd (omega arith)
+residue-negative (negsuc n) below = refl
+
+pub residue-natural : (z : ℤ) → ltZ z (pos 0) ≡ false → mag z < modulus → residueOf z ≡ natAbs z
+unfolding residueOf
+residue-natural (pos n) from less = residue-same n less
+residue-natural (negsuc n) from less = let z : _≡_ {A = ℕ} 0 1 = cc in absurd (omega arith)
 
 pub residue-of-minus-one : residues .constant (signed 65535) ≡ 4294967295
 unfolding signed residueOf

@@ -1,6 +1,8 @@
 -- What the row machine and the claims know of an arithmetic: one record, of which doubles and residues are the instances.
-use mathlib.Core.Bool.{Bool}
-use lib.IntN.{ℤ}
+use mathlib.Core.Bool.{Bool, cond}
+use lib.IntN.{ℤ, pos, negsuc}
+use Prim.Native.Nat.{ℕ, _-_}
+use lib.Dec.{ltb}
 
 -- "A result is either a finite double or a stop". Why says for what reason.
 pub data Outcome (Value Why : Type 0) : Type 0 where
@@ -21,3 +23,7 @@ pub record Arithmetic : Type 1 where
   pub zero : Carrier
   -- "Start values and seeds must be finite"
   pub admits : Carrier → Bool
+
+-- "each a two's complement whole number, so constants run from −32768 to 32767"; `negsuc n` is −1 − n
+unfoldable pub signed : ℕ → ℤ
+signed word = cond (ltb word 32768) (pos word) (negsuc (65535 - word))

@@ -3,7 +3,7 @@ ghost use mathlib.Core.Path.{_≡_};
 ghost use Prim.Native.Nat.{_+_, _^_};
 ghost use lib.IntN.{pos, negℤ};
 ghost use lib.Ieee.{ofInt, binary64};
-ghost use Rattle.number.specs.Constants.{signed};
+ghost use Rattle.number.specs.Arithmetic.{signed};
 ghost use Rattle.number.specs.Doubles.{doubles};
 ghost use Rattle.number.specs.Residues.{residues};
 use super::residue;
@@ -13,7 +13,7 @@ const FIRST_NEGATIVE: u16 = 32768;
 const WORDS: u32 = 65536;
 
 // "each a two's complement whole number, so constants run from −32768 to 32767"
-pub fn signed(word: u16) -> i32
+fn signed(word: u16) -> i32
     ensures { λ r. ⌜ r ≡ signed word ⌝ }
 {
     let number = word as i32;
@@ -25,7 +25,7 @@ pub fn signed(word: u16) -> i32
 }
 
 // −(−32768) is 32768, which no word stands for.
-pub fn negated(word: u16) -> i32
+fn negated(word: u16) -> i32
     ensures { λ r. ⌜ r ≡ negℤ (signed word) ⌝ }
 {
     -signed(word)
@@ -40,25 +40,25 @@ fn above_two_to_52(n: u32) -> f64
     f64::from_bits(TWO_TO_52_BITS + n as u64)
 }
 
-// One difference, rounded once, takes 2^52 off again, or 2^52 + 65536: the double of exactly the word's number, +0 for word 0.
+const RAISED_BY: u32 = 32768;
+
+// Raised by 32768 every number is natural; one difference, rounded once, takes 2^52 + 32768 off again: the double of exactly the word's number, +0 for word 0.
 pub fn double_of(word: u16) -> f64
     ensures { λ r. ⌜ r ≡ doubles .constant (signed word) ⌝ }
 {
-    let raised = above_two_to_52(word as u32);
-    if word < FIRST_NEGATIVE {
-        raised - above_two_to_52(0)
-    } else {
-        raised - above_two_to_52(WORDS)
-    }
+    let number = signed(word);
+    let raised = number + RAISED_BY as i32;
+    above_two_to_52(raised as u32) - above_two_to_52(RAISED_BY)
 }
 
 // The residue of −1 is 4294967295.
 pub fn residue_of(word: u16) -> u32
     ensures { λ r. ⌜ r ≡ residues .constant (signed word) ⌝ }
 {
-    if word < FIRST_NEGATIVE {
-        word as u32
+    let number = signed(word);
+    if number < 0 {
+        residue::negation(negated(word) as u32)
     } else {
-        residue::negation(WORDS - word as u32)
+        number as u32
     }
 }

@@ -6,7 +6,7 @@ use lib.IntN.{pos, negℤ, _-ℤ_, +ℤ-idl}
 use mir.Syntax.{w32}
 use mir.Val.{toZ, ofZ}
 use mir.ValLaws.{toZ-ofZ}
-use Rattle.number.specs.Constants.{signed}
+use Rattle.number.specs.Arithmetic.{signed}
 use Rattle.number.proofs.ConstantLaws.{signed-fits, negated-fits}
 use Rattle.number.proofs.constant.negated.Statement.{statement}
 use Rattle.number.proofs.constant.negated.Tie as tie

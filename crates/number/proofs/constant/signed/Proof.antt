@@ -1,13 +1,12 @@
 -- `number::constant::signed` meets its contract: below 32768 the word itself, from there on the word less 65536.
 use mathlib.Core.Path.{_≡_, sym, ap, _∙_}
-use native.Mathlib.Nat.{zero-add}
 use native.Mathlib.Omega.{arith}
 use borrow.Author.Needs.{needs}
 use lib.IntN.{pos, _-ℤ_}
 use mir.Syntax.{w32}
 use mir.Val.{toZ}
 use mir.ValLaws.{toZ-pos, toZ-ofZ}
-use Rattle.number.specs.Constants.{signed}
+use Rattle.number.specs.Arithmetic.{signed}
 use Rattle.number.proofs.ConstantLaws.{signed-low, signed-fits, high-difference}
 use Rattle.number.proofs.constant.signed.Statement.{statement}
 use Rattle.number.proofs.constant.signed.Tie as tie
@@ -22,7 +21,7 @@ difference : (c : tie.Else1) → toZ w32 (c .before .args .word) -ℤ pos 65536 
 difference c =
     let w = c .before .args .word in
     ap (λ z. z -ℤ pos 65536) (toZ-pos w32 w (omega arith))
-    ∙ (rw (zero-add (c .before .args .word)) at (high-difference 0 w (c .if1 .left) (omega arith)))
+    ∙ high-difference w (c .if1 .left) (omega arith)
 
 sub-result : tie.Need-sub-result
 sub-result c = rw (difference c) (signed-fits (c .before .args .word) (omega arith))
