@@ -6,7 +6,8 @@ use lib.ListN.{length, getD}
 use borrow.Author.Tests.{lt-ltb, le-ltb, le-leb, lt-leb}
 use native.Mathlib.Omega.{arith}
 use native.Mathlib.Numerals.{add-one}
-use Rattle.sheet.specs.Refusals.{refused, given, wordsEnd, countBeyond}
+use Rattle.sheet.specs.Judging.{refused, given}
+use Rattle.sheet.specs.Refusals.{wordsEnd, countBeyond}
 use Rattle.sheet.specs.Reading.{countAt}
 
 module _ (words : List ℕ) (place low high width : ℕ) where

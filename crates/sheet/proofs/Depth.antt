@@ -5,11 +5,12 @@ use mathlib.Core.List.{List, [], _∷_}
 use lib.ListN.{length}
 use native.Mathlib.Omega.{arith}
 use Rattle.sheet.specs.Bounds.{limit}
-use Rattle.sheet.specs.Refusals.{given}
+use Rattle.sheet.specs.Judging.{given}
 use Rattle.sheet.specs.Tree.{Tree, done, one, fork, again}
 use Rattle.sheet.specs.Rows.{Assignment, Test, SheetLine, Row}
 use Rattle.sheet.specs.Reading.{Item, row, branches, repeated, Block, inFirst, inSecond, inRepeat, closed, RowsTaken}
-use Rattle.sheet.specs.Reading.{Sheet, lineOf, taken, bodyOf, read}
+use Rattle.sheet.specs.Sheets.{Sheet}
+use Rattle.sheet.specs.Reading.{lineOf, taken, bodyOf, read}
 use Rattle.sheet.proofs.ReadingParts.{not-given, bound, same-given, accepted}
 use Rattle.sheet.proofs.LinesTaken.{Takes, adds, opensIf, splits, endsIf, opensRepeat, endsRepeat, takes}
 

@@ -6,8 +6,8 @@ use mathlib.Core.Logic.{_↔_, _⊎_, inl, inr}
 use lib.Dec.{leb, ltb, eqb}
 use borrow.Author.Tests.{leb-true, le-leb, ltb-true, lt-ltb, eqb-true, eq-eqb}
 use native.Mathlib.Omega.{arith}
-use Rattle.sheet.specs.Refusals.{Refusal, Answer, refused, given, _>>=_}
-use Rattle.sheet.specs.Reading.{unless}
+use Rattle.sheet.specs.Judging.{Answer, refused, given, _>>=_, unless}
+use Rattle.sheet.specs.Refusals.{Refusal}
 
 -- ---- tests
 

@@ -8,10 +8,10 @@ use lib.Seq.{getD-set-same, getD-set-other}
 use lib.Dec.{ltb}
 use native.Mathlib.Omega.{arith}
 use Rattle.sheet.specs.Bounds.{limit}
-use Rattle.sheet.specs.Refusals.{Answer, refused, given, badBlock}
-use Rattle.sheet.specs.Tree.{Tree, done, one, fork, again, basic, ifLine, elseLine, endIf, repeat, endRepeat}
+use Rattle.sheet.specs.Judging.{Answer, refused, given}
+use Rattle.sheet.specs.Refusals.{badBlock}
+use Rattle.sheet.specs.Tree.{Tree, done, one, fork, again, basic, ifLine, elseLine, endIf, repeat, endRepeat, longestRun}
 use Rattle.sheet.specs.Rows.{Assignment, Test, SheetLine}
-use Rattle.sheet.specs.LongestRun.{longestRun}
 use Rattle.sheet.specs.Reading.{Item, row, branches, repeated, Block, inFirst, inSecond, inRepeat, closed, RowsTaken}
 use Rattle.sheet.specs.Reading.{entered, splitAt, ifEndedAt, repeatEndedAt, taken}
 use Rattle.sheet.specs.inner.Kinds.{partOf}

@@ -22,5 +22,8 @@ pub mod RowsFollowed
 pub mod ShapeRead
 -- what the layers above cite
 pub mod LinesByPart
+pub mod RowsByKind
+pub mod RowsByNumber
 pub mod TreeInWords
 pub mod ReaderLaws
+pub mod RowsSmall

@@ -3,6 +3,7 @@ use mathlib.Core.Path.{_≡_, refl, ap, _∙_, sym}
 use Rattle.sheet.specs.Tree.{basic, ifLine, elseLine, endIf, repeat, endRepeat}
 use Rattle.sheet.specs.Rows.{_≔_, copy, fixed, sum, difference, product, negation, less, SheetLine, Row, sheetRowOf}
 use Rattle.sheet.specs.inner.Kinds.{partOf, formFor, partFor}
+use Rattle.sheet.specs.inner.RowLines.{lineOfRow, SaysLine}
 
 pub line-part : (l : SheetLine) → partFor (sheetRowOf l .kind) ≡ partOf l
 unfolding sheetRowOf formFor
@@ -18,5 +19,5 @@ line-part endIf = refl
 line-part (repeat m) = refl
 line-part endRepeat = refl
 
-pub row-part : (l : SheetLine) (row : Row) → sheetRowOf l ≡ row → partOf l ≡ partFor (row .kind)
-row-part l row e = sym (line-part l) ∙ ap (λ r. partFor (r .kind)) e
+pub row-part : {r : Row} → SaysLine r → partOf (lineOfRow r) ≡ partFor (r .kind)
+row-part {r} says = sym (line-part (lineOfRow r)) ∙ ap (λ x. partFor (x .kind)) (says .back)

@@ -5,10 +5,11 @@ use mathlib.Core.List.{List, [], _∷_}
 use lib.ListN.{length}
 use lib.Dec.{ltb}
 use Rattle.sheet.specs.Bounds.{limit}
-use Rattle.sheet.specs.Refusals.{given, badBlock}
+use Rattle.sheet.specs.Judging.{given, unless}
+use Rattle.sheet.specs.Refusals.{badBlock}
 use Rattle.sheet.specs.Tree.{Tree, done, basic, ifLine, elseLine, endIf, repeat, endRepeat}
 use Rattle.sheet.specs.Rows.{Assignment, Test, SheetLine}
-use Rattle.sheet.specs.Reading.{unless, Item, row, branches, repeated, Block, inFirst, inSecond, inRepeat, closed, RowsTaken}
+use Rattle.sheet.specs.Reading.{Item, row, branches, repeated, Block, inFirst, inSecond, inRepeat, closed, RowsTaken}
 use Rattle.sheet.specs.Reading.{entered, splitAt, ifEndedAt, repeatEndedAt, taken}
 use Rattle.sheet.proofs.Judgements.{ltb-tells}
 use Rattle.sheet.proofs.ReadingParts.{bound, passed, same-given, not-given}

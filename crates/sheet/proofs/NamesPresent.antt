@@ -9,12 +9,13 @@ use lib.ListN.{length, getD, take, drop, length-take, length-drop}
 use lib.Dec.{leb, ltb}
 use native.Mathlib.Omega.{arith}
 use Rattle.sheet.specs.Bounds.{limit}
-use Rattle.sheet.specs.Refusals.{given, wordsEnd, countBeyond, badRow}
+use Rattle.sheet.specs.Judging.{given, unless}
+use Rattle.sheet.specs.Refusals.{wordsEnd, countBeyond, badRow}
 use Rattle.sheet.specs.Tree.{Tree, done, one, fork, again, basic, ifLine, elseLine, endIf, repeat, endRepeat}
-use Rattle.sheet.specs.Rows.{Assignment, Test, SheetLine, Row, variable, constant, fits, Kind, kindOf, wordsFit}
+use Rattle.sheet.specs.Reading.{fits, wordsFit, countAt, lineBy, lineOf, taken, bodyOf, read, Item, row, branches, repeated, Block, inFirst, inSecond, inRepeat, closed, RowsTaken}
+use Rattle.sheet.specs.Rows.{Assignment, Test, SheetLine, Row, variable, constant, Kind, kindOf}
 use Rattle.sheet.specs.Names.{SourcePresent, AssignmentPresent, TestPresent, Present}
-use Rattle.sheet.specs.Reading.{Sheet, unless, countAt, lineBy, lineOf, taken, bodyOf, read}
-use Rattle.sheet.specs.Reading.{Item, row, branches, repeated, Block, inFirst, inSecond, inRepeat, closed, RowsTaken}
+use Rattle.sheet.specs.Sheets.{Sheet}
 use Rattle.sheet.proofs.Judgements.{leb-tells, ltb-tells}
 use Rattle.sheet.proofs.EachKind.{each-kind, _then_, end}
 use Rattle.sheet.proofs.ReadingParts.{not-given, bound, passed, same-given, Accepted, accepted}

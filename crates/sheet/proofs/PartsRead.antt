@@ -11,10 +11,11 @@ use native.Mathlib.Omega.{arith}
 use native.Mathlib.Decide.{decLe}
 use borrow.Author.Tests.{le-leb, lt-leb, lt-ltb, le-ltb, ne-eqb}
 use Rattle.sheet.specs.Bounds.{limit}
-use Rattle.sheet.specs.Refusals.{Answer, refused, given, badRow}
+use Rattle.sheet.specs.Judging.{Answer, refused, given}
+use Rattle.sheet.specs.Refusals.{badRow}
 use Rattle.sheet.specs.Tree.{basic, ifLine, elseLine, endIf, repeat, endRepeat}
-use Rattle.sheet.specs.Rows.{Slot, variable, constant, turns, unused, SheetLine, Row, fits, Kind, kinds, kindOf, wordsFit}
-use Rattle.sheet.specs.Reading.{lineBy, lineOf}
+use Rattle.sheet.specs.Reading.{fits, wordsFit, lineBy, lineOf}
+use Rattle.sheet.specs.Rows.{Slot, variable, constant, turns, unused, SheetLine, Row, Kind, kinds, kindOf}
 use Rattle.sheet.specs.inner.Kinds.{slotOf, partOf, formOf, formBy, formFor, noForm, allForms, partFor}
 use Rattle.sheet.specs.inner.Steps.{leastOf, beyondOf, ruleOf, noRule, ruleBy, RulesFor, inRange, fitsRule, fitsKind, rowFits, stepOf}
 use Rattle.sheet.specs.declared.kinds.Form.{Form}
@@ -133,13 +134,13 @@ module _ (v k : ℕ) where
       unfolding rowFits
       fits-by-rule = rw (made kind within, is) (rule-fits (r .kind))
 
-      pub part-by-rule : rowFits v k r ≡ true → getD rules kind noRule .part ≡ partFor (r .kind)
-      unfolding rowFits formFor
-      part-by-rule e = rw (made kind within, is) (by (kindOf (r .kind)) e)
+      pub part-by-rule : getD rules kind noRule .part ≡ partFor (r .kind)
+      unfolding formFor
+      part-by-rule = rw (made kind within, is) (by (kindOf (r .kind)))
         where
-          by : (o : Option Kind) → fitsKind v k o r ≡ true → ruleBy v k o .part ≡ formBy o .3
-          by none e = refl
-          by (some kind) e = refl
+          by : (o : Option Kind) → ruleBy v k o .part ≡ formBy o .3
+          by none = refl
+          by (some kind) = refl
 
 -- the rules as far as they are made
 pub record Made (v k : ℕ) (rules : List Rule) (kind : ℕ) : Type 0 where

@@ -7,21 +7,22 @@ use mathlib.Core.Option.{Option, none, some}
 use lib.ListN.{length, length-map}
 use native.Mathlib.Omega.{arith}
 use Rattle.sheet.specs.Bounds.{limit}
-use Rattle.sheet.specs.Refusals.{Refusal, Answer, refused, given, _>>=_}
+use Rattle.sheet.specs.Judging.{Answer, refused, given, _>>=_}
+use Rattle.sheet.specs.Refusals.{Refusal}
 use Rattle.sheet.specs.Refusals.{wordsEnd, wordsLeft, countBeyond, roleAbove, badRow, badBlock, tooLong, smallTable}
 use Rattle.sheet.specs.Refusals.{smallValueStack, smallTurnStack, wrongStarts, wrongSeeds, wrongResult, notFiniteGiven, notFiniteResult}
-use Rattle.sheet.specs.Tree.{flat, rows}
+use Rattle.sheet.specs.Tree.{flat, rows, longestRun}
 use Rattle.sheet.specs.Rows.{sheetRowOf, treeRows}
-use Rattle.sheet.specs.LongestRun.{longestRun}
 use Rattle.sheet.specs.Names.{Present}
-use Rattle.sheet.specs.Reading.{Sheet, read}
+use Rattle.sheet.specs.Sheets.{Sheet}
+use Rattle.sheet.specs.Reading.{read}
 use Rattle.sheet.specs.Answers.{refusalOf, said, shapeOf, shapeRead}
 use Rattle.sheet.specs.declared.No.{No}
 use Rattle.sheet.specs.declared.No.the-variants.{WordsEnd, WordsLeft, CountBeyond, RoleAbove, BadRow, BadBlock, TooLong}
 use Rattle.sheet.specs.declared.Shape.{Shape}
 use Rattle.sheet.specs.declared.Reading.{Reading}
 use Rattle.sheet.specs.declared.Reading.the-variants as reading
-use Rattle.sheet.proofs.ReadingParts.{bound, same-given, Accepted, accepted}
+use Rattle.sheet.proofs.ReadingParts.{bound, same-given, accepted}
 use Rattle.sheet.proofs.NamesPresent.{count-judged, counts, names-present}
 use Rattle.sheet.proofs.RowsCounted.{lines-counted, rows-counted}
 use Rattle.sheet.proofs.TreeOfRows.{tree-of-rows}

@@ -7,9 +7,11 @@ use lib.ListN.{length, take, drop}
 use lib.Dec.{leb}
 use native.Mathlib.Omega.{arith}
 use Rattle.sheet.specs.Bounds.{limit}
-use Rattle.sheet.specs.Refusals.{Refusal, Answer, refused, given, _>>=_, wordsLeft, tooLong}
-use Rattle.sheet.specs.LongestRun.{longestRun}
-use Rattle.sheet.specs.Reading.{Sheet, unless, countAt, rolesFit, rowsAt, bodyOf, read}
+use Rattle.sheet.specs.Judging.{Answer, refused, given, _>>=_, unless}
+use Rattle.sheet.specs.Refusals.{Refusal, wordsLeft, tooLong}
+use Rattle.sheet.specs.Tree.{longestRun}
+use Rattle.sheet.specs.Sheets.{Sheet, rowsAt}
+use Rattle.sheet.specs.Reading.{countAt, rolesFit, bodyOf, read}
 use Rattle.sheet.proofs.Judgements.{leb-tells}
 
 -- ---- judgements in turn

@@ -5,7 +5,8 @@ use mathlib.Core.List.{List, [], _∷_}
 use mathlib.Core.Option.{Option, none, some}
 use lib.ListN.{getElem?}
 use native.Mathlib.Omega.{arith}
-use Rattle.sheet.specs.Refusals.{Refusal, Answer, refused, given, numberOf, placeOf, numberIn, placeIn}
+use Rattle.sheet.specs.Judging.{Answer, refused, given, numberIn, placeIn}
+use Rattle.sheet.specs.Refusals.{Refusal, numberOf, placeOf}
 use Rattle.sheet.specs.Refusals.{wordsEnd, wordsLeft, countBeyond, roleAbove, badRow, badBlock, tooLong, smallTable}
 use Rattle.sheet.specs.Refusals.{smallValueStack, smallTurnStack, wrongStarts, wrongSeeds, wrongResult, notFiniteGiven, notFiniteResult}
 

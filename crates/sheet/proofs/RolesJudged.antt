@@ -8,7 +8,8 @@ use borrow.Author.Tests.{le-leb, lt-leb}
 use native.Mathlib.Omega.{arith}
 use native.Mathlib.Numerals.{add-one, sub-one}
 use Rattle.sheet.specs.Bounds.{limit}
-use Rattle.sheet.specs.Refusals.{refused, given, roleAbove}
+use Rattle.sheet.specs.Judging.{refused, given}
+use Rattle.sheet.specs.Refusals.{roleAbove}
 use Rattle.sheet.specs.Reading.{rolesFit}
 
 pub no-role : (words : List ℕ) (place left : ℕ) → left ≤ 0 → rolesFit (take left (drop place words)) place ≡ given tt

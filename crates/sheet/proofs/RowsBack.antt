@@ -9,7 +9,8 @@ use native.Mathlib.Omega.{arith}
 use Rattle.sheet.specs.Tree.{basic, ifLine, elseLine, endIf, repeat, endRepeat}
 use Rattle.sheet.specs.Rows.{_≔_, copy, fixed, sum, difference, product, negation, less, SheetLine, sheetRowOf}
 use Rattle.sheet.specs.inner.RowLines.{lineOfRow}
-use Rattle.sheet.specs.Rows.{Row, turns, unused, fits, Kind, kindOf, wordsFit}
+use Rattle.sheet.specs.Reading.{fits, wordsFit}
+use Rattle.sheet.specs.Rows.{Row, turns, unused, Kind, kindOf}
 use Rattle.sheet.proofs.Judgements.{leb-tells, eqb-tells}
 use Rattle.sheet.proofs.EachKind.{each-kind, _then_, end}
 

@@ -6,7 +6,7 @@ use lib.ListN.{length}
 use native.Mathlib.Omega.{arith}
 use Rattle.sheet.specs.Bounds.{limit}
 use Rattle.sheet.specs.Tree.{Tree, done, one, fork, again, Line, elseLine, endIf, endRepeat, flat, rows}
-use Rattle.sheet.specs.Reading.{rowsAt}
+use Rattle.sheet.specs.Sheets.{rowsAt}
 
 module _ {B F : Type 0} where
   pub flat-length : (t : Tree B F) (rest : List (Line B F)) → length (flat t rest) ≡ rows t + length rest

@@ -9,10 +9,12 @@ use native.Mathlib.Decide.{decLe}
 use native.Mathlib.Omega.{arith}
 use native.Mathlib.Numerals.{add-one, sub-one}
 use Rattle.sheet.specs.Bounds.{limit}
-use Rattle.sheet.specs.Refusals.{Refusal, Answer, refused, given, _>>=_, badRow, badBlock}
+use Rattle.sheet.specs.Judging.{Answer, refused, given, _>>=_}
+use Rattle.sheet.specs.Refusals.{Refusal, badRow, badBlock}
 use Rattle.sheet.specs.Rows.{SheetLine, Row}
-use Rattle.sheet.specs.LongestRun.{longestRun}
-use Rattle.sheet.specs.Reading.{Item, Block, RowsTaken, closed, rowAt, rowsAt, lineOf, taken, bodyOf}
+use Rattle.sheet.specs.Tree.{longestRun}
+use Rattle.sheet.specs.Sheets.{rowAt, rowsAt}
+use Rattle.sheet.specs.Reading.{Item, Block, RowsTaken, closed, lineOf, taken, bodyOf}
 use Rattle.sheet.specs.inner.Kinds.{partOf, partFor}
 use Rattle.sheet.specs.inner.Steps.{rowFits, saturated, stepOf, bodySaid, afterRowsOf, bodyRun}
 use Rattle.sheet.specs.declared.Level.{Level}

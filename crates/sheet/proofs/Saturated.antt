@@ -4,7 +4,8 @@ use mathlib.Core.Path.{_≡_}
 use native.Mathlib.Decide.{decLe}
 use native.Mathlib.Omega.{arith}
 use native.Mathlib.Nat.{mul-le-mul, suc-mul, min-eq-left, min-eq-right}
-use Rattle.sheet.specs.Bounds.{limit, wordValues}
+use Rattle.sheet.specs.inner.Words.{wordValues}
+use Rattle.sheet.specs.Bounds.{limit}
 use Rattle.sheet.specs.inner.Steps.{saturated}
 
 -- two words multiplied stay far below 2^64

@@ -4,7 +4,8 @@ use Prim.Native.Nat.{ℕ, _≤_}
 use mathlib.Core.Path.{_≡_, subst}
 use mathlib.Core.Logic.{_↔_, _⊎_, inl, inr}
 use native.Mathlib.Omega.{arith}
-use Rattle.sheet.specs.Refusals.{Refusal, Answer, refused, given, numberOf, placeOf, numberIn, placeIn}
+use Rattle.sheet.specs.Judging.{Answer, refused, given, numberIn, placeIn}
+use Rattle.sheet.specs.Refusals.{Refusal, numberOf, placeOf}
 use Rattle.sheet.proofs.RefusalsApart.{refused-named, done-given}
 
 pub record Settled {A : Type 0} (answer : Answer A) (Rule : Refusal → Type 0) (Is : A → Type 0) : Type 0 where

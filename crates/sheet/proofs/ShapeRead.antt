@@ -7,11 +7,12 @@ use borrow.Author.Tests.{le-leb, lt-leb}
 use native.Mathlib.Decide.{decLe}
 use native.Mathlib.Omega.{arith}
 use Rattle.sheet.specs.Bounds.{limit}
-use Rattle.sheet.specs.Refusals.{Refusal, Answer, refused, given, _>>=_, wordsLeft, tooLong}
-use Rattle.sheet.specs.Tree.{Tree}
+use Rattle.sheet.specs.Judging.{Answer, refused, given, _>>=_}
+use Rattle.sheet.specs.Refusals.{Refusal, wordsLeft, tooLong}
+use Rattle.sheet.specs.Tree.{Tree, longestRun}
 use Rattle.sheet.specs.Rows.{Assignment, Test}
-use Rattle.sheet.specs.LongestRun.{longestRun}
-use Rattle.sheet.specs.Reading.{countAt, rolesFit, rowsAt, bodyOf, read}
+use Rattle.sheet.specs.Sheets.{rowsAt}
+use Rattle.sheet.specs.Reading.{countAt, rolesFit, bodyOf, read}
 use Rattle.sheet.specs.Answers.{said, shapeOf, shapeRead}
 use Rattle.sheet.specs.inner.Steps.{CountsJudged, saturated, bodyRun, finishOf}
 use Rattle.sheet.specs.declared.Counts.{Counts}

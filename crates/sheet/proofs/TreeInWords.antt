@@ -5,10 +5,11 @@ use mathlib.Core.List.{List, [], map}
 use lib.ListN.{length, length-map}
 use native.Mathlib.Omega.{arith}
 use Rattle.sheet.specs.Bounds.{limit}
-use Rattle.sheet.specs.Refusals.{given}
+use Rattle.sheet.specs.Judging.{given}
 use Rattle.sheet.specs.Tree.{flat}
 use Rattle.sheet.specs.Rows.{SheetLine, sheetRowOf, treeRows}
-use Rattle.sheet.specs.Reading.{Sheet, rowsAt, read}
+use Rattle.sheet.specs.Sheets.{Sheet, rowsAt}
+use Rattle.sheet.specs.Reading.{read}
 use Rattle.sheet.proofs.ReadingParts.{accepted}
 use Rattle.sheet.proofs.TreeOfRows.{tree-of-rows}
 use Rattle.sheet.proofs.NamesPresent.{count-judged, counts}

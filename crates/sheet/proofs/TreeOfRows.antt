@@ -4,11 +4,12 @@ use mathlib.Core.Path.{_≡_, refl, sym, ap, _∙_}
 use mathlib.Core.List.{List, [], _∷_, map}
 use mathlib.Core.Option.{Option, none, some}
 use Rattle.sheet.specs.Bounds.{limit}
-use Rattle.sheet.specs.Refusals.{given, badRow}
+use Rattle.sheet.specs.Judging.{given, unless}
+use Rattle.sheet.specs.Refusals.{badRow}
 use Rattle.sheet.specs.Tree.{Tree, done, one, fork, again, basic, ifLine, elseLine, endIf, repeat, endRepeat, flat}
-use Rattle.sheet.specs.Rows.{Assignment, Test, SheetLine, Row, Kind, kindOf, wordsFit, sheetRowOf, treeRows}
-use Rattle.sheet.specs.Reading.{Sheet, unless, lineBy, lineOf, taken, bodyOf, read}
-use Rattle.sheet.specs.Reading.{Item, row, branches, repeated, Block, inFirst, inSecond, inRepeat, closed, RowsTaken}
+use Rattle.sheet.specs.Reading.{wordsFit, lineBy, lineOf, taken, bodyOf, read, Item, row, branches, repeated, Block, inFirst, inSecond, inRepeat, closed, RowsTaken}
+use Rattle.sheet.specs.Rows.{Assignment, Test, SheetLine, Row, Kind, kindOf, sheetRowOf, treeRows}
+use Rattle.sheet.specs.Sheets.{Sheet}
 use Rattle.sheet.proofs.ReadingParts.{not-given, bound, passed, same-given, accepted}
 use Rattle.sheet.proofs.LinesTaken.{Takes, adds, opensIf, splits, endsIf, opensRepeat, endsRepeat, takes}
 use Rattle.sheet.proofs.TreeOnly.{only-tree}

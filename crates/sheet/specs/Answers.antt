@@ -2,10 +2,12 @@
 use Prim.Native.Nat.{ℕ, _+_}
 use mathlib.Core.List.{List}
 use lib.ListN.{length}
-use Rattle.sheet.specs.Refusals.{Refusal, Answer, refused, given, _>>=_, wordsEnd, wordsLeft, countBeyond, roleAbove, badRow, badBlock, tooLong}
+use Rattle.sheet.specs.Judging.{Answer, refused, given, _>>=_}
+use Rattle.sheet.specs.Refusals.{Refusal, wordsEnd, wordsLeft, countBeyond, roleAbove, badRow, badBlock, tooLong}
 use Rattle.sheet.specs.Rows.{Row}
-use Rattle.sheet.specs.LongestRun.{longestRun}
-use Rattle.sheet.specs.Reading.{Sheet, read}
+use Rattle.sheet.specs.Tree.{longestRun}
+use Rattle.sheet.specs.Sheets.{Sheet}
+use Rattle.sheet.specs.Reading.{read}
 use Rattle.sheet.specs.declared.No.{No}
 use Rattle.sheet.specs.declared.No.the-variants.{WordsEnd, WordsLeft, CountBeyond, RoleAbove, BadRow, BadBlock, TooLong}
 use Rattle.sheet.specs.declared.Shape.{Shape}

@@ -1,5 +1,5 @@
 -- Every bound of 01 on a sheet, once. 02 changes several of them here.
-use Prim.Native.Nat.{ℕ, _-_}
+use Prim.Native.Nat.{ℕ}
 
 pub record Bounds : Type 0 where
   pub fewestVariables : ℕ
@@ -27,10 +27,3 @@ limit =
       depth = 8;
       longestRun = 4096;
     }
-
--- "A sheet is a slice of 16-bit words": how many values a word has, and the greatest
-abbrev pub wordValues : ℕ
-wordValues = 65536
-
-abbrev pub greatestWord : ℕ
-greatestWord = wordValues - 1

@@ -1,30 +1,16 @@
 -- Reading words left to right: the sheet that they are, or refusals 1 to 7, each at its place.
-use Prim.Native.Nat.{ℕ, zero, suc, _+_, _*_}
-use mathlib.Core.Bool.{Bool, true, false, _&&_}
+use Prim.Native.Nat.{ℕ, suc, _+_, _*_}
+use mathlib.Core.Bool.{Bool, _&&_}
 use mathlib.Core.List.{List, [], _∷_}
 use mathlib.Core.Option.{Option, none, some}
 use lib.ListN.{length, getD, take, drop}
-use lib.Dec.{leb, ltb}
+use lib.Dec.{leb, ltb, eqb}
 use Rattle.sheet.specs.Bounds.{limit}
-use Rattle.sheet.specs.Refusals.{Refusal, Answer, refused, given, _>>=_, wordsEnd, wordsLeft, countBeyond, roleAbove, badRow, badBlock, tooLong}
-use Rattle.sheet.specs.Tree.{Tree, done, one, fork, again, basic, ifLine, elseLine, endIf, repeat, endRepeat}
-use Rattle.sheet.specs.Rows.{Assignment, Test, SheetLine, Row, Kind, kindOf, wordsFit}
-use Rattle.sheet.specs.LongestRun.{longestRun}
-
-pub record Sheet : Type 0 where
-  pub roles : List ℕ
-  pub constants : List ℕ
-  pub rows : List Row
-  pub body : Tree Assignment Test
-
--- V
-abbrev pub variablesOf : Sheet → ℕ
-variablesOf sheet = length (sheet .roles)
-
--- a refusal unless the test passes
-abbrev pub unless : Bool → Refusal → Answer (Unit {0})
-unless true r = given tt
-unless false r = refused r
+use Rattle.sheet.specs.Refusals.{wordsEnd, wordsLeft, countBeyond, roleAbove, badRow, badBlock, tooLong}
+use Rattle.sheet.specs.Tree.{Tree, done, one, fork, again, basic, ifLine, elseLine, endIf, repeat, endRepeat, longestRun}
+use Rattle.sheet.specs.Rows.{Assignment, Test, SheetLine, Row, Slot, variable, constant, turns, unused, Kind, kindOf}
+use Rattle.sheet.specs.Sheets.{Sheet, rowsAt}
+use Rattle.sheet.specs.Judging.{Answer, refused, given, _>>=_, unless}
 
 -- ---- counts and sections
 
@@ -44,15 +30,6 @@ rolesFit [] place = given tt
 rolesFit (role ∷ roles) place = do
   _ ← unless (leb role (limit .greatestRole)) (roleAbove place)
   rolesFit roles (suc place)
-
-unfoldable pub rowAt : List ℕ → ℕ → Row
-rowAt words place =
-    record { kind = getD words place 0; d = getD words (place + 1) 0; a = getD words (place + 2) 0; b = getD words (place + 3) 0 }
-
-unfoldable pub rowsAt : List ℕ → (place count : ℕ) → List Row
-unfolding rowAt
-rowsAt words place zero = []
-rowsAt words place (suc n) = rowAt words place ∷ rowsAt words (place + limit .rowWords) n
 
 -- ---- rows into blocks
 
@@ -77,6 +54,17 @@ closed (repeated m a ∷ items) rest = closed items (again m a rest)
 pub record RowsTaken : Type 0 where
   pub blocks : List Block
   pub items : List Item
+
+-- "absent variable or constant, repeat count not 1 to 1000, unused word not 0"
+unfoldable pub fits : (variables constants : ℕ) → Slot → ℕ → Bool
+fits v k variable word = ltb word v
+fits v k constant word = ltb word k
+fits v k turns word = leb 1 word && leb word (limit .turns)
+fits v k unused word = eqb word 0
+
+unfoldable pub wordsFit : (variables constants : ℕ) → Kind → Row → Bool
+unfolding fits
+wordsFit v k kind r = fits v k (kind .d) (r .d) && fits v k (kind .a) (r .a) && fits v k (kind .b) (r .b)
 
 -- "kind not 1 to 11", or a word that doesn't fit its slot: 5
 unfoldable pub lineBy : (variables constants : ℕ) → Option Kind → Row → (place : ℕ) → Answer SheetLine

@@ -63,24 +63,3 @@ placeOf wrongSeeds = 1
 placeOf wrongResult = 2
 placeOf (notFiniteGiven p) = p
 placeOf (notFiniteResult p) = p
-
--- What a call comes to: a refusal, or what was asked for. "0 | done | 0" is `numberIn` and `placeIn` of `given`.
-pub data Answer {ℓ} (A : Type ℓ) : Type ℓ where
-  refused : Refusal → Answer A
-  given : A → Answer A
-
-unfoldable pub numberIn {ℓ} : {A : Type ℓ} → Answer A → ℕ
-unfolding numberOf
-numberIn (refused r) = numberOf r
-numberIn (given a) = 0
-
-unfoldable pub placeIn {ℓ} : {A : Type ℓ} → Answer A → ℕ
-unfolding placeOf
-placeIn (refused r) = placeOf r
-placeIn (given a) = 0
-
--- one judgement after another: the first refusal is the answer
-infixl 30 _>>=_
-abbrev pub _>>=_ {ℓ κ} : {A : Type ℓ} {B : Type κ} → Answer A → (A → Answer B) → Answer B
-refused r >>= next = refused r
-given a >>= next = next a

@@ -1,11 +1,10 @@
 -- Roles, kinds and rows: what each word of a row is, and what the row means.
 use Prim.Native.Nat.{ℕ, zero, suc, pred}
-use mathlib.Core.Bool.{Bool, _&&_, _||_}
+use mathlib.Core.Bool.{Bool, _||_}
 use mathlib.Core.List.{List, [], _∷_, map}
 use mathlib.Core.Option.{Option, none}
 use lib.ListN.{getElem?}
-use lib.Dec.{leb, ltb, eqb}
-use Rattle.sheet.specs.Bounds.{limit}
+use lib.Dec.{eqb}
 use Rattle.sheet.specs.Tree.{Tree, flat, Line, basic, ifLine, elseLine, endIf, repeat, endRepeat}
 
 -- "0 parameter, 1 independent, 2 dependent, 3 both"
@@ -28,6 +27,9 @@ infix 20 _≔_
 pub data Assignment : Type 0 where
   _≔_ : ℕ → Source → Assignment
 
+abbrev pub targetOf : Assignment → ℕ
+targetOf (d ≔ source) = d
+
 -- "if value a < value b, strictly"
 pub data Test : Type 0 where
   less : ℕ → ℕ → Test
@@ -48,13 +50,6 @@ pub data Slot : Type 0 where
   constant : Slot
   turns : Slot
   unused : Slot
-
--- "absent variable or constant, repeat count not 1 to 1000, unused word not 0"
-unfoldable pub fits : (variables constants : ℕ) → Slot → ℕ → Bool
-fits v k variable word = ltb word v
-fits v k constant word = ltb word k
-fits v k turns word = leb 1 word && leb word (limit .turns)
-fits v k unused word = eqb word 0
 
 pub record Kind : Type 0 where
   pub d : Slot
@@ -81,10 +76,6 @@ kinds =
 unfoldable pub kindOf : ℕ → Option Kind
 kindOf zero = none
 kindOf (suc n) = getElem? kinds n
-
-unfoldable pub wordsFit : (variables constants : ℕ) → Kind → Row → Bool
-unfolding fits
-wordsFit v k kind row = fits v k (kind .d) (row .d) && fits v k (kind .a) (row .a) && fits v k (kind .b) (row .b)
 
 -- the row that says a line: an adjoint table's rows begin as a sheet's do, so both are written through these
 unfoldable pub rowOfAssignment : Assignment → Row

@@ -1,5 +1,5 @@
 -- Rows as blocks. One tree serves as a sheet's body, as that body with marks, and as an adjoint table.
-use Prim.Native.Nat.{ℕ, _+_}
+use Prim.Native.Nat.{ℕ, _+_, suc, _*_, max}
 use mathlib.Core.List.{List, _∷_}
 
 -- B: rows that are no part of a block; F: what an "if" tests. The last field is what follows in the same block.
@@ -39,3 +39,11 @@ module _ {B F : Type 0} where
 -- the number of a row, from 0: no variable can stand where one is asked for
 pub record RowNumber : Type 0 where
   pub index : ℕ
+
+-- W, on all natural numbers: eight nested repeats of 1000 go beyond 2^64.
+-- "an assignment counts 1; an if block 1 + the larger branch; a repeat 1 + a × (1 + its body); rows in sequence add"
+unfoldable pub longestRun : {B F : Type 0} → Tree B F → ℕ
+longestRun done = 0
+longestRun (one b k) = 1 + longestRun k
+longestRun (fork f a b k) = 1 + max (longestRun a) (longestRun b) + longestRun k
+longestRun (again m a k) = 1 + suc m * (1 + longestRun a) + longestRun k

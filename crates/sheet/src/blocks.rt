@@ -4,7 +4,7 @@ ghost use Prim.Native.Nat.{_+_, _*_, _≤_, _^_, max};
 ghost use mathlib.Core.List.{[]};
 ghost use lib.ListN.{length};
 ghost use Rattle.sheet.specs.Bounds.{limit};
-ghost use Rattle.sheet.specs.Reading.{rowsAt};
+ghost use Rattle.sheet.specs.Sheets.{rowsAt};
 ghost use Rattle.sheet.specs.inner.Steps.{saturated, counted, enterOf, splitOf, ifEndOf, repeatEndOf, stepOf};
 ghost use Rattle.sheet.specs.inner.Steps.{bodySaid, afterRowsOf, bodyRun};
 use super::Body;

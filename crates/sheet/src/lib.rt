@@ -3,10 +3,11 @@
 ghost use mathlib.Core.Path.{_≡_};
 ghost use Prim.Native.Nat.{_+_, _*_, _≤_, _<_};
 ghost use lib.ListN.{length, getD};
-ghost use Rattle.sheet.specs.Bounds.{limit, wordValues};
+ghost use Rattle.sheet.specs.inner.Words.{wordValues};
+ghost use Rattle.sheet.specs.Bounds.{limit};
 ghost use Rattle.sheet.specs.Refusals.{numberOf, placeOf};
 ghost use Rattle.sheet.specs.Rows.{isIndependent, isDependent};
-ghost use Rattle.sheet.specs.Reading.{rowAt};
+ghost use Rattle.sheet.specs.Sheets.{rowAt};
 ghost use Rattle.sheet.specs.Answers.{refusalOf, said, shapeRead, rowSaid};
 ghost use Rattle.sheet.specs.inner.Steps.{finishOf};
 

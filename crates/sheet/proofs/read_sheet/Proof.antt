@@ -3,7 +3,7 @@ use mathlib.Core.List.{List}
 use mathlib.Core.Path.{sym, ap, subst, _∙_}
 use Prim.Native.Nat.{ℕ}
 use native.Mathlib.Omega.{arith}
-use Rattle.sheet.specs.Refusals.{given}
+use Rattle.sheet.specs.Judging.{given}
 use Rattle.sheet.specs.Answers.{said}
 use Rattle.sheet.specs.inner.Steps.{CountsSaid, CountsJudged, bodySaid}
 use Rattle.sheet.specs.declared.Counts.{Counts}

@@ -1,5 +1,5 @@
 -- `sheet::row_at` meets its contract.
-use Rattle.sheet.specs.Reading.{rowAt}
+use Rattle.sheet.specs.Sheets.{rowAt}
 use borrow.Author.Needs.{needs}
 use Rattle.sheet.proofs.row_at.Statement.{statement}
 use Rattle.sheet.proofs.row_at.Tie as tie

@@ -8,10 +8,10 @@ use mathlib.Core.Option.{Option, none, some}
 use lib.ListN.{length, getD, take, drop}
 use lib.Dec.{leb, ltb, eqb}
 use Rattle.sheet.specs.Bounds.{limit}
-use Rattle.sheet.specs.Refusals.{Answer, refused, given, _>>=_}
-use Rattle.sheet.specs.Rows.{Row, Kind, kinds, kindOf, wordsFit}
-use Rattle.sheet.specs.LongestRun.{longestRun}
-use Rattle.sheet.specs.Reading.{countAt, rolesFit, Block, Item, bodyOf}
+use Rattle.sheet.specs.Judging.{Answer, refused, given, _>>=_}
+use Rattle.sheet.specs.Reading.{wordsFit, countAt, rolesFit, Block, Item, bodyOf}
+use Rattle.sheet.specs.Rows.{Row, Kind, kinds, kindOf}
+use Rattle.sheet.specs.Tree.{longestRun}
 use Rattle.sheet.specs.Answers.{refusalOf, shapeRead}
 use Rattle.sheet.specs.declared.No.the-variants.{WordsLeft, BadBlock, TooLong}
 use Rattle.sheet.specs.declared.Shape.{Shape}

@@ -1,7 +1,7 @@
 -- `sheet::blocks::end_repeat` meets its contract.
 use Prim.Native.Nat.{_+_, _*_, _≤_}
 use native.Mathlib.Omega.{arith}
-use Rattle.sheet.specs.Bounds.{wordValues}
+use Rattle.sheet.specs.inner.Words.{wordValues}
 use Rattle.sheet.specs.inner.Steps.{repeatEndOf}
 use Rattle.sheet.proofs.BlocksApart.{not-repeat}
 use Rattle.sheet.proofs.Saturated.{product-small}

@@ -7,7 +7,7 @@ use mathlib.Core.Bool.{true}
 use borrow.Author.Needs.{needs}
 use borrow.Author.Tests.{not-true, not-false}
 use native.Mathlib.Omega.{arith}
-use Rattle.sheet.specs.Reading.{rowAt}
+use Rattle.sheet.specs.Sheets.{rowAt}
 use Rattle.sheet.specs.Answers.{rowSaid}
 use Rattle.sheet.specs.inner.Steps.{noRule, fitsRule, rowFits, stepOf, bodySaid}
 use Rattle.sheet.specs.Rows.{Row}
@@ -66,7 +66,7 @@ module _ (c : tie.After-row-fits Inv-loop μ-loop) where
       → Follows (head .loop .place) (head .loop .depth) (head .loop .levels) (head .loop .inner) s (rowHere (head .loop .inv))
   says s fits e =
       let fit : rowFits v k here ≡ true = sym fits-same ∙ fits in
-      let part = part-by-rule v k here (head .before .rules-of .result) (head .before .rules-of .ensures) _ kind-read (c .before .before .if1 .left) fit in
+      let part = part-by-rule v k here (head .before .rules-of .result) (head .before .rules-of .ensures) _ kind-read (c .before .before .if1 .left) in
       step-follows (head .loop .inv) s fit (e ∙ cc (part, ap (λ r. r .a) read))
 
 -- the step that was found says what the row comes to

@@ -5,7 +5,7 @@ use mathlib.Core.Path.{_≡_, sym, ap, _∙_}
 use lib.ListN.{take, drop}
 use native.Mathlib.Omega.{arith}
 use Rattle.sheet.specs.Bounds.{limit}
-use Rattle.sheet.specs.Refusals.{Answer, given}
+use Rattle.sheet.specs.Judging.{Answer, given}
 use Rattle.sheet.specs.Reading.{countAt, rolesFit}
 use Rattle.sheet.specs.inner.Steps.{countSaid, rolesSaid}
 use Rattle.sheet.specs.declared.Count.{Count}
