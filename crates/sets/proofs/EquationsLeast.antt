@@ -14,7 +14,8 @@ use lib.Dec.{eqb, eqb→eq, eqb-refl}
 use lib.Pow.{pow-pos}
 use Rattle.sheet.proofs.RowsBack.{both}
 use Rattle.sets.specs.VariableSets.{VariableSet, empty, _∪_, _⊆_}
-use Rattle.sets.specs.Equations.{Equation, pointOf, rightSide, Satisfy, setAt, Least, round, same, settled, least}
+use Rattle.sets.specs.Equations.{Equation, pointOf, rightSide, Satisfy, Least}
+use Rattle.sets.specs.Rounds.{setAt, round, same, settled, least}
 use Rattle.sets.specs.inner.ProperEquations.{_∈_, Within, Proper}
 use Rattle.sets.proofs.Truths.{T-of, of-T}
 use Rattle.sets.proofs.VariableSetLaws.{empty-within, union-left, union-right, union-least, ⊆-antisym}
@@ -322,7 +323,7 @@ module _ (v points : ℕ) (es : List Equation) (proper : Proper v points es) whe
       settled-keeps (Inside points at) es (round-keeps (Inside points at) es (store-inside at ahead)) (suc (points * v)) (replicate points empty)
       (none-inside at) .inside
 
-  pub equations-least : Least es (least v points es)
+  pub equations-least : Least es (setAt (least v points es))
   equations-least =
       record {
         satisfies = satisfied es (setAt (least v points es)) (λ e m. ⊆-antisym _ _ (least-kept .behind e m) (least-ahead e m));

@@ -14,7 +14,7 @@ use Rattle.sheet.specs.Rows.{SheetLine}
 use Rattle.sheet.specs.inner.Kinds.{assigns, partOf}
 use Rattle.sets.specs.declared.transfers.MaskedAssignment.{MaskedAssignment}
 use Rattle.sets.specs.VariableSets.{VariableSet}
-use Rattle.sets.specs.Equations.{setAt}
+use Rattle.sets.specs.Rounds.{setAt, setsIn}
 use Rattle.sets.specs.inner.Operations.{Gives}
 use Rattle.sets.specs.Transfers.{Activity}
 use Rattle.sets.specs.Marks.{markBy, activityAt}
@@ -92,7 +92,7 @@ module _ (varied useful : List VariableSet) (p : ℕ) where
   pub byte-active : (required : List VariableSet) (l : SheetLine)
       → bitOf (byteAt varied useful required p l) (weight .active) ≡ activeLine (setAt varied p) (setAt useful (suc p)) l
   unfolding byteAt markBy activeLine activityAt
-  byte-active required (basic b) = read-back (activityAt varied useful p b) (markBy varied useful required p b .saved) .active
+  byte-active required (basic b) = read-back (activityAt (setAt varied) (setAt useful) p b) (markBy (setsIn varied useful required) p b .saved) .active
   byte-active required (ifLine f) = refl
   byte-active required elseLine = refl
   byte-active required endIf = refl
@@ -149,19 +149,19 @@ written-first bs (suc n) xs h l =
 
 -- ---- bytes written in the order of a walk, which may go back
 
-pub record Marking (line : ℕ → SheetLine) (varied useful : List VariableSet) (n : ℕ) (before : List ℕ) (sets : List VariableSet) (marks : List ℕ) (i : ℕ) : Type 0 where
+pub record MarkedSoFar (line : ℕ → SheetLine) (varied useful : List VariableSet) (n : ℕ) (before : List ℕ) (sets : List VariableSet) (marks : List ℕ) (i : ℕ) : Type 0 where
   pub long : length marks ≡ length before
   over : (f : ℕ → ℕ) → written f n marks ≡ written f n before
   passed : (k : ℕ) → k < i → getD marks k 0 ≡ byteAt varied useful sets k (line k)
 
 module _ (line : ℕ → SheetLine) (varied useful : List VariableSet) (n : ℕ) (before : List ℕ) where
-  pub marking-starts : (sets : List VariableSet) → Marking line varied useful n before sets before 0
+  pub marking-starts : (sets : List VariableSet) → MarkedSoFar line varied useful n before sets before 0
   marking-starts sets = record { long = refl; over = λ f. refl; passed = λ k h. absurd (omega arith) }
 
   -- row i was marked, and the walk goes on after row p
-  pub marking-on : (sets next : List VariableSet) (marks : List ℕ) (i p byte : ℕ) → Marking line varied useful n before sets marks i → p ≤ i → i < n
+  pub marking-on : (sets next : List VariableSet) (marks : List ℕ) (i p byte : ℕ) → MarkedSoFar line varied useful n before sets marks i → p ≤ i → i < n
       → n ≤ length before → byte ≡ byteAt varied useful sets i (line i) → ((k : ℕ) → k ≤ p → setAt next k ≡ setAt sets k)
-      → Marking line varied useful n before next (set marks i byte) (p + 1)
+      → MarkedSoFar line varied useful n before next (set marks i byte) (p + 1)
   marking-on sets next marks i p byte m le h room is same =
       record {
         long = length-set marks i byte ∙ m .long;
@@ -173,7 +173,7 @@ module _ (line : ℕ → SheetLine) (varied useful : List VariableSet) (n : ℕ)
       go k (yes e) l = rw e (getD-set-same marks i byte 0 (omega (arith, m .long)) ∙ is)
       go k (no e) l = getD-set-other marks i k byte 0 e ∙ m .passed k (omega arith)
 
-  pub marking-ends : (sets : List VariableSet) (marks : List ℕ) (i : ℕ) → Marking line varied useful n before sets marks i → n ≤ i
+  pub marking-ends : (sets : List VariableSet) (marks : List ℕ) (i : ℕ) → MarkedSoFar line varied useful n before sets marks i → n ≤ i
       → marks ≡ written (bytesOf varied useful sets line) n before
   marking-ends sets marks i m h =
       sym (written-self (bytesOf varied useful sets line) n marks (λ k l. m .passed k (omega arith))) ∙ m .over (bytesOf varied useful sets line)

@@ -6,10 +6,11 @@ use mathlib.Core.List.{List, [], _∷_, map}
 use lib.ListN.{length, getD, length-map}
 use Rattle.sheet.specs.Tree.{Tree, done, one, fork, again, rows, Line, flat, basic, ifLine, elseLine, endIf, repeat, endRepeat}
 use Rattle.sheet.specs.Rows.{Assignment, Test, SheetLine}
-use Rattle.sheet.specs.Reading.{Sheet}
+use Rattle.sheet.specs.Sheets.{Sheet}
 use Rattle.sheet.proofs.RowsCounted.{lines-counted}
 use Rattle.sets.specs.VariableSets.{VariableSet}
-use Rattle.sets.specs.Marks.{Marked, MarkedTest, varied, useful, required, numbered, markBy, marked}
+use Rattle.sets.specs.Marks.{Marked, MarkedTest, numbered, markBy, markedBy}
+use Rattle.sets.specs.Rounds.{setsIn, setsOf, varied, useful, required, marked}
 use Rattle.sets.specs.MarkBytes.{byteOf, markBytes}
 use Rattle.sets.specs.inner.RowBytes.{byteAt, bytesOf}
 use Rattle.sets.proofs.RowByRow.{LinesAt}
@@ -42,7 +43,7 @@ module _ (line : ℕ → SheetLine) (v u r : List VariableSet) where
   BytesFrom ls p = From (bytesOf v u r line) (map byteOf ls) p
 
   bytes-from : (t : Tree Assignment Test) (p q : ℕ) (rest : List (Line Marked MarkedTest)) → p + rows t ≡ q → LinesAt line t p → BytesFrom rest q
-      → BytesFrom (flat (numbered (markBy v u r) t p) rest) p
+      → BytesFrom (flat (numbered (markBy (setsIn v u r)) t p) rest) p
   unfolding LinesAt numbered flat rows byteOf byteAt markBy
   bytes-from done p q rest e l h = subst (BytesFrom rest) (omega arith) h
   bytes-from (one b k) p q rest e l h = (byte-line p (basic b) (l .0), bytes-from k (suc p) q rest (omega arith) (l .1) h)
@@ -64,19 +65,19 @@ module _ (line : ℕ → SheetLine) (v u r : List VariableSet) where
       )
 
 pub bytes-counted : (sheet : Sheet) → length (markBytes sheet) ≡ rows (sheet .body)
-unfolding markBytes marked
+unfolding markBytes marked markedBy
 bytes-counted sheet =
     length-map (flat (marked sheet) []) byteOf ∙ lines-counted (marked sheet)
-    ∙ numbered-rows (markBy (varied sheet) (useful sheet) (required sheet)) (sheet .body) 0
+    ∙ numbered-rows (markBy (setsOf sheet)) (sheet .body) 0
 
 pub marks-listed : (sheet : Sheet) (line : ℕ → SheetLine) → LinesAt line (sheet .body) 0 → (p : ℕ) → p < rows (sheet .body)
     → byteAt (varied sheet) (useful sheet) (required sheet) p (line p) ≡ getD (markBytes sheet) p 0
-unfolding markBytes marked
+unfolding markBytes marked markedBy
 marks-listed sheet line l p h =
     let v = varied sheet in
     let u = useful sheet in
     let r = required sheet in
-    let tree = numbered (markBy v u r) (sheet .body) 0 in
+    let tree = numbered (markBy (setsIn v u r)) (sheet .body) 0 in
     let here : 0 + p ≡ p = omega arith in
     rw here at
     (from-at (bytesOf v u r line) (map byteOf (flat tree [])) 0 p (bytes-from line v u r (sheet .body) 0 _ [] refl l tt)

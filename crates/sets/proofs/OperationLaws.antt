@@ -5,6 +5,7 @@ use mathlib.Core.Option.{Option, none, some}
 use Prim.Native.Nat.{ℕ}
 use lib.Dec.{eqb}
 use Rattle.sheet.specs.Tree.{basic, ifLine, elseLine, endIf, repeat, endRepeat}
+use Rattle.sheet.specs.inner.RowLines.{sourceOf}
 use Rattle.sheet.specs.Rows.{Assignment, copy, fixed, sum, difference, product, negation, _≔_, Row, rowOfAssignment, SheetLine, sheetRowOf}
 use Rattle.sheet.specs.inner.Kinds.{assigns, formFor, partOf}
 use Rattle.sheet.specs.declared.kinds.Form.{Form}
@@ -12,7 +13,7 @@ use Rattle.sets.specs.declared.transfers.MaskedAssignment.{MaskedAssignm
 use Rattle.sets.specs.VariableSets.{VariableSet, empty, has, _∪_, single, without, hasSome, singleSome}
 use Rattle.sets.specs.Transfers.{anyRead, firstRead, secondRead, reads, variedAfter, usefulBefore}
 use Rattle.sets.specs.Transfers.{Activity, activityOf, adjointUse, recordedBy, requiredAfter}
-use Rattle.sets.specs.inner.Operations.{namedBy, meets, sourceOf, Performs, PerformsRow}
+use Rattle.sets.specs.inner.Operations.{namedBy, meets, Performs, PerformsRow}
 use Rattle.sets.proofs.Truths.{never}
 use Rattle.sets.proofs.VariableSetLaws.{meets-none, meets-single}
 

@@ -4,14 +4,14 @@ use native.Mathlib.Omega.{arith}
 use mathlib.Core.Path.{_≡_, refl, sym, ap, _∙_}
 use mathlib.Core.List.{List}
 use lib.ListN.{length}
-use Rattle.sheet.specs.Bounds.{wordValues}
+use Rattle.sheet.specs.inner.Words.{wordValues}
 use Rattle.sheet.specs.Rows.{SheetLine}
 use Rattle.sheet.specs.inner.Kinds.{partOf}
 use Rattle.sheet.specs.declared.kinds.Form.{Form}
 use Rattle.sheet.specs.declared.kinds.Part.{Part}
+use Rattle.sheet.proofs.LinesByPart.{row-part}
 use Rattle.sets.specs.inner.PartnerPass.{PartnersSoFar, found, foundBy, foundAt, foundOver, TopsWithin, Findable, Listed, PartnersFound}
 use Rattle.sets.specs.inner.RowEquations.{lineIn, RowReadable, Formed}
-use Rattle.sheet.proofs.LinesByPart.{row-part}
 
 -- what holds before a row of the pass
 pub record Finding (line : ℕ → SheetLine) (n : ℕ) (came₀ goes₀ came goes : List ℕ) (top row : ℕ) : Type 0 where
@@ -83,4 +83,4 @@ module _ (line : ℕ → SheetLine) (n : ℕ) (came₀ goes₀ : List ℕ) where
 -- what a row is to the blocks, as the code reads it, is what its line is
 pub part-read : {words : List ℕ} {first row : ℕ} {form : Form} → RowReadable words first row → Formed words first row form
     → form .3 ≡ partOf (lineIn words first row)
-part-read {words} {first} {row} readable formed = ap (λ form. form .3) formed ∙ sym (row-part (lineIn words first row) _ (readable .says))
+part-read {words} {first} {row} readable formed = ap (λ form. form .3) formed ∙ sym (row-part (readable .says))

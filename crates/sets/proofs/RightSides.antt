@@ -13,7 +13,8 @@ use Rattle.sheet.specs.declared.kinds.Part.{Part}
 use Rattle.sets.specs.declared.Which.{Which}
 use Rattle.sets.specs.declared.Which.the-variants.{Varied, Useful, Required}
 use Rattle.sets.specs.VariableSets.{VariableSet}
-use Rattle.sets.specs.Equations.{setAt, rightSide, pointOf}
+use Rattle.sets.specs.Equations.{rightSide, pointOf}
+use Rattle.sets.specs.Rounds.{setAt}
 use Rattle.sets.specs.inner.RowEquations.{equationOf, forwardOf, backwardOf, turnOf, ownPoint, settledPoint, splits, joinsBy, blockSide}
 use Rattle.sets.specs.inner.RowEquations.{Given, equationIn, startOf}
 use Rattle.sets.specs.inner.Walks.{asksPartner}

@@ -1,4 +1,4 @@
--- The three sets of an accepted sheet are the least solutions of 01's equations.
+-- The three sets of an accepted sheet, as they are computed, are the least solutions of 01's equations, and no other sets are.
 use Prim.Native.Nat.{ℕ, suc, _+_, _^_, _≤_, _<_}
 use native.Mathlib.Omega.{arith}
 use mathlib.Core.Path.{_≡_, refl, sym, ap, subst, _∙_}
@@ -8,17 +8,19 @@ use lib.Pow.{pow-pos}
 use Rattle.sheet.specs.Tree.{Tree, done, one, fork, again, rows}
 use Rattle.sheet.specs.Rows.{Assignment, Test, isIndependent, isDependent}
 use Rattle.sheet.specs.Names.{AssignmentPresent, Present}
-use Rattle.sheet.specs.Refusals.{given}
-use Rattle.sheet.specs.Reading.{Sheet, variablesOf, read}
+use Rattle.sheet.specs.Judging.{given}
+use Rattle.sheet.specs.Sheets.{Sheet, variablesOf}
+use Rattle.sheet.specs.Reading.{read}
 use Rattle.sheet.proofs.NamesPresent.{names-present}
 use Rattle.sets.specs.VariableSets.{VariableSet, empty, places, _⊆_}
 use Rattle.sets.specs.Equations.{Equation, starts, passes, joins, pointOf, rightSide, unchanged, forward, backward, Least}
 use Rattle.sets.specs.Transfers.{variedAfter, usefulBefore, requiredAfter}
-use Rattle.sets.specs.Marks.{points, variedEquations, usefulEquations, requiredEquations, varied, useful, required, activityAt}
-use Rattle.sets.proofs.VariableSetLaws.{⊆-refl, union-mono}
+use Rattle.sets.specs.Rounds.{points, setAt, varied, useful, required, setsOf}
+use Rattle.sets.specs.Marks.{variedEquations, usefulEquations, requiredEquations, activityAt, Sets, LeastSets}
+use Rattle.sets.specs.inner.ProperEquations.{_∈_, Within, Proper}
+use Rattle.sets.proofs.VariableSetLaws.{⊆-refl, ⊆-antisym, union-mono}
 use Rattle.sets.proofs.VariableSetSizes.{union-below, places-below}
 use Rattle.sets.proofs.TransferLaws.{Transfer, varied-transfer, useful-transfer, required-transfer}
-use Rattle.sets.specs.inner.ProperEquations.{_∈_, Within, Proper}
 use Rattle.sets.proofs.EquationsLeast.{equations-least}
 
 -- ---- each equation settles its own point
@@ -175,6 +177,14 @@ module _ (v k : ℕ) (pass : ℕ → Assignment → VariableSet → VariableSet)
         proper v (suc (rows t)) es (small, backward-sound t 0 [] present tt) (falling-apart (suc (rows t)) es falling)
         (falling-under (suc (rows t)) es falling)
 
+-- ---- least solutions are one
+
+-- they have the same members at every point
+least-only : (es : List Equation) (at at′ : ℕ → VariableSet) → Least es at → Least es at′ → at ≡ at′
+least-only es at at′ least least′ =
+    let same : (p : ℕ) → at p ≡ at′ p = λ p. ⊆-antisym (at p) (at′ p) (least .within at′ (least′ .satisfies) p) (least′ .within at (least .satisfies) p) in
+    λ i p. same p i
+
 -- ---- the three sets
 
 module _ (words : List ℕ) (sheet : Sheet) (accepted : read words ≡ given sheet) where
@@ -191,21 +201,35 @@ module _ (words : List ℕ) (sheet : Sheet) (accepted : read words ≡ given she
       (places isDependent (sheet .roles)) (names-present words sheet accepted) (places-below isDependent (sheet .roles))
 
   -- whatever the first two sets are
-  pub required-proper : (varied useful : List VariableSet) → Proper (variablesOf sheet) (points sheet) (requiredEquations sheet varied useful)
+  pub required-proper : (varied useful : ℕ → VariableSet) → Proper (variablesOf sheet) (points sheet) (requiredEquations sheet varied useful)
   unfolding requiredEquations points
   required-proper varied useful =
       forward-proper (variablesOf sheet) _ (λ p b. requiredAfter b (activityAt varied useful p b))
       (λ p b. required-transfer (variablesOf sheet) _ b (activityAt varied useful p b)) (sheet .body)
       empty (names-present words sheet accepted) (pow-pos (variablesOf sheet))
 
-  pub varied-least : Least (variedEquations sheet) (varied sheet)
+  pub varied-least : Least (variedEquations sheet) (setAt (varied sheet))
   unfolding varied
   varied-least = equations-least _ _ _ varied-proper
 
-  pub useful-least : Least (usefulEquations sheet) (useful sheet)
+  pub useful-least : Least (usefulEquations sheet) (setAt (useful sheet))
   unfolding useful
   useful-least = equations-least _ _ _ useful-proper
 
-  pub required-least : Least (requiredEquations sheet (varied sheet) (useful sheet)) (required sheet)
+  pub required-least : Least (requiredEquations sheet (setAt (varied sheet)) (setAt (useful sheet))) (setAt (required sheet))
   unfolding required
-  required-least = equations-least _ _ _ (required-proper (varied sheet) (useful sheet))
+  required-least = equations-least _ _ _ (required-proper (setAt (varied sheet)) (setAt (useful sheet)))
+
+  pub sets-least : LeastSets sheet (setsOf sheet)
+  sets-least = record { varies = varied-least; isUseful = useful-least; isRequired = required-least }
+
+  -- whatever sets are least are those that are computed
+  pub least-sets-only : (sets : Sets) → LeastSets sheet sets → sets ≡ setsOf sheet
+  least-sets-only sets least =
+      let vs : sets .varied ≡ setAt (varied sheet) = least-only _ _ _ (least .varies) varied-least in
+      let us : sets .useful ≡ setAt (useful sheet) = least-only _ _ _ (least .isUseful) useful-least in
+      let ours : Least (requiredEquations sheet (setAt (varied sheet)) (setAt (useful sheet))) (sets .required) =
+      subst (λ u. Least (requiredEquations sheet (setAt (varied sheet)) u) (sets .required)) us
+      (subst (λ v. Least (requiredEquations sheet v (sets .useful)) (sets .required)) vs (least .isRequired)) in
+      let rs : sets .required ≡ setAt (required sheet) = least-only _ _ _ ours required-least in
+      λ i. record { varied = vs i; useful = us i; required = rs i }

@@ -9,7 +9,7 @@ use Rattle.sheet.specs.Bounds.{limit}
 use Rattle.sheet.specs.Tree.{Tree, rows, flat, basic}
 use Rattle.sheet.specs.Rows.{Assignment, Test, _≔_, copy, fixed, sum, difference, product, negation}
 use Rattle.sheet.specs.Rows.{SheetLine, sheetRowOf, treeRows, isIndependent, isDependent}
-use Rattle.sheet.specs.Reading.{Sheet, rowsAt, variablesOf}
+use Rattle.sheet.specs.Sheets.{Sheet, rowsAt, variablesOf}
 use Rattle.sheet.proofs.RowsCounted.{rows-counted, lines-counted}
 use Rattle.sheet.proofs.ReadingParts.{accepted, same-given}
 use Rattle.sheet.proofs.TreeOfRows.{tree-of-rows}
@@ -17,10 +17,11 @@ use Rattle.sheet.proofs.NamesPresent.{count-judged, counts, names-present}
 use Rattle.sets.specs.declared.Which.{Which}
 use Rattle.sets.specs.declared.Which.the-variants.{Varied, Useful, Required}
 use Rattle.sets.specs.VariableSets.{VariableSet, empty, places}
-use Rattle.sets.specs.Equations.{Equation, starts, least}
+use Rattle.sets.specs.Equations.{Equation, starts}
 use Rattle.sets.specs.inner.ProperEquations.{Proper}
 use Rattle.sets.specs.Transfers.{variedAfter, usefulBefore, requiredAfter, adjointUse, Activity}
-use Rattle.sets.specs.Marks.{points, varied, useful, required, variedEquations, usefulEquations, requiredEquations, activityAt}
+use Rattle.sets.specs.Rounds.{points, setAt, least, varied, useful, required}
+use Rattle.sets.specs.Marks.{variedEquations, usefulEquations, requiredEquations, activityAt}
 use Rattle.sets.specs.Partners.{CameFrom, GoesTo, cameBy, goesBy}
 use Rattle.sets.specs.inner.PartnerPass.{found, PartnersFound}
 use Rattle.sets.specs.inner.RowEquations.{givenBy, lineIn, noneActive, activeLine, activeBy, turnOf, equationOf, equationIn, rowInTurn}
@@ -29,7 +30,9 @@ use Rattle.sets.specs.inner.Walks.{Wired, Settles}
 use Rattle.sets.specs.inner.Operations.{maskBits}
 use Rattle.sets.specs.MarkBytes.{markBytes}
 use Rattle.sets.specs.inner.RowBytes.{bytesOf, written}
-use Rattle.sets.specs.inner.Laid.{Laid, MarksLeft, AllMarked}
+use Rattle.sets.specs.declared.Ends.{Ends}
+use Rattle.sets.specs.Calls.{endsAt, endsOf}
+use Rattle.sets.specs.inner.Laid.{Laid, MarksLeft, AllMarked, EndsFound}
 use Rattle.sets.proofs.RowByRow.{LinesAt, forward-listed, backward-listed}
 use Rattle.sets.proofs.SheetRows.{lines-at, rows-readable}
 use Rattle.sets.proofs.PartnersRight.{passed-over}
@@ -151,17 +154,18 @@ module _ {words : List ℕ} {variables first count : ℕ} (laid : Laid words var
       (known .lines) c))
 
   -- which rows are active, by the first two sets
-  active-said : (v u : List VariableSet) (p : ℕ) (b : Assignment) → line p ≡ basic b → activeBy words first v u p ≡ activityAt v u p b .active
+  active-said : (v u : List VariableSet) (p : ℕ) (b : Assignment) → line p ≡ basic b
+      → activeBy words first v u p ≡ activityAt (setAt v) (setAt u) p b .active
   unfolding activeLine activityAt
   active-said v u p b e = rw e
 
   required-all : (partners : List ℕ) (v u : List VariableSet) → CameFrom partners body 0
-      → codeEquations Required (activeBy words first v u) partners ≡ requiredEquations sheet v u
+      → codeEquations Required (activeBy words first v u) partners ≡ requiredEquations sheet (setAt v) (setAt u)
   unfolding allEquations rowEquations rowInTurn startOf equationIn equationOf turnOf seedIn requiredEquations
   required-all partners v u c =
       code-rows Required (activeBy words first v u) partners ∙ rw (nothing-placed (take variables (drop 1 words)))
       (ap (λ es. starts 0 empty ∷ es)
-      (forward-listed line partners (λ p. turnOf Required (activeBy words first v u p)) (λ p b. requiredAfter b (activityAt v u p b)) count
+      (forward-listed line partners (λ p. turnOf Required (activeBy words first v u p)) (λ p b. requiredAfter b (activityAt (setAt v) (setAt u) p b)) count
       (λ p b h e. use-by-active b _ _ (active-said v u p b e)) body (omega (arith, laid .rowsAre)) (known .lines) c))
 
   -- ---- what is asked of the code's walks, and what they come to
@@ -206,7 +210,7 @@ module _ {words : List ℕ} {variables first count : ℕ} (laid : Laid words var
         → Settles Required (givenBy words first (activeBy words first v u) came′) goes′ count variables sets
     settles-required v u sets clear =
         settles Required (activeBy words first v u) _ came′ goes′ sets clear cameRoom goesRoom (required-all came′ v u (right .cameFrom))
-        (required-proper words sheet (laid .accepted) v u)
+        (required-proper words sheet (laid .accepted) (setAt v) (setAt u))
         (required-wired words first (activeBy words first v u) came′ goes′ count (known .readable) all-placed)
 
   abbrev Settled : Which → (ℕ → Bool) → (partners : List ℕ) → List VariableSet → Type 0
@@ -241,3 +245,12 @@ module _ {words : List ℕ} {variables first count : ℕ} (laid : Laid words var
       written-same _ _ count before (λ i h. marks-listed sheet line (known .lines) i (omega (arith, laid .rowsAre))) in
       subst (λ s. MarksLeft s count v u r before after) same
       (record { variedLeft = vs; usefulLeft = us; requiredLeft = rs; marksLeft = wrote ∙ rw (vs, us, rs) listed })
+
+  -- and the sets at its two ends
+  pub ends-found : (v u : List VariableSet) (ends : Ends) → v ≡ varied sheet → u ≡ useful sheet → ends ≡ endsAt (setAt v) (setAt u) count
+      → EndsFound words ends
+  unfolding endsOf
+  ends-found v u ends vs us is other e =
+      let same : sheet ≡ other = same-given (sym (laid .accepted) ∙ e) in
+      is ∙ ap (λ sets. endsAt (setAt sets) (setAt u) count) vs ∙ ap (λ sets. endsAt (setAt (varied sheet)) (setAt sets) count) us
+      ∙ ap (endsAt (setAt (varied sheet)) (setAt (useful sheet))) (laid .rowsAre) ∙ ap endsOf same

@@ -1,113 +1,55 @@
 -- The rows of an accepted sheet: each says its line, and names nothing beyond a mask's bits.
-use Prim.Native.Nat.{ℕ, zero, suc, _+_, _*_, _≤_, _<_}
+use Prim.Native.Nat.{ℕ, suc, _+_, _*_, _≤_, _<_}
 use native.Mathlib.Omega.{arith}
-use mathlib.Core.Path.{_≡_, refl, sym, ap, subst, _∙_}
+use mathlib.Core.Path.{_≡_, refl, ap, _∙_}
 use mathlib.Core.Bool.{true, false}
-use mathlib.Core.List.{List, [], _∷_, map}
+use mathlib.Core.List.{List, []}
 use lib.ListN.{length}
-use Rattle.sheet.specs.Bounds.{limit, wordValues}
-use Rattle.sheet.specs.Tree.{Tree, done, one, fork, again, rows, flat, basic, ifLine, elseLine, endIf, repeat, endRepeat}
+use Rattle.sheet.specs.inner.Words.{wordValues}
+use Rattle.sheet.specs.Bounds.{limit}
+use Rattle.sheet.specs.Tree.{Tree, done, one, fork, again, rows, flat}
 use Rattle.sheet.specs.Rows.{Assignment, _≔_, copy, fixed, sum, difference, product, negation, less, Test, SheetLine}
-use Rattle.sheet.specs.Rows.{rowOfAssignment, sheetRowOf, treeRows, kinds}
-use Rattle.sheet.specs.inner.RowLines.{lineOfRow}
+use Rattle.sheet.specs.Rows.{rowOfAssignment, sheetRowOf, treeRows}
 use Rattle.sheet.specs.inner.Kinds.{formFor, allForms}
 use Rattle.sheet.specs.declared.kinds.Form.{Form}
 use Rattle.sheet.specs.Names.{SourcePresent, AssignmentPresent, Present}
-use Rattle.sheet.specs.Reading.{rowAt, rowsAt}
+use Rattle.sheet.specs.Sheets.{rowsAt}
 use Rattle.sheet.proofs.PartsRead.{form-there, formIn}
-use Rattle.sheet.proofs.RowsBack.{line-back}
-use Rattle.sheet.proofs.RowsCounted.{lines-counted}
+use Rattle.sheet.proofs.RowsByNumber.{StandsAt, tree-stands, stands-after, line-said, Each, rows-of-tree, tree-says, tree-each}
 use Rattle.sets.specs.inner.Operations.{maskBits, InMask}
-use Rattle.sets.specs.inner.RowEquations.{numberedRow, lineIn, RowReadable, FitsMask, KindRead, Formed}
+use Rattle.sets.specs.inner.RowEquations.{lineIn, RowReadable, FitsMask, KindRead, Formed}
 use Rattle.sets.proofs.RowByRow.{LinesAt}
 
 -- ---- rows by number
 
--- lines, by number from p on
-abbrev LinesFrom : (ℕ → SheetLine) → List SheetLine → ℕ → Type 0
-LinesFrom line [] p = Unit {0}
-LinesFrom line (l ∷ ls) p = (line p ≡ l) × LinesFrom line ls (suc p)
-
--- rows that stand in the words say these lines
-module _ (words : List ℕ) (first : ℕ) where
-  rows-say : (ls : List SheetLine) (p n place : ℕ) → place ≡ first + p * limit .rowWords → map sheetRowOf ls ≡ rowsAt words place n
-      → LinesFrom (lineIn words first) ls p
-  unfolding rowsAt
-  rows-say [] p n place at e = tt
-  rows-say (l ∷ ls) p zero place at e = let z : _≡_ {A = ℕ} 0 1 = cc in absurd (omega arith)
-  rows-say (l ∷ ls) p (suc n) place at e =
-      let here : sheetRowOf l ≡ rowAt words place = cc in
-      let more : map sheetRowOf ls ≡ rowsAt words (place + limit .rowWords) n = cc in
-      (ap lineOfRow (sym (here ∙ ap (rowAt words) at)) ∙ line-back l, rows-say ls (suc p) n (place + limit .rowWords) (omega arith) more)
-
-module _ (line : ℕ → SheetLine) where
-  lines-part : (t : Tree Assignment Test) (p : ℕ) (rest : List SheetLine) → LinesFrom line (flat t rest) p
-      → LinesAt line t p × LinesFrom line rest (p + rows t)
-  unfolding flat rows LinesAt
-  lines-part done p rest h = (tt, subst (LinesFrom line rest) (omega arith) h)
-  lines-part (one b k) p rest h =
-      let K = lines-part k (suc p) rest (h .1) in
-      ((h .0, K .0), subst (LinesFrom line rest) (omega arith) (K .1))
-  lines-part (fork f a b k) p rest h =
-      let A = lines-part a (suc p) (elseLine ∷ flat b (endIf ∷ flat k rest)) (h .1) in
-      let B = lines-part b (suc (suc p + rows a)) (endIf ∷ flat k rest) (A .1 .1) in
-      let K = lines-part k (suc (suc (suc p + rows a) + rows b)) rest (B .1 .1) in
-      ((h .0, A .0, A .1 .0, B .0, B .1 .0, K .0), subst (LinesFrom line rest) (omega arith) (K .1))
-  lines-part (again m a k) p rest h =
-      let A = lines-part a (suc p) (endRepeat ∷ flat k rest) (h .1) in
-      let K = lines-part k (suc (suc p + rows a)) rest (A .1 .1) in
-      ((h .0, A .0, A .1 .0, K .0), subst (LinesFrom line rest) (omega arith) (K .1))
+lines-part : (words : List ℕ) (first : ℕ) (t : Tree Assignment Test) (p : ℕ) (rest : List SheetLine) → StandsAt words first (flat t rest) p
+    → LinesAt (lineIn words first) t p
+unfolding StandsAt flat rows LinesAt
+lines-part words first done p rest s = tt
+lines-part words first (one b k) p rest s = (line-said (s .0), lines-part words first k (suc p) rest (s .1))
+lines-part words first (fork f a b k) p rest s =
+    let split = stands-after words first a _ (suc p) refl (s .1) in
+    let end = stands-after words first b _ (suc (suc p + rows a)) refl (split .1) in (
+      line-said (s .0),
+      lines-part words first a (suc p) _ (s .1),
+      line-said (split .0),
+      lines-part words first b (suc (suc p + rows a)) _ (split .1),
+      line-said (end .0),
+      lines-part words first k (suc (suc (suc p + rows a) + rows b)) rest (end .1),
+    )
+lines-part words first (again m a k) p rest s =
+    let end = stands-after words first a _ (suc p) refl (s .1) in
+    (line-said (s .0), lines-part words first a (suc p) _ (s .1), line-said (end .0), lines-part words first k (suc (suc p + rows a)) rest (end .1))
 
 pub lines-at : (words : List ℕ) (first n : ℕ) (t : Tree Assignment Test) → treeRows t ≡ rowsAt words first n → LinesAt (lineIn words first) t 0
-unfolding treeRows
-lines-at words first n t e = lines-part (lineIn words first) t 0 [] (rows-say words first (flat t []) 0 n first (omega arith) e) .0
+lines-at words first n t e = lines-part words first t 0 [] (tree-stands words first n t e)
 
 -- ---- every row
-
-line-kind : (l : SheetLine) → sheetRowOf l .kind ≤ length kinds
-unfolding sheetRowOf
-line-kind (basic (d ≔ copy a)) = omega arith
-line-kind (basic (d ≔ fixed c)) = omega arith
-line-kind (basic (d ≔ sum a b)) = omega arith
-line-kind (basic (d ≔ difference a b)) = omega arith
-line-kind (basic (d ≔ product a b)) = omega arith
-line-kind (basic (d ≔ negation a)) = omega arith
-line-kind (ifLine (less a b)) = omega arith
-line-kind elseLine = omega arith
-line-kind endIf = omega arith
-line-kind (repeat m) = omega arith
-line-kind endRepeat = omega arith
-
--- a row's kind is one of the table's
-pub kind-there : {words : List ℕ} {first p : ℕ} → RowReadable words first p → numberedRow words first p .kind ≤ length kinds
-kind-there {words} {first} {p} r = subst (λ row. row .kind ≤ length kinds) (r .says) (line-kind (lineIn words first p))
 
 -- what the table has for a row's kind is the row's form
 pub form-read : {words : List ℕ} {first p kind : ℕ} {forms : List Form} → forms ≡ allForms → KindRead words first p kind
     → Formed words first p (formIn forms kind)
 form-read table read = form-there _ _ _ table (read .inTable) ∙ ap formFor (read .is)
-
--- what every one of a list's places has
-abbrev Each : {A : Type 0} → (A → Type 0) → List A → Type 0
-Each P [] = Unit {0}
-Each P (x ∷ xs) = P x × Each P xs
-
-module _ (words : List ℕ) (first : ℕ) (P : SheetLine → Type 0) where
-  -- a row of those that stand in the words says its line, which P holds of
-  row-says : (ls : List SheetLine) (p n place : ℕ) → place ≡ first + p * limit .rowWords → map sheetRowOf ls ≡ rowsAt words place n → Each P ls
-      → (i : ℕ) → i < length ls
-      → let r = rowAt words (first + (p + i) * limit .rowWords) in (sheetRowOf (lineOfRow r) ≡ r) × P (lineOfRow r)
-  unfolding rowsAt
-  row-says [] p n place at e h i below = absurd (omega arith)
-  row-says (l ∷ ls) p zero place at e h i below = let z : _≡_ {A = ℕ} 0 1 = cc in absurd (omega arith)
-  row-says (l ∷ ls) p (suc n) place at e h zero below =
-      let here : sheetRowOf l ≡ rowAt words place = cc in
-      let place-is : first + (p + 0) * limit .rowWords ≡ place = omega arith in
-      rw (place-is, sym here, line-back l) (refl, h .0)
-  row-says (l ∷ ls) p (suc n) place at e h (suc i) below =
-      let more : map sheetRowOf ls ≡ rowsAt words (place + limit .rowWords) n = cc in
-      let place-is : p + suc i ≡ suc p + i = omega arith in
-      rw place-is (row-says ls (suc p) n (place + limit .rowWords) (omega arith) more (h .1) i (omega arith))
 
 not-true : false ≡ true → ⊥
 not-true e = let z : _≡_ {A = ℕ} 0 1 = cc in omega arith
@@ -140,10 +82,7 @@ module _ (v k : ℕ) (vs : v ≤ maskBits) (ks : k ≤ maskBits) where
 
   pub rows-readable : (words : List ℕ) (first n : ℕ) (t : Tree Assignment Test) → treeRows t ≡ rowsAt words first n → Present v k t
       → (p : ℕ) → p < rows t → p < wordValues → first + (p + 1) * limit .rowWords ≤ length words → RowReadable words first p
-  unfolding treeRows
   rows-readable words first n t e present p below numbered there =
-      let each = tree-small t [] present tt in
-      let h = row-says words first SmallLine (flat t []) 0 n first (omega arith) e each p (omega (arith, lines-counted t)) in
-      let here : 0 + p ≡ p = omega arith in
-      let says = rw here at (h .0) in
-      record { says = says; small = rw says at (rw here at (h .1)); numbered = numbered; there = there }
+      let says = tree-says words first n t e p (omega (arith, rows-of-tree words first n t e)) in
+      let small = tree-each SmallLine words first n t e (tree-small t [] present tt) p below in
+      record { says = says; small = rw (says .back) at small; numbered = numbered; there = there }

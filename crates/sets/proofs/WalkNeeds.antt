@@ -7,7 +7,7 @@ use mathlib.Core.Bool.{Bool, true, false}
 use mathlib.Core.List.{List}
 use lib.ListN.{length, getD, set}
 use lib.Seq.{getD-set-other}
-use Rattle.sheet.specs.Bounds.{wordValues}
+use Rattle.sheet.specs.inner.Words.{wordValues}
 use Rattle.sheet.specs.Rows.{Assignment, SheetLine}
 use Rattle.sheet.specs.inner.Kinds.{assigns, partOf}
 use Rattle.sheet.specs.declared.kinds.Form.{Form}
@@ -18,7 +18,8 @@ use Rattle.sets.specs.declared.walk.WalkedTo.{WalkedTo}
 use Rattle.sets.specs.declared.Which.{Which}
 use Rattle.sets.specs.declared.Which.the-variants.{Varied, Useful, Required}
 use Rattle.sets.specs.VariableSets.{VariableSet, empty}
-use Rattle.sets.specs.Equations.{setAt, rightSide, least}
+use Rattle.sets.specs.Equations.{rightSide}
+use Rattle.sets.specs.Rounds.{setAt, least}
 use Rattle.sets.specs.inner.Operations.{maskBits, InMask, Performs, PerformsRow}
 use Rattle.sets.specs.inner.RowBytes.{byteAt}
 use Rattle.sets.specs.inner.RowEquations.{Given, lineIn, equationIn, turnOf, rowInTurn, ownPoint, settledPoint, startOf, allEquations, seedIn, rowIn, RowReadable, RowThere, Formed}
@@ -28,7 +29,7 @@ use Rattle.sets.proofs.OperationLaws.{AssignedBy, assigned-by}
 use Rattle.sets.proofs.PartnerPass.{part-read}
 use Rattle.sets.proofs.Seeds.{clear-length}
 use Rattle.sets.proofs.RightSides.{assigned-side, block-side}
-use Rattle.sets.proofs.MarkByteLaws.{Marking, marking-on}
+use Rattle.sets.proofs.MarkByteLaws.{MarkedSoFar, marking-on}
 use Rattle.sets.proofs.Walking.{turn-below, turn-back, own-place, start-place, Walk, leftOf, walk-starts, walked, walk-ends}
 
 -- what holds before a row: besides the walk, that the set at its place is in hand
@@ -123,7 +124,7 @@ module _ {which : Which} {given : Given} {others : List ℕ} {n v : ℕ} {sets�
       (small, readable .numbered, omega (arith, row-below, at .carried .walk .kept .long), at .settles .readable (reached .turn) (at .below) .numbered)
 
   pub assigned : {operation : MaskedAssignment} → assigns (form .3) ≡ true → PerformsRow operation (rowIn given row) → AssignedBy operation line
-  assigned h performs = assigned-by performs line (readable .says) (ap assigns (sym line-part) ∙ h)
+  assigned h performs = assigned-by performs line (readable .says .back) (ap assigns (sym line-part) ∙ h)
 
   pub assignment-passed : {operation : MaskedAssignment} {acts : Bool} {next : List VariableSet} {after : WalkedTo} → assigns (form .3) ≡ true
       → PerformsRow operation (rowIn given row) → acts ≡ given .active row
@@ -201,8 +202,8 @@ module _ {given : Given} {others : List ℕ} {n v : ℕ} {sets₀ sets : List Va
     (at : AtRow Required given others n v sets₀ sets reached row form) where
   pub marked-on : {next : List VariableSet} {after : WalkedTo} (varied useful : List VariableSet) {before marks : List ℕ} {byte : ℕ}
       → Passes Required given others n row (form .3) sets next after
-      → Marking (lineIn (given .words) (given .first)) varied useful n before sets marks (reached .turn) → n ≤ length before
-      → byte ≡ byteAt varied useful sets row (line at) → Marking (lineIn (given .words) (given .first)) varied useful n before next (set marks row byte) (after .turn)
+      → MarkedSoFar (lineIn (given .words) (given .first)) varied useful n before sets marks (reached .turn) → n ≤ length before
+      → byte ≡ byteAt varied useful sets row (line at) → MarkedSoFar (lineIn (given .words) (given .first)) varied useful n before next (set marks row byte) (after .turn)
   unfolding rowInTurn settledPoint
   marked-on {next} {after} varied useful {before} {marks} {byte} passes marking room is =
       rw (w .turns)

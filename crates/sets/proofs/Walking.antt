@@ -12,7 +12,8 @@ use Rattle.sheet.specs.declared.kinds.Part.{Part}
 use Rattle.sets.specs.declared.Which.{Which}
 use Rattle.sets.specs.declared.Which.the-variants.{Varied, Useful, Required}
 use Rattle.sets.specs.VariableSets.{VariableSet, empty, has, _∪_, _⊆_}
-use Rattle.sets.specs.Equations.{Equation, starts, pointOf, rightSide, setAt, least}
+use Rattle.sets.specs.Equations.{Equation, starts, pointOf, rightSide}
+use Rattle.sets.specs.Rounds.{setAt, least}
 use Rattle.sets.specs.inner.ProperEquations.{_∈_, Within, Proper}
 use Rattle.sets.specs.inner.RowEquations.{Given, equationIn, rowInTurn, ownPoint, settledPoint}
 use Rattle.sets.specs.inner.RowEquations.{listed, startOf, rowEquations, allEquations}

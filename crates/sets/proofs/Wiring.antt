@@ -1,5 +1,5 @@
 -- With right lines and partners, a sheet's equations hang together as a walk needs it.
-use Prim.Native.Nat.{ℕ, suc, _+_, _*_, _-_, _≤_, _<_}
+use Prim.Native.Nat.{ℕ, suc, _+_, _-_, _≤_, _<_}
 use native.Mathlib.Decide.{ℕ-discrete, decLt}
 use native.Mathlib.Numerals.{add-one}
 use native.Mathlib.Omega.{arith}
@@ -9,10 +9,10 @@ use mathlib.Core.List.{List}
 use lib.ListN.{getD}
 use Rattle.sheet.specs.Tree.{Tree, done, one, fork, again, rows, basic, ifLine, elseLine, endIf, repeat, endRepeat}
 use Rattle.sheet.specs.Rows.{Assignment, Test, SheetLine}
-use Rattle.sheet.specs.Bounds.{limit}
 use Rattle.sheet.specs.inner.Kinds.{partOf, partFor}
 use Rattle.sheet.specs.declared.kinds.Part.{Part}
-use Rattle.sheet.specs.Reading.{rowAt}
+use Rattle.sheet.specs.inner.RowLines.{numberedRow}
+use Rattle.sheet.proofs.LinesByPart.{row-part}
 use Rattle.sets.specs.declared.Which.{Which}
 use Rattle.sets.specs.declared.Which.the-variants.{Varied, Useful, Required}
 use Rattle.sets.specs.VariableSets.{VariableSet, _∪_}
@@ -23,7 +23,6 @@ use Rattle.sets.specs.inner.RowEquations.{rowInTurn, ownPoint, settledPo
 use Rattle.sets.specs.inner.Walks.{placeInTurn, endsOn, endsBack, endsRepeat, asksPartner, inTurn, Behind, FarEnd, Asks, behind, around, Wired}
 use Rattle.sets.proofs.Truths.{never}
 use Rattle.sets.proofs.RowByRow.{LinesAt}
-use Rattle.sheet.proofs.LinesByPart.{row-part}
 
 -- ---- where each row stands in its block
 
@@ -109,10 +108,10 @@ module _ (words : List ℕ) (first : ℕ) (active : ℕ → Bool) (came goes : L
   line p = lineIn words first p
 
   abbrev partAt : ℕ → Part
-  partAt p = partFor (rowAt words (first + p * limit .rowWords) .kind)
+  partAt p = partFor (numberedRow words first p .kind)
 
   part-of : (p : ℕ) (l : SheetLine) → p < n → line p ≡ l → partAt p ≡ partOf l
-  part-of p l h e = sym (row-part (line p) (rowAt words (first + p * limit .rowWords)) (readable p h .says)) ∙ ap partOf e
+  part-of p l h e = sym (row-part (readable p h .says)) ∙ ap partOf e
 
   -- a test of what the row is to the blocks, by the line
   part-told : (test : Part → Bool) (p : ℕ) (l : SheetLine) → p < n → line p ≡ l → test (partAt p) ≡ true → test (partOf l) ≡ true

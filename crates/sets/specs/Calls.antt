@@ -1,13 +1,50 @@
--- What the call mark leaves in the lent lists.
+-- What the call mark answers, and what it leaves in the lent lists.
 use Prim.Native.Nat.{ℕ}
 use mathlib.Core.Path.{_≡_}
 use mathlib.Core.List.{List, _++_}
 use lib.ListN.{drop}
-use Rattle.sheet.specs.Refusals.{Answer, refused, given}
+use Rattle.sheet.specs.Judging.{Answer, refused, given, _>>=_}
 use Rattle.sheet.specs.Tree.{rows}
-use Rattle.sheet.specs.Reading.{Sheet}
+use Rattle.sheet.specs.Sheets.{Sheet}
+use Rattle.sheet.specs.Reading.{read}
+use Rattle.sheet.specs.Answers.{refusalOf, shapeOf}
+use Rattle.sheet.specs.declared.Shape.{Shape}
+use Rattle.sets.specs.declared.Ends.{Ends}
+use Rattle.sets.specs.declared.Marking.{Marking}
+use Rattle.sets.specs.declared.Marking.the-variants as marking
+use Rattle.sets.specs.VariableSets.{VariableSet}
+use Rattle.sets.specs.Rounds.{varied, useful, setsOf}
 use Rattle.sets.specs.MarkBytes.{markBytes}
 use Rattle.sets.specs.Partners.{CameFrom, GoesTo, cameBy, goesBy}
+
+-- ---- the answer
+
+-- of sets at points, those before the first row and after the last
+abbrev pub endsAt : (varied useful : ℕ → VariableSet) (last : ℕ) → Ends
+endsAt varied useful last = record { «useful_first» = useful 0; «varied_last» = varied last }
+
+-- the variables useful before a sheet's first row, and those varied after its last
+unfoldable pub endsOf : Sheet → Ends
+unfolding varied useful rows
+endsOf sheet = endsAt (setsOf sheet .varied) (setsOf sheet .useful) (rows (sheet .body))
+
+-- a sheet's shape, and these two sets
+pub record ShapeAndEnds : Type 0 where
+  pub shape : Shape
+  pub ends : Ends
+
+abbrev pub markingSaid : Marking → Answer ShapeAndEnds
+markingSaid (marking.Refused why) = refused (refusalOf why)
+markingSaid (marking.Marked shape ends) = given (record { shape = shape; ends = ends })
+
+-- of the sheet that the words are, or the refusal
+unfoldable pub markingRead : List ℕ → Answer ShapeAndEnds
+unfolding read shapeOf endsOf
+markingRead words = do
+  sheet ← read words
+  given (record { shape = shapeOf sheet; ends = endsOf sheet })
+
+-- ---- the lists
 
 -- a byte of marks for each row, and each block row's partners both ways
 pub record Lent : Type 0 where

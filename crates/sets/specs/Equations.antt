@@ -1,13 +1,10 @@
 -- "All are least solutions, over sets of variables": sets at the points of a sheet, 01's equations between them, and the least that
 -- satisfy them. Point p lies before row p; the last point lies after the last row.
-use Prim.Native.Nat.{ℕ, zero, suc, _+_, _*_}
+use Prim.Native.Nat.{ℕ, suc, _+_}
 use mathlib.Core.Path.{_≡_}
-use mathlib.Core.Bool.{Bool, true, false, _&&_}
 use mathlib.Core.List.{List, [], _∷_}
-use lib.ListN.{getD, set, replicate}
-use lib.Dec.{eqb}
 use Rattle.sheet.specs.Tree.{Tree, done, one, fork, again, rows}
-use Rattle.sets.specs.VariableSets.{VariableSet, empty, _∪_, _⊆_}
+use Rattle.sets.specs.VariableSets.{VariableSet, _∪_, _⊆_}
 
 pub data Equation : Type 0 where
   -- at a point stands this set
@@ -32,6 +29,11 @@ unfoldable pub Satisfy : List Equation → (ℕ → VariableSet) → Type 0
 unfolding pointOf rightSide
 Satisfy [] at = Unit {0}
 Satisfy (e ∷ es) at = (at (pointOf e) ≡ rightSide e at) × Satisfy es at
+
+-- "least solutions": these sets satisfy the equations, and lie within any that do
+pub record Least (es : List Equation) (at : ℕ → VariableSet) : Type 0 where
+  pub satisfies : Satisfy es at
+  pub within : (other : ℕ → VariableSet) → Satisfy es other → (p : ℕ) → at p ⊆ other p
 
 abbrev pub unchanged : VariableSet → VariableSet
 unchanged s = s
@@ -70,35 +72,3 @@ module _ {B F : Type 0} where
   backward before (again m a k) p rest =
       let end = suc p + rows a in
       backward before k (suc end) (joins (suc end) (suc p) end ∷ backward before a (suc p) (passes (suc p) p unchanged ∷ rest))
-
--- ---- the least sets, by rounds over all equations that only ever add members
-
-abbrev pub setAt : List VariableSet → ℕ → VariableSet
-setAt sets p = getD sets p empty
-
--- "least solutions": these sets satisfy the equations, and lie within any that do
-pub record Least (es : List Equation) (sets : List VariableSet) : Type 0 where
-  pub satisfies : Satisfy es (setAt sets)
-  pub within : (at : ℕ → VariableSet) → Satisfy es at → (p : ℕ) → setAt sets p ⊆ at p
-
-unfoldable pub round : List Equation → List VariableSet → List VariableSet
-unfolding pointOf rightSide
-round [] sets = sets
-round (e ∷ es) sets = round es (set sets (pointOf e) (setAt sets (pointOf e) ∪ rightSide e (setAt sets)))
-
-unfoldable pub same : List ℕ → List ℕ → Bool
-same [] [] = true
-same [] (y ∷ ys) = false
-same (x ∷ xs) [] = false
-same (x ∷ xs) (y ∷ ys) = eqb x y && same xs ys
-
--- rounds until one adds nothing
-unfoldable pub settled : (fuel : ℕ) → List Equation → List VariableSet → List VariableSet
-unfolding round same
-settled zero es sets = sets
-settled (suc n) es sets = let next = round es sets in elim (same sets next) [ true ↦ sets | false ↦ settled n es next ]
-
--- Every round but the last adds a member, and so many points hold at most so many: the fuel suffices.
-unfoldable pub least : (variables points : ℕ) → List Equation → List VariableSet
-unfolding settled
-least variables points es = settled (suc (points * variables)) es (replicate points empty)

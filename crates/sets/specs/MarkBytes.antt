@@ -4,9 +4,10 @@ use mathlib.Core.Bool.{Bool, cond}
 use mathlib.Core.List.{List, [], map}
 use lib.Dec.{eqb}
 use Rattle.sheet.specs.Tree.{Line, flat, basic, ifLine, elseLine, endIf, repeat, endRepeat}
-use Rattle.sheet.specs.Reading.{Sheet}
+use Rattle.sheet.specs.Sheets.{Sheet}
 use Rattle.sets.specs.Transfers.{Activity}
-use Rattle.sets.specs.Marks.{Marked, MarkedTest, marked}
+use Rattle.sets.specs.Marks.{Marked, MarkedTest}
+use Rattle.sets.specs.Rounds.{marked}
 
 -- what each mark counts in the byte
 pub record Weights : Type 0 where

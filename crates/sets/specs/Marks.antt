@@ -1,18 +1,14 @@
--- The three sets of a sheet, and its body with what they say of each assignment.
+-- The equations of a sheet's three sets, what it is for sets to be the least that satisfy them, and the sheet's body with what they say of each
+-- assignment.
 use Prim.Native.Nat.{ℕ, suc, _+_}
 use mathlib.Core.Bool.{Bool}
 use mathlib.Core.List.{List, [], _∷_}
 use Rattle.sheet.specs.Tree.{Tree, done, one, fork, again, rows, RowNumber}
 use Rattle.sheet.specs.Rows.{Assignment, Test, isIndependent, isDependent}
-use Rattle.sheet.specs.Reading.{Sheet, variablesOf}
+use Rattle.sheet.specs.Sheets.{Sheet}
 use Rattle.sets.specs.VariableSets.{VariableSet, empty, places}
-use Rattle.sets.specs.Equations.{Equation, starts, forward, backward, least, setAt}
+use Rattle.sets.specs.Equations.{Equation, starts, forward, backward, Least}
 use Rattle.sets.specs.Transfers.{variedAfter, usefulBefore, Activity, activityOf, recordedBy, requiredAfter}
-
--- the points of a sheet: one before each row and one after the last
-unfoldable pub points : Sheet → ℕ
-unfolding rows
-points sheet = suc (rows (sheet .body))
 
 -- "Varied: before the sheet, the independents."
 unfoldable pub variedEquations : Sheet → List Equation
@@ -25,28 +21,28 @@ unfolding places backward usefulBefore rows
 usefulEquations sheet =
     starts (rows (sheet .body)) (places isDependent (sheet .roles)) ∷ backward (λ p. usefulBefore) (sheet .body) 0 []
 
-unfoldable pub varied : Sheet → List VariableSet
-unfolding variedEquations points least
-varied sheet = least (variablesOf sheet) (points sheet) (variedEquations sheet)
-
-unfoldable pub useful : Sheet → List VariableSet
-unfolding usefulEquations points least
-useful sheet = least (variablesOf sheet) (points sheet) (usefulEquations sheet)
-
--- what the first two sets say of row p, an assignment
-unfoldable pub activityAt : (varied useful : List VariableSet) → ℕ → Assignment → Activity
+-- what the first two sets say of row p, an assignment: varied before it, useful after it
+unfoldable pub activityAt : (varied useful : ℕ → VariableSet) → ℕ → Assignment → Activity
 unfolding activityOf
-activityAt varied useful p b = activityOf b (setAt varied p) (setAt useful (suc p))
+activityAt varied useful p b = activityOf b (varied p) (useful (suc p))
 
 -- "Required: empty before the sheet. .. Branches join by union; repeat as for varied."
-unfoldable pub requiredEquations : Sheet → (varied useful : List VariableSet) → List Equation
+unfoldable pub requiredEquations : Sheet → (varied useful : ℕ → VariableSet) → List Equation
 unfolding forward activityAt requiredAfter
 requiredEquations sheet varied useful =
     starts 0 empty ∷ forward (λ p b. requiredAfter b (activityAt varied useful p b)) (sheet .body) 0 []
 
-unfoldable pub required : Sheet → List VariableSet
-unfolding varied useful requiredEquations points least
-required sheet = least (variablesOf sheet) (points sheet) (requiredEquations sheet (varied sheet) (useful sheet))
+-- the three sets at every point
+pub record Sets : Type 0 where
+  pub varied : ℕ → VariableSet
+  pub useful : ℕ → VariableSet
+  pub required : ℕ → VariableSet
+
+-- "The varied, useful and to-be-recorded sets are the least that satisfy 01's equations"
+pub record LeastSets (sheet : Sheet) (sets : Sets) : Type 0 where
+  pub varies : Least (variedEquations sheet) (sets .varied)
+  pub isUseful : Least (usefulEquations sheet) (sets .useful)
+  pub isRequired : Least (requiredEquations sheet (sets .varied) (sets .useful)) (sets .required)
 
 -- ---- the marked body
 
@@ -73,12 +69,14 @@ numbered mark (fork f a b k) p =
     fork (record { row = record { index = p }; test = f }) (numbered mark a (suc p)) (numbered mark b (suc split)) (numbered mark k (suc end))
 numbered mark (again m a k) p = again m (numbered mark a (suc p)) (numbered mark k (suc (suc p + rows a)))
 
-unfoldable pub markBy : (varied useful required : List VariableSet) → ℕ → Assignment → Marked
+-- row p, an assignment, as the sets at its points mark it
+unfoldable pub markBy : Sets → ℕ → Assignment → Marked
 unfolding activityAt recordedBy
-markBy varied useful required p b =
-    let known = activityAt varied useful p b in
-    record { row = record { index = p }; assignment = b; known = known; saved = recordedBy b known (setAt required p) }
+markBy sets p b =
+    let known = activityAt (sets .varied) (sets .useful) p b in
+    record { row = record { index = p }; assignment = b; known = known; saved = recordedBy b known (sets .required p) }
 
-unfoldable pub marked : Sheet → Tree Marked MarkedTest
-unfolding varied useful required numbered markBy
-marked sheet = numbered (markBy (varied sheet) (useful sheet) (required sheet)) (sheet .body) 0
+-- the sheet's body, every assignment marked
+unfoldable pub markedBy : Sets → Sheet → Tree Marked MarkedTest
+unfolding numbered markBy
+markedBy sets sheet = numbered (markBy sets) (sheet .body) 0

@@ -3,7 +3,7 @@ ghost use mathlib.Core.Path.{_≡_};
 ghost use Prim.Native.Nat.{suc, _+_, _≤_, _<_};
 ghost use lib.ListN.{length};
 ghost use Rattle.sets.specs.inner.Operations.{TargetSmall, Gives};
-ghost use Rattle.sets.specs.Equations.{setAt};
+ghost use Rattle.sets.specs.Rounds.{setAt};
 ghost use Rattle.sets.specs.MarkBytes.{weight, weightIf, bitOf};
 ghost use Rattle.sets.specs.inner.RowBytes.{byteFor};
 use super::ACTIVE;

@@ -3,7 +3,7 @@
 ghost use mathlib.Core.Path.{_≡_};
 ghost use Prim.Native.Nat.{_<_};
 ghost use lib.ListN.{getD, set, length};
-ghost use Rattle.sheet.specs.Bounds.{wordValues};
+ghost use Rattle.sheet.specs.inner.Words.{wordValues};
 ghost use Rattle.sets.specs.inner.RowEquations.{AllReadable, lineIn};
 ghost use Rattle.sets.specs.inner.PartnerPass.{found, paired, foundBy, Findable, Listed, PartnersFound};
 use super::Extent;

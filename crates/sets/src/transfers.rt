@@ -1,9 +1,10 @@
 // An assignment as the code has it: what it reads, and what it does to each of the three sets.
 ghost use mathlib.Core.Path.{_≡_};
 ghost use Prim.Native.Nat.{_<_};
+ghost use Rattle.sheet.specs.inner.RowLines.{sourceOf, numberedRow};
 ghost use Rattle.sets.specs.Transfers.{anyRead, reads, variedAfter, usefulBefore, activityOf, adjointUse, requiredAfter, recordedBy};
-ghost use Rattle.sets.specs.inner.Operations.{maskBits, InMask, namedBy, sourceOf, PerformsRow, TargetSmall, Gives, GivesKnown};
-ghost use Rattle.sets.specs.inner.RowEquations.{numberedRow, turnOf, RowThere, Formed};
+ghost use Rattle.sets.specs.inner.Operations.{maskBits, InMask, namedBy, PerformsRow, TargetSmall, Gives, GivesKnown};
+ghost use Rattle.sets.specs.inner.RowEquations.{turnOf, RowThere, Formed};
 use super::Which;
 use super::masks;
 use sheet::RowNumber;

@@ -2,10 +2,10 @@
 ghost use mathlib.Core.Path.{_≡_};
 ghost use Prim.Native.Nat.{suc, _+_, _≤_, _<_};
 ghost use lib.ListN.{length};
-ghost use Rattle.sheet.specs.Bounds.{wordValues};
+ghost use Rattle.sheet.specs.inner.Words.{wordValues};
 ghost use Rattle.sheet.specs.Rows.{Assignment};
 ghost use Rattle.sets.specs.declared.Which.the-variants.{Varied, Useful, Required};
-ghost use Rattle.sets.specs.Equations.{least};
+ghost use Rattle.sets.specs.Rounds.{least};
 ghost use Rattle.sets.specs.inner.Operations.{maskBits, TargetSmall, Performs};
 ghost use Rattle.sets.specs.inner.RowEquations.{givenBy, noneActive, activeBy, lineIn, turnOf, rowInTurn, settledPoint};
 ghost use Rattle.sets.specs.inner.RowEquations.{startOf, allEquations, hasRole, seedIn};

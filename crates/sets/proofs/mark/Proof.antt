@@ -1,9 +1,9 @@
--- `sets::mark` meets its contract: the reader's answer, and by it what is left in the lent lists.
+-- `sets::mark` meets its contract: the reader's answer, and by it the two sets and what is left in the lent lists.
 use borrow.Author.Needs.{needs}
 use mathlib.Core.Path.{refl, sym, ap, _∙_}
 use Rattle.sheet.specs.Answers.{said}
 use Rattle.sheet.proofs.ReaderLaws.{refused-read}
-use Rattle.sets.proofs.CallLaws.{accepted-laid, said-by}
+use Rattle.sets.proofs.CallLaws.{accepted-laid, refused-marking, accepted-marking, said-by}
 use Rattle.sets.proofs.mark.Statement.{statement}
 use Rattle.sets.proofs.mark.Tie as tie
 
@@ -23,15 +23,16 @@ mark-accepted-requires c κs =
 returns : tie.Need-returns
 returns c =
     let contract = c .before .before .before .read-sheet .ensures in
-    let is = c .before .why .given .1 in
-    (sym (ap said is) ∙ contract, said-by _ _ _ _ (refused-read _ _ _ contract is) refl)
+    let read = refused-read _ _ _ contract (c .before .why .given .1) in
+    (refused-marking _ (c .before .why .given .0 .0) read, said-by _ _ _ _ read refl)
 
 returns-2 : tie.Need-returns-2
 returns-2 c =
     let contract = c .before .before .before .before .before .before .before .read-sheet .ensures in
     let is = c .before .before .before .before .before .shape .given .1 in
     let laid = accepted-laid _ _ _ contract is in
-    (sym (ap said is) ∙ contract, said-by _ _ _ _ (laid .accepted) (c .mark-accepted .ensures (laid .sheet) (laid .accepted)))
+    let left = c .mark-accepted .ensures (laid .sheet) (laid .accepted) in
+    (accepted-marking _ _ _ _ (laid .accepted) (sym (ap said is) ∙ contract) (left .1), said-by _ _ _ _ (laid .accepted) (left .0))
 
 pub mark-spec : {M : Type 1} → statement M
 mark-spec =

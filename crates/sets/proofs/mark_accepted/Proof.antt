@@ -49,7 +49,10 @@ returns c =
     let laid = start .pre in
     let few = few-points laid in
     let left = c .before .before .before .settle-and-mark .ensures in
-    sheet-marks laid _ _ _ _ _ _ _ _ _ (omega arith) (omega arith) (omega arith) (left .0) (left .1)
+    λ sheet accepted. (
+      sheet-marks laid _ _ _ _ _ _ _ _ _ (omega arith) (omega arith) (omega arith) (left .0) (left .1) sheet accepted,
+      left .2 sheet accepted,
+    )
 
 pub mark-accepted-spec : {M : Type 1} → statement M
 mark-accepted-spec =

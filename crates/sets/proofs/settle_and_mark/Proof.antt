@@ -1,5 +1,5 @@
 -- `sets::settle_and_mark` meets its contract: with the partners found the code's equations are the definitions', and so are the sets.
-use Prim.Native.Nat.{suc, _≤_}
+use Prim.Native.Nat.{suc, _≤_, _<_}
 use borrow.Author.Needs.{needs}
 use native.Mathlib.Omega.{arith}
 use denote.Ref.{now}
@@ -8,7 +8,7 @@ use Rattle.sets.specs.inner.Laid.{Laid}
 use Rattle.sets.proofs.Seeds.{clear-length}
 use Rattle.sets.proofs.TopsWithin.{findable}
 use Rattle.sets.proofs.SheetMarked.{facts, PartnersAre, partners-right, settles-varied, settles-useful, settles-required}
-use Rattle.sets.proofs.SheetMarked.{varied-settled, useful-settled, required-settled, all-marked}
+use Rattle.sets.proofs.SheetMarked.{varied-settled, useful-settled, required-settled, all-marked, ends-found}
 use Rattle.sets.proofs.settle_and_mark.Statement.{statement}
 use Rattle.sets.proofs.settle_and_mark.Tie as tie
 
@@ -25,6 +25,9 @@ atVaried c = c .before .before .before .before .before .before
 
 abbrev atUseful : tie.After-settle-required → tie.After-settle-useful
 atUseful c = c .before .before .before .before .before .before .before .before .before
+
+abbrev atRequired : tie.After-ends-of → tie.After-settle-required
+atRequired c = c .before .before .before .before .before .before .before
 
 -- ---- what was handed over, and the partners that were found
 
@@ -43,6 +46,18 @@ came-room c = omega (arith, c .find-partners .kept .1 .1 .0, atStart c .pre .1 .
 
 goes-room : (c : tie.After-find-partners) → atStart c .args .rows ≤ length (c .find-partners .last .1 .1 .1 .0)
 goes-room c = omega (arith, c .find-partners .kept .1 .1 .1 .0, atStart c .pre .1 .goesRoom)
+
+-- ---- a set at every point
+
+varied-long : (c : tie.After-settle-varied) → atStart (atPartners c) .args .rows < length (c .settle-varied .last .1 .1 .1 .1 .0)
+varied-long c =
+    let start = atStart (atPartners c) in
+    omega (arith, c .settle-varied .kept .1 .1 .1 .1 .0, clear-length (suc (start .args .rows)) _ (start .pre .1 .variedClear))
+
+useful-long : (c : tie.After-settle-useful) → atStart (atPartners (atVaried c)) .args .rows < length (c .settle-useful .last .1 .1 .1 .1 .0)
+useful-long c =
+    let start = atStart (atPartners (atVaried c)) in
+    omega (arith, c .settle-useful .kept .1 .1 .1 .1 .0, clear-length (suc (start .args .rows)) _ (start .pre .1 .usefulClear))
 
 -- ---- the needs
 
@@ -73,13 +88,18 @@ settle-required-requires c κs =
     let start = atStart found in (
       settles-required (handed start) (partners-are found) (came-room found) (goes-room found) (first .settle-varied .last .1 .1 .1 .1 .0)
           (second .settle-useful .last .1 .1 .1 .1 .0) _ (start .pre .1 .requiredClear),
-      omega (arith, first .settle-varied .kept .1 .1 .1 .1 .0, clear-length (suc (start .args .rows)) _ (start .pre .1 .variedClear)),
-      omega (arith, second .settle-useful .kept .1 .1 .1 .1 .0, clear-length (suc (start .args .rows)) _ (start .pre .1 .usefulClear)),
+      varied-long first,
+      useful-long second,
       start .pre .1 .marksRoom,
     )
 
+ends-of-requires : tie.Need-ends-of-requires
+ends-of-requires c κs =
+    let second = atUseful (c .before .before .before .before .before .before) in
+    (varied-long (atVaried second), omega (arith, useful-long second))
+
 same-length : tie.Need-same-length
-same-length c = search needs
+same-length c = atPartners (atVaried (atUseful (atRequired c))) .find-partners .kept .1 .1 .0
 
 same-length-2 : tie.Need-same-length-2
 same-length-2 c = search needs
@@ -98,7 +118,7 @@ same-length-6 c = search needs
 
 returns : tie.Need-returns
 returns c =
-    let third = c .before .before .before .before in
+    let third = atRequired c in
     let second = atUseful third in
     let first = atVaried second in
     let found = atPartners first in
@@ -106,8 +126,11 @@ returns c =
     let right = partners-are found in
     let vs = varied-settled laid _ _ (right .cameFrom) (first .settle-varied .ensures) in
     let us = useful-settled laid _ _ (right .goesTo) (second .settle-useful .ensures) in
-    let rs = required-settled laid _ _ _ _ (right .cameFrom) vs us (third .settle-required .ensures .0) in
-    (all-marked laid _ _ _ _ _ vs us rs (third .settle-required .ensures .1), found .find-partners .ensures)
+    let rs = required-settled laid _ _ _ _ (right .cameFrom) vs us (third .settle-required .ensures .0) in (
+      all-marked laid _ _ _ _ _ vs us rs (third .settle-required .ensures .1),
+      found .find-partners .ensures,
+      ends-found laid _ _ _ vs us (c .ends-of .ensures),
+    )
 
 pub settle-and-mark-spec : {M : Type 1} → statement M
 settle-and-mark-spec =
@@ -117,6 +140,7 @@ settle-and-mark-spec =
     settle-varied-requires
     settle-useful-requires
     settle-required-requires
+    ends-of-requires
     same-length
     same-length-2
     same-length-3

@@ -4,11 +4,14 @@ use mathlib.Core.Path.{_≡_}
 use mathlib.Core.List.{List}
 use lib.ListN.{length, getD, replicate}
 use Rattle.sheet.specs.Tree.{rows}
-use Rattle.sheet.specs.Refusals.{given}
-use Rattle.sheet.specs.Reading.{Sheet, read}
+use Rattle.sheet.specs.Judging.{given}
+use Rattle.sheet.specs.Sheets.{Sheet}
+use Rattle.sheet.specs.Reading.{read}
 use Rattle.sets.specs.VariableSets.{VariableSet, empty}
-use Rattle.sets.specs.Marks.{varied, useful, required}
+use Rattle.sets.specs.Rounds.{varied, useful, required}
 use Rattle.sets.specs.MarkBytes.{markBytes}
+use Rattle.sets.specs.Calls.{endsOf}
+use Rattle.sets.specs.declared.Ends.{Ends}
 use Rattle.sets.specs.inner.RowBytes.{written}
 
 pub record Laid (words : List ℕ) (variables first count : ℕ) : Type 0 where
@@ -29,6 +32,9 @@ pub record MarksLeft (sheet : Sheet) (count : ℕ) (sets₁ sets₂ sets₃ : Li
 abbrev pub AllMarked : (words : List ℕ) (count : ℕ) (sets₁ sets₂ sets₃ : List VariableSet) (before after : List ℕ) → Type 0
 AllMarked words count sets₁ sets₂ sets₃ before after =
     (sheet : Sheet) → read words ≡ given sheet → MarksLeft sheet count sets₁ sets₂ sets₃ before after
+
+abbrev pub EndsFound : (words : List ℕ) → Ends → Type 0
+EndsFound words ends = (sheet : Sheet) → read words ≡ given sheet → ends ≡ endsOf sheet
 
 -- what is lent: room for every row's partners and marks, and an empty set at every point
 pub record ClearRoom (count came goes : ℕ) (sets₁ sets₂ sets₃ : List VariableSet) (marks : ℕ) : Type 0 where

@@ -4,7 +4,8 @@ use mathlib.Core.Path.{_≡_}
 use mathlib.Core.Bool.{Bool, not, cond}
 use lib.Bits.{bitAnd}
 use lib.Dec.{eqb}
-use Rattle.sheet.specs.Rows.{Assignment, _≔_, Source, Row, rowOfAssignment}
+use Rattle.sheet.specs.inner.RowLines.{sourceOf}
+use Rattle.sheet.specs.Rows.{Assignment, targetOf, Row, rowOfAssignment}
 use Rattle.sheet.specs.inner.Kinds.{namesVariable}
 use Rattle.sheet.specs.declared.kinds.Slot.{Slot}
 use Rattle.sets.specs.declared.transfers.MaskedAssignment.{MaskedAssignment}
@@ -28,12 +29,6 @@ namedBy slot word = cond (namesVariable slot) (single word) empty
 -- two sets have a variable in common
 abbrev pub meets : VariableSet → VariableSet → Bool
 meets s t = not (eqb (bitAnd s t) 0)
-
-abbrev pub targetOf : Assignment → ℕ
-targetOf (d ≔ source) = d
-
-abbrev pub sourceOf : Assignment → Source
-sourceOf (d ≔ source) = source
 
 -- the operation is this assignment's
 pub record Performs (operation : MaskedAssignment) (b : Assignment) : Type 0 where

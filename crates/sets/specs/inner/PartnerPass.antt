@@ -3,7 +3,7 @@ use Prim.Native.Nat.{ℕ, zero, suc, _≤_, _<_}
 use mathlib.Core.Path.{_≡_}
 use mathlib.Core.List.{List}
 use lib.ListN.{length, getD, set}
-use Rattle.sheet.specs.Bounds.{wordValues}
+use Rattle.sheet.specs.inner.Words.{wordValues}
 use Rattle.sheet.specs.Rows.{SheetLine}
 use Rattle.sheet.specs.inner.Kinds.{partOf}
 use Rattle.sheet.specs.declared.kinds.Part.{Part}

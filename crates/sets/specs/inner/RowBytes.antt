@@ -7,12 +7,13 @@ use Rattle.sheet.specs.Rows.{Assignment, SheetLine}
 use Rattle.sets.specs.VariableSets.{VariableSet}
 use Rattle.sets.specs.Transfers.{activityOf, recordedBy}
 use Rattle.sets.specs.Marks.{markBy}
+use Rattle.sets.specs.Rounds.{setsIn}
 use Rattle.sets.specs.MarkBytes.{byteBy}
 
 -- the byte of a row with this line
 unfoldable pub byteAt : (varied useful required : List VariableSet) → ℕ → SheetLine → ℕ
 unfolding markBy
-byteAt varied useful required p (basic b) = let m = markBy varied useful required p b in byteBy (m .known) (m .saved)
+byteAt varied useful required p (basic b) = let m = markBy (setsIn varied useful required) p b in byteBy (m .known) (m .saved)
 byteAt varied useful required p (ifLine f) = 0
 byteAt varied useful required p elseLine = 0
 byteAt varied useful required p endIf = 0

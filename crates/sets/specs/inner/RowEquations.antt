@@ -5,26 +5,24 @@ use mathlib.Core.Path.{_≡_}
 use mathlib.Core.Bool.{Bool, true, false, cond}
 use mathlib.Core.List.{List, [], _∷_}
 use lib.ListN.{getD, take, drop, length as List·length}
-use Rattle.sheet.specs.Bounds.{limit, wordValues}
+use Rattle.sheet.specs.inner.Words.{wordValues}
+use Rattle.sheet.specs.Bounds.{limit}
 use Rattle.sheet.specs.Tree.{basic, ifLine, elseLine, endIf, repeat, endRepeat}
-use Rattle.sheet.specs.Rows.{Assignment, SheetLine, Row, sheetRowOf, kinds, isIndependent, isDependent}
-use Rattle.sheet.specs.inner.RowLines.{lineOfRow}
+use Rattle.sheet.specs.Rows.{Assignment, SheetLine, Row, kinds, isIndependent, isDependent}
+use Rattle.sheet.specs.inner.RowLines.{lineOfRow, SaysLine, numberedRow}
 use Rattle.sheet.specs.inner.Kinds.{assigns, formFor, partFor}
-use Rattle.sheet.specs.Reading.{rowAt}
 use Rattle.sheet.specs.declared.kinds.Form.{Form}
 use Rattle.sheet.specs.declared.kinds.Part.{Part}
 use Rattle.sheet.specs.declared.kinds.Part.the-variants as part
 use Rattle.sets.specs.declared.Which.{Which}
 use Rattle.sets.specs.declared.Which.the-variants.{Varied, Useful, Required}
 use Rattle.sets.specs.VariableSets.{VariableSet, places, _∪_}
-use Rattle.sets.specs.Equations.{Equation, starts, passes, joins, unchanged, setAt}
+use Rattle.sets.specs.Equations.{Equation, starts, passes, joins, unchanged}
+use Rattle.sets.specs.Rounds.{setAt}
 use Rattle.sets.specs.Transfers.{variedAfter, usefulBefore, requiredAfter, activityOf}
 use Rattle.sets.specs.inner.Operations.{InMask}
 
--- a sheet's row by its number, and its line
-abbrev pub numberedRow : List ℕ → (first row : ℕ) → Row
-numberedRow words first p = rowAt words (first + p * limit .rowWords)
-
+-- the line of a sheet's row, by its number
 abbrev pub lineIn : List ℕ → (first row : ℕ) → SheetLine
 lineIn words first p = lineOfRow (numberedRow words first p)
 
@@ -175,7 +173,7 @@ RowThere words first p = first + (p + 1) * limit .rowWords ≤ List·length word
 
 -- the words of a row are there, say its line, and name no variable or constant beyond a mask's bits
 pub record RowReadable (words : List ℕ) (first row : ℕ) : Type 0 where
-  pub says : let r = numberedRow words first row in sheetRowOf (lineOfRow r) ≡ r
+  pub says : SaysLine (numberedRow words first row)
   pub small : FitsMask (numberedRow words first row)
   pub numbered : row < wordValues
   pub there : RowThere words first row

@@ -8,16 +8,17 @@ use lib.ListN.{getD, set, replicate, length as List·length}
 use Rattle.sheet.specs.inner.Kinds.{partFor}
 use Rattle.sheet.specs.declared.kinds.Part.{Part}
 use Rattle.sheet.specs.declared.kinds.Part.the-variants as part
+use Rattle.sheet.specs.inner.Words.{wordValues}
 use Rattle.sets.specs.declared.walk.WalkedTo.{WalkedTo}
 use Rattle.sets.specs.declared.Which.{Which}
 use Rattle.sets.specs.declared.Which.the-variants.{Varied, Useful, Required}
 use Rattle.sets.specs.VariableSets.{VariableSet, empty, _∪_}
-use Rattle.sets.specs.Equations.{Equation, joins, rightSide, setAt}
+use Rattle.sets.specs.Equations.{Equation, joins, rightSide}
+use Rattle.sets.specs.Rounds.{setAt}
 use Rattle.sets.specs.inner.ProperEquations.{Proper}
 use Rattle.sets.specs.inner.Operations.{maskBits}
 use Rattle.sets.specs.inner.RowEquations.{Given, rowIn, equationIn, rowInTurn, ownPoint, settledPoint, splits, joinsBy, blockSide}
 use Rattle.sets.specs.inner.RowEquations.{AllReadable, allEquations, seedIn}
-use Rattle.sheet.specs.Bounds.{wordValues}
 
 -- the point where the i-th row in turn takes its own set
 unfoldable pub placeInTurn : Which → (rows turn : ℕ) → ℕ

@@ -2,7 +2,7 @@
 use borrow.Author.Needs.{needs}
 use denote.Ref.{now}
 use mathlib.Core.Path.{ap, _∙_}
-use Rattle.sets.specs.Equations.{setAt}
+use Rattle.sets.specs.Rounds.{setAt}
 use Rattle.sets.proofs.equations.own_set.Statement.{statement}
 use Rattle.sets.proofs.equations.own_set.Tie as tie
 

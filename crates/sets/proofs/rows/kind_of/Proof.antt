@@ -2,8 +2,8 @@
 use borrow.Author.Needs.{needs}
 use mathlib.Core.Path.{refl}
 use native.Mathlib.Omega.{arith}
-use Rattle.sheet.specs.Reading.{rowAt}
-use Rattle.sets.proofs.SheetRows.{kind-there}
+use Rattle.sheet.specs.Sheets.{rowAt}
+use Rattle.sheet.proofs.RowsByKind.{row-kind}
 use Rattle.sets.proofs.rows.kind_of.Statement.{statement}
 use Rattle.sets.proofs.rows.kind_of.Tie as tie
 
@@ -21,11 +21,11 @@ shared-slice-read-result c = search needs
 
 cast-result : tie.Need-cast-result
 unfolding rowAt
-cast-result c = omega (arith, kind-there (c .before .pre))
+cast-result c = omega (arith, row-kind (c .before .pre .says))
 
 returns : tie.Need-returns
 unfolding rowAt
-returns c = record { is = refl; inTable = kind-there (c .before .pre) }
+returns c = record { is = refl; inTable = row-kind (c .before .pre .says) }
 
 pub kind-of-spec : {M : Type 1} → statement M
 kind-of-spec =

@@ -2,7 +2,7 @@
 use borrow.Author.Needs.{needs}
 use mathlib.Core.Path.{refl}
 use native.Mathlib.Omega.{arith}
-use Rattle.sheet.specs.Reading.{rowAt}
+use Rattle.sheet.specs.Sheets.{rowAt}
 use Rattle.sets.proofs.OperationLaws.{row-performed}
 use Rattle.sets.proofs.transfers.operation_at.Statement.{statement}
 use Rattle.sets.proofs.transfers.operation_at.Tie as tie

@@ -6,7 +6,7 @@ use denote.Ref.{now}
 use lib.Dec.{eqb}
 use lib.ListN.{getD}
 use Rattle.sets.specs.VariableSets.{_∪_}
-use Rattle.sets.specs.Equations.{setAt}
+use Rattle.sets.specs.Rounds.{setAt}
 use Rattle.sets.specs.inner.RowEquations.{settledPoint}
 use Rattle.sets.proofs.Truths.{never}
 use Rattle.sets.proofs.RightSides.{settled-below}

@@ -6,7 +6,7 @@ use mathlib.Core.Path.{refl, sym, ap, _∙_}
 use denote.Ref.{now}
 use lib.ListN.{length}
 use Rattle.sets.specs.VariableSets.{_∪_}
-use Rattle.sets.specs.Equations.{setAt}
+use Rattle.sets.specs.Rounds.{setAt}
 use Rattle.sets.specs.inner.RowEquations.{ownPoint}
 use Rattle.sets.specs.inner.Walks.{onward, backward}
 use Rattle.sets.proofs.RightSides.{own-below, settled-below}

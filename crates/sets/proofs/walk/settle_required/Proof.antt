@@ -8,12 +8,12 @@ use denote.Ref.{now}
 use lib.ListN.{length}
 use Rattle.sheet.specs.inner.Kinds.{assigns}
 use Rattle.sheet.specs.declared.kinds.Form.{Form}
+use Rattle.sheet.proofs.PartsRead.{formIn}
 use Rattle.sets.specs.declared.Which.the-variants.{Required}
 use Rattle.sets.specs.MarkBytes.{weight, bitOf}
 use Rattle.sets.specs.inner.RowBytes.{byteAt}
 use Rattle.sets.specs.inner.RowEquations.{givenBy, activeBy, lineIn, ownPoint}
-use Rattle.sets.proofs.MarkByteLaws.{no-byte, assigned-byte, byte-active, Marking, marking-starts, marking-ends}
-use Rattle.sheet.proofs.PartsRead.{formIn}
+use Rattle.sets.proofs.MarkByteLaws.{no-byte, assigned-byte, byte-active, MarkedSoFar, marking-starts, marking-ends}
 use Rattle.sets.proofs.SheetRows.{form-read}
 use Rattle.sets.proofs.Walking.{leftOf}
 use Rattle.sets.proofs.WalkNeeds.{Carried, points, begin-there, begun, row-there, ended, AtRow, row-below, line-part, in-hand, operation-there, assignment-there, assigned}
@@ -24,7 +24,7 @@ use Rattle.sets.proofs.walk.settle_required.Tie as tie
 abbrev Inv-loop : tie.InvT-loop
 Inv-loop words extent varied useful partners others sets₀ marks₀ forms reached₀ sets marks reached =
     Carried Required (givenBy words (extent .first) (activeBy words (extent .first) varied useful) partners) others (extent .rows) (extent .variables) sets reached
-    × Marking (lineIn words (extent .first)) varied useful (extent .rows) marks₀ sets marks (reached .turn)
+    × MarkedSoFar (lineIn words (extent .first)) varied useful (extent .rows) marks₀ sets marks (reached .turn)
 
 abbrev μ-loop : tie.MeasureT-loop
 μ-loop words extent varied useful partners others sets₀ marks₀ forms reached₀ sets marks reached = leftOf (extent .variables) (extent .rows) sets (reached .turn)
