@@ -2,14 +2,16 @@
 use Prim.Native.Nat.{ℕ}
 use mathlib.Core.Path.{_≡_, ap, subst}
 use mathlib.Core.List.{List}
-use Rattle.sheet.specs.Refusals.{Refusal, refused, numberOf, placeOf, numberIn, placeIn}
+use Rattle.sheet.specs.Judging.{refused, numberIn, placeIn}
+use Rattle.sheet.specs.Refusals.{Refusal, numberOf, placeOf}
 use Rattle.sheet.specs.Reading.{read}
 use Rattle.sheet.specs.Answers.{refusalOf, shapeOf}
 use Rattle.sheet.specs.declared.No.{No}
 use Rattle.table.specs.declared.Plan.{Plan}
 use Rattle.table.specs.declared.Planned.{Planned}
 use Rattle.table.specs.declared.Planned.the-variants as planned
-use Rattle.table.specs.Calls.{Checked, noSizes, sizesIn, check}
+use Rattle.table.specs.Sizes.{Checked, noSizes}
+use Rattle.table.specs.Calls.{sizesIn, check}
 use Rattle.table.specs.inner.Plans.{PlanMade, PlanSays}
 
 -- ---- by the case of the plan

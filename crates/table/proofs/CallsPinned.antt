@@ -3,22 +3,23 @@ use Prim.Native.Nat.{ℕ}
 use mathlib.Core.Path.{_≡_, sym, ap, _∙_}
 use mathlib.Core.List.{List}
 use native.Mathlib.Omega.{arith}
-use Rattle.sheet.specs.Refusals.{Answer as Judged, refused, given}
-use Rattle.sheet.specs.Reading.{Sheet, variablesOf, read}
+use Rattle.sheet.specs.Judging.{Answer as Judged, refused, given}
+use Rattle.sheet.specs.Sheets.{Sheet, variablesOf}
+use Rattle.sheet.specs.Reading.{read}
 use Rattle.sheet.specs.Answers.{refusalOf, shapeOf}
 use Rattle.sheet.specs.declared.Shape.{Shape}
-use Rattle.sheet.proofs.ReadingParts.{same-given}
 use Rattle.sheet.specs.declared.Reading.the-variants as reading
+use Rattle.sheet.proofs.ReadingParts.{same-given}
 use Rattle.sheet.proofs.ReaderLaws.{same-said}
-use Rattle.sets.specs.Marks.{marked}
+use Rattle.sets.specs.Rounds.{marked}
 use Rattle.sets.specs.Calls.{Lent, MarksSaid}
 use Rattle.sets.proofs.CallLaws.{same-lent}
 use Rattle.table.specs.declared.Checked as declared
 use Rattle.table.specs.declared.Plan.{Plan}
 use Rattle.table.specs.declared.Planned.{Planned}
 use Rattle.table.specs.declared.Planned.the-variants as planned
-use Rattle.table.specs.Sizes.{tableRows, valuesNeeded, turnsNeeded}
-use Rattle.table.specs.Calls.{Checked, checkedSaid, check}
+use Rattle.table.specs.Sizes.{tableRows, valuesNeeded, turnsNeeded, Checked, checkedSaid}
+use Rattle.table.specs.Calls.{check}
 use Rattle.table.specs.inner.Plans.{PlanMade, PlanSays}
 
 -- the answer that says these sizes

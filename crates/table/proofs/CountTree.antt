@@ -7,15 +7,15 @@ use lib.ListN.{length, length-append, getD}
 use native.Mathlib.Omega.{arith}
 use Rattle.sheet.specs.Tree.{Tree, done, one, fork, again, basic, ifLine, elseLine, endIf, repeat, endRepeat, flat, rows}
 use Rattle.sheet.specs.Rows.{Assignment, Test, SheetLine, sheetRowOf, treeRows}
-use Rattle.sheet.specs.inner.RowLines.{lineOfRow}
-use Rattle.sheet.specs.Reading.{rowsAt}
+use Rattle.sheet.specs.inner.RowLines.{lineOfRow, numberedRow}
+use Rattle.sheet.specs.Sheets.{rowsAt}
+use Rattle.sheet.proofs.RowsBack.{line-back}
+use Rattle.sheet.proofs.RowsByNumber.{StandsAt, tree-stands, stands-after, rows-of-tree}
 use Rattle.sets.specs.Marks.{Marked, numbered}
 use Rattle.table.specs.TableRows.{Table, saveTurn, turning, onTurn, turnRound, ofTurningRound}
 use Rattle.table.specs.Adjoint.{put, forwardRow, forwardPart, backwardOf, backwardPart, adjointTable}
 use Rattle.table.specs.Sizes.{tableRows}
-use Rattle.table.specs.inner.MarkedRows.{rowsIn, rowNumbered, forwardOfLine, backwardOfLine, bothParts, countRows, MarkSays, Noted}
-use Rattle.sheet.proofs.RowsBack.{line-back}
-use Rattle.table.proofs.TreeRows.{StandsAt, tree-stands, stands-after, rows-of-tree}
+use Rattle.table.specs.inner.MarkedRows.{rowsIn, forwardOfLine, backwardOfLine, bothParts, countRows, MarkSays, Noted}
 use Rattle.table.proofs.MarkedAssignment.{marked-forward, marked-backward}
 use Rattle.table.proofs.TableLength.{table-rows-counted}
 
@@ -43,11 +43,11 @@ backward-count v {byte} {b} {m} says rest =
 
 module _ (v : ℕ) (words : List ℕ) (first : ℕ) (marks came goes : List ℕ) (mark : ℕ → Assignment → Marked) where
   count-turn : (p n : ℕ) → countRows v words first marks p (suc n)
-      ≡ length (bothParts v (getD marks p 0) (lineOfRow (rowNumbered words first p))) + countRows v words first marks (suc p) n
+      ≡ length (bothParts v (getD marks p 0) (lineOfRow (numberedRow words first p))) + countRows v words first marks (suc p) n
   unfolding countRows
   count-turn p n = refl
 
-  count-step : (l : SheetLine) (p n c : ℕ) → c ≡ suc n → rowNumbered words first p ≡ sheetRowOf l
+  count-step : (l : SheetLine) (p n c : ℕ) → c ≡ suc n → numberedRow words first p ≡ sheetRowOf l
       → countRows v words first marks p c
       ≡ length (forwardOfLine (getD marks p 0) l) + length (backwardOfLine v (getD marks p 0) 0 l) + countRows v words first marks (suc p) n
   count-step l p n c e stands =

@@ -4,12 +4,10 @@ pub mod TableBounds
 pub mod AssignmentRows
 pub mod LineRows
 pub mod MarkedAssignment
-pub mod TreeRows
 pub mod RowCounts
 pub mod CountTree
 pub mod NeedsTree
 pub mod SizesPass
-pub mod RowsSmall
 pub mod SheetLaid
 pub mod NotedTree
 pub mod PlanLaws

@@ -4,11 +4,11 @@ use mathlib.Core.Path.{_≡_, refl, sym, ap, _∙_}
 use mathlib.Core.Bool.{Bool, true, false}
 use mathlib.Core.List.{List, [], _∷_, _++_, append-assoc, append-nil}
 use Rattle.sheet.specs.Tree.{done, basic, RowNumber}
-use Rattle.sheet.specs.Rows.{Assignment, Row, rowOfAssignment, _≔_, Source, copy, fixed, sum, difference, product, negation}
+use Rattle.sheet.specs.Rows.{Assignment, Row, rowOfAssignment, _≔_, targetOf, Source, copy, fixed, sum, difference, product, negation}
 use Rattle.sets.specs.Marks.{Marked}
 use Rattle.sets.specs.Transfers.{Activity}
 use Rattle.table.specs.TableRows.{Table, rowOfAction, assign, clear, takeBack, t, u, adjointOf}
-use Rattle.table.specs.Adjoint.{targetOf, forwardRow, addInto, subtractFrom, scaled, partsOf, derivativeRows, backwardOf}
+use Rattle.table.specs.Adjoint.{forwardRow, addInto, subtractFrom, scaled, partsOf, derivativeRows, backwardOf}
 use Rattle.table.specs.inner.MarkedRows.{rowWith, rowIf, rowsIn, forwardOfLine, MarkSays, backwardOfLine, anyRow, knownBy, savedBy}
 use Rattle.table.proofs.AssignmentRows.{rows-of-put, rows-of-put-if, rows-of-done}
 

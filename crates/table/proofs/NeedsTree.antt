@@ -6,21 +6,21 @@ use mathlib.Core.List.{List, [], _∷_}
 use lib.ListN.{length, getD}
 use native.Mathlib.Nat.{suc-mul}
 use native.Mathlib.Omega.{arith}
+use Rattle.sheet.specs.inner.RowLines.{numberedRow}
 use Rattle.sheet.specs.Bounds.{limit}
-use Rattle.sheet.specs.Tree.{Tree, done, one, fork, again, basic, ifLine, elseLine, endIf, repeat, endRepeat, flat, rows}
+use Rattle.sheet.specs.Tree.{Tree, done, one, fork, again, basic, ifLine, elseLine, endIf, repeat, endRepeat, flat, rows, longestRun}
 use Rattle.sheet.specs.Rows.{Assignment, Test, SheetLine, rowOf, sheetRowOf, treeRows}
 use Rattle.sheet.specs.inner.Kinds.{partOf, partFor}
-use Rattle.sheet.specs.Reading.{rowsAt}
-use Rattle.sheet.specs.LongestRun.{longestRun}
+use Rattle.sheet.specs.Sheets.{rowsAt}
 use Rattle.sheet.proofs.Depth.{deep}
 use Rattle.sheet.proofs.LinesByPart.{line-part}
+use Rattle.sheet.proofs.RowsByNumber.{StandsAt, tree-stands, stands-after, rows-of-tree}
 use Rattle.sets.specs.Marks.{Marked, numbered}
 use Rattle.table.specs.Sizes.{valuesNeeded, turnsNeeded}
 use Rattle.table.specs.declared.needs.Need.{Need}
 use Rattle.table.specs.declared.needs.Level.{Level}
-use Rattle.table.specs.inner.MarkedRows.{savedBy, rowNumbered, Noted}
+use Rattle.table.specs.inner.MarkedRows.{savedBy, Noted}
 use Rattle.table.specs.inner.Needs.{needing, nothing, opened, split, Takes, Comes}
-use Rattle.table.proofs.TreeRows.{StandsAt, tree-stands, stands-after, rows-of-tree}
 use Rattle.table.proofs.TableBounds.{values-within-run, turns-within-run, marked-run}
 
 module _ (words : List ℕ) (first : ℕ) (marks came goes : List ℕ) (mark : ℕ → Assignment → Marked) (total : Need) where
@@ -28,13 +28,13 @@ module _ (words : List ℕ) (first : ℕ) (marks came goes : List ℕ) (mark : �
   ComesFrom p n need around = Comes words first marks total p n need around
 
   row-comes : (p n : ℕ) (need : Need) (around : List Level)
-      → let r = rowNumbered words first p in
+      → let r = numberedRow words first p in
       Takes (partFor (r .kind)) (r .a) (savedBy (getD marks p 0)) need around (ComesFrom (suc p) n) → ComesFrom p (suc n) need around
   unfolding Comes
   row-comes p n need around takes = takes
 
   -- a line that stands at row p
-  line-comes : (l : SheetLine) (p n c : ℕ) (need : Need) (around : List Level) → c ≡ suc n → rowNumbered words first p ≡ sheetRowOf l
+  line-comes : (l : SheetLine) (p n c : ℕ) (need : Need) (around : List Level) → c ≡ suc n → numberedRow words first p ≡ sheetRowOf l
       → Takes (partOf l) (sheetRowOf l .a) (savedBy (getD marks p 0)) need around (ComesFrom (suc p) n) → ComesFrom p c need around
   line-comes l p n c need around more stands takes = rw more (row-comes p n need around (rw (stands, line-part l) takes))
 

@@ -7,11 +7,12 @@ use mathlib.Core.List.{List, [], _∷_, map}
 use lib.ListN.{length, getD, drop, List·getD-append}
 use Rattle.sheet.specs.Tree.{Tree, done, one, fork, again, rows, Line, flat}
 use Rattle.sheet.specs.Rows.{Assignment, Test}
-use Rattle.sheet.specs.Refusals.{given}
-use Rattle.sheet.specs.Reading.{Sheet, read}
-use Rattle.sets.specs.VariableSets.{VariableSet}
+use Rattle.sheet.specs.Judging.{given}
+use Rattle.sheet.specs.Sheets.{Sheet}
+use Rattle.sheet.specs.Reading.{read}
 use Rattle.sets.specs.Transfers.{Activity}
-use Rattle.sets.specs.Marks.{Marked, MarkedTest, numbered, markBy, marked, varied, useful, required}
+use Rattle.sets.specs.Marks.{Sets, Marked, MarkedTest, numbered, markBy, markedBy}
+use Rattle.sets.specs.Rounds.{setsOf, marked}
 use Rattle.sets.specs.MarkBytes.{byteBy, byteOf, markBytes}
 use Rattle.sets.specs.Partners.{CameFrom, GoesTo}
 use Rattle.sets.specs.Calls.{Lent, SheetMarks, MarksSaid}
@@ -45,11 +46,11 @@ module _ (marks : List ℕ) where
 
 -- ---- all rows
 
-module _ (v u r : List VariableSet) (marks came goes : List ℕ) where
-  mark-says : (p : ℕ) (b : Assignment) → let m = markBy v u r p b in getD marks p 0 ≡ byteBy (m .known) (m .saved) → MarkSays (getD marks p 0) b m
+module _ (sets : Sets) (marks came goes : List ℕ) where
+  mark-says : (p : ℕ) (b : Assignment) → let m = markBy sets p b in getD marks p 0 ≡ byteBy (m .known) (m .saved) → MarkSays (getD marks p 0) b m
   unfolding markBy
   mark-says p b at =
-      let m = markBy v u r p b in
+      let m = markBy sets p b in
       record {
         assignment = refl;
         known = sym (ap knownBy at ∙ known-back (m .known) (m .saved));
@@ -61,10 +62,10 @@ module _ (v u r : List VariableSet) (marks came goes : List ℕ) where
 
   -- the marks of a tree's rows and then those of what follows
   record NotedThen (t : Tree Assignment Test) (p : ℕ) (rest : List (Line Marked MarkedTest)) : Type 0 where
-    noted : Noted marks came goes (markBy v u r) t p
+    noted : Noted marks came goes (markBy sets) t p
     after : HoldsLines rest (p + rows t)
 
-  noted-tree : (t : Tree Assignment Test) (p : ℕ) (rest : List (Line Marked MarkedTest)) → HoldsLines (flat (numbered (markBy v u r) t p) rest) p
+  noted-tree : (t : Tree Assignment Test) (p : ℕ) (rest : List (Line Marked MarkedTest)) → HoldsLines (flat (numbered (markBy sets) t p) rest) p
       → CameFrom came t p → GoesTo goes t p → NotedThen t p rest
   unfolding numbered flat byteOf CameFrom GoesTo Noted rows
   noted-tree done p rest h c g = record { noted = tt; after = subst (HoldsLines rest) (omega arith) h }
@@ -100,9 +101,9 @@ module _ (sheet : Sheet) (before after : Lent) (says : SheetMarks sheet before a
       rw here (ap (λ bytes. getD bytes i 0) (says .marks) ∙ List·getD-append (markBytes sheet) (drop (rows (sheet .body)) (before .marks)) 0 i below))
 
   all-noted : SheetNoted sheet (after .marks) (after .came) (after .goes)
-  unfolding markBytes marked
+  unfolding markBytes marked markedBy
   all-noted =
-      noted-tree (varied sheet) (useful sheet) (required sheet) (after .marks) (after .came) (after .goes) (sheet .body) 0 [] bytes-held
+      noted-tree (setsOf sheet) (after .marks) (after .came) (after .goes) (sheet .body) 0 [] bytes-held
       (says .cameFrom) (says .goesTo) .noted
 
 pub sheet-noted : (words : List ℕ) (before after : Lent) → MarksSaid (read words) before after

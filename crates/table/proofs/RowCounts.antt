@@ -7,9 +7,9 @@ use lib.ListN.{length, length-append, getD}
 use lib.Dec.{eqb}
 use native.Mathlib.Omega.{arith}
 use Rattle.sheet.specs.Rows.{Row}
-use Rattle.sheet.specs.inner.RowLines.{lineOfRow}
+use Rattle.sheet.specs.inner.RowLines.{lineOfRow, numberedRow}
 use Rattle.sheet.specs.declared.kinds.Part.{Part}
-use Rattle.table.specs.inner.MarkedRows.{rowIf, knownBy, savedBy, rowNumbered, Assigns, SaysPart, partRows, derivativesOf, assignmentBack, forwardOfLine, backwardOfLine, bothParts, countRows}
+use Rattle.table.specs.inner.MarkedRows.{rowIf, knownBy, savedBy, Assigns, SaysPart, partRows, derivativesOf, assignmentBack, forwardOfLine, backwardOfLine, bothParts, countRows}
 use Rattle.table.proofs.AssignmentRows.{constant-rows, copy-rows, negation-rows, two-rows, product-rows, active-rows, inactive-rows, assignment-rows}
 use Rattle.table.proofs.LineRows.{forwardFor, forward-by, backwardFor, backward-by}
 
@@ -70,7 +70,7 @@ saved-first saved first r = simp (length-append, one-if)
 -- a pass over the rows: what it has counted and what is left make up the whole
 module _ (v : ℕ) (words : List ℕ) (first : ℕ) (marks : List ℕ) (p rows sum : ℕ) {total : ℕ}
     (whole : sum + countRows v words first marks p (rows - p) ≡ total) where
-  pub count-more : {more : ℕ} {r : Row} → p < rows → r ≡ rowNumbered words first p → more ≡ length (bothParts v (getD marks p 0) (lineOfRow r))
+  pub count-more : {more : ℕ} {r : Row} → p < rows → r ≡ numberedRow words first p → more ≡ length (bothParts v (getD marks p 0) (lineOfRow r))
       → sum + more + countRows v words first marks (p + 1) (rows - (p + 1)) ≡ total
   unfolding countRows
   count-more h is counted =

@@ -1,34 +1,35 @@
 -- Where an accepted sheet's rows lie in its words, what the passes over them ask, and how large its table gets at most.
-use Prim.Native.Nat.{ℕ, suc, _+_, _*_, _≤_, _<_}
+use Prim.Native.Nat.{ℕ, _+_, _*_, _≤_, _<_}
 use native.Mathlib.Omega.{arith}
 use mathlib.Core.Path.{_≡_, refl, sym, ap, subst, _∙_}
 use mathlib.Core.List.{List, []}
 use lib.ListN.{length, length-map}
 use Rattle.sheet.specs.Bounds.{limit}
-use Rattle.sheet.specs.Refusals.{given}
-use Rattle.sheet.specs.Tree.{flat}
+use Rattle.sheet.specs.Judging.{given}
+use Rattle.sheet.specs.Tree.{flat, longestRun}
 use Rattle.sheet.specs.Rows.{sheetRowOf, treeRows}
-use Rattle.sheet.specs.LongestRun.{longestRun}
-use Rattle.sheet.specs.Reading.{Sheet, variablesOf, bodyOf, rowsAt, read}
+use Rattle.sheet.specs.Sheets.{Sheet, variablesOf, rowsAt}
+use Rattle.sheet.specs.Reading.{read}
 use Rattle.sheet.specs.Answers.{shapeOf, shapeRead}
+use Rattle.sheet.specs.inner.RowLines.{numberedRow}
 use Rattle.sheet.specs.declared.Shape.{Shape}
 use Rattle.sheet.specs.declared.Reading.the-variants as reading
 use Rattle.sheet.proofs.ReadingParts.{bound, same-given, accepted}
 use Rattle.sheet.proofs.TreeOfRows.{tree-of-rows}
-use Rattle.sheet.proofs.NamesPresent.{counts}
+use Rattle.sheet.proofs.RowsByNumber.{rows-of-tree}
 use Rattle.sheet.proofs.TreeInWords.{body-stands}
 use Rattle.sheet.proofs.ReaderLaws.{Shaped, accepted-shape}
-use Rattle.sets.specs.Marks.{varied, useful, required, markBy, marked}
+use Rattle.sheet.proofs.RowsSmall.{rows-small}
+use Rattle.sets.specs.Marks.{markBy, markedBy}
+use Rattle.sets.specs.Rounds.{setsOf, marked}
 use Rattle.sets.proofs.MarksListed.{numbered-rows}
 use Rattle.table.specs.TableRows.{tableWords}
-use Rattle.table.specs.Adjoint.{tableOf}
-use Rattle.table.specs.Sizes.{mostTableRows, rowsNeeded}
-use Rattle.table.specs.Calls.{tableRoom}
-use Rattle.table.specs.inner.MarkedRows.{rowNumbered, SmallWords}
+use Rattle.table.specs.RowBounds.{mostTableRows}
+use Rattle.table.specs.Computed.{tableOf, rowsNeeded}
+use Rattle.table.specs.Sizes.{tableRoom}
+use Rattle.table.specs.inner.MarkedRows.{SmallWords}
 use Rattle.table.proofs.TableLength.{table-length}
 use Rattle.table.proofs.TableBounds.{table-rows-bound}
-use Rattle.table.proofs.TreeRows.{rows-of-tree}
-use Rattle.table.proofs.RowsSmall.{rows-small}
 
 pub record Lies (words : List ℕ) (sheet : Sheet) (shape : Shape) : Type 0 where
   pub is : read words ≡ given sheet
@@ -38,7 +39,7 @@ pub record Lies (words : List ℕ) (sheet : Sheet) (shape : Shape) : Type 0 wher
   pub fewVariables : shape .variables ≤ limit .variables
   pub fewRows : shape .rows ≤ limit .rows
   pub there : shape .«first_row» + shape .rows * limit .rowWords ≤ length words
-  pub small : (p : ℕ) → p < shape .rows → SmallWords (shape .variables) (rowNumbered words (shape .«first_row») p)
+  pub small : (p : ℕ) → p < shape .rows → SmallWords (shape .variables) (numberedRow words (shape .«first_row») p)
   pub short : longestRun (sheet .body) ≤ limit .longestRun
 
 shape-read : (words : List ℕ) (sheet : Sheet) → read words ≡ given sheet → shapeRead words ≡ given (shapeOf sheet)
@@ -49,7 +50,6 @@ pub sheet-lies : (words : List ℕ) (sheet : Sheet) → read words ≡ given she
 unfolding treeRows shapeOf
 sheet-lies words sheet e =
     let parts = accepted words sheet e in
-    let counted = counts words sheet parts in
     let lines = flat (sheet .body) [] in
     let first = 3 + length (sheet .roles) + length (sheet .constants) in
     let shaped : Shaped words (shapeOf sheet) =
@@ -59,9 +59,6 @@ sheet-lies words sheet e =
     let many : length lines ≡ length (sheet .rows) = sym (length-map lines sheetRowOf) ∙ ap length (tree-of-rows words sheet e .says) in
     let says : treeRows (sheet .body) ≡ rowsAt words first (length (sheet .rows)) =
     sym (stands .rowsHere) ∙ ap (λ p. rowsAt words p (length lines)) begins ∙ ap (rowsAt words first) many in
-    let body : bodyOf (length (sheet .roles)) (length (sheet .constants)) (rowsAt words first (length (sheet .rows)))
-    (suc (1 + parts .v + 1 + parts .k)) [] [] ≡ given (sheet .body) =
-    rw (sym says ∙ tree-of-rows words sheet e .says, counted .variables, counted .constants) (parts .body) in
     record {
       is = e;
       shapeIs = refl;
@@ -70,19 +67,21 @@ sheet-lies words sheet e =
       fewVariables = shaped .variablesWithin;
       fewRows = shaped .rowsWithin;
       there = omega (arith, shaped .allWords);
-      small = λ p below. rows-small _ _ (shaped .variablesWithin) (shaped .constantsWithin) words first _ _ [] [] (sheet .body) body p _ below refl;
+      small = λ p below.
+          let row = rows-small words sheet e p below in
+          record { few = shaped .variablesWithin; d = row .d; a = row .a; b = row .b };
       short = parts .short;
     }
 
 -- "Hence R is at most 9 × 512 + 1 = 4,609, and the table 18,437 words."
 pub table-rows-within : (words : List ℕ) (sheet : Sheet) → read words ≡ given sheet → rowsNeeded sheet ≤ mostTableRows
-unfolding marked
+unfolding marked markedBy
 table-rows-within words sheet e =
     let lies = sheet-lies words sheet e in
     omega (
       arith,
       table-rows-bound (variablesOf sheet) (marked sheet),
-      numbered-rows (markBy (varied sheet) (useful sheet) (required sheet)) (sheet .body) 0,
+      numbered-rows (markBy (setsOf sheet)) (sheet .body) 0,
       rows-of-tree words _ _ (sheet .body) (lies .says),
       lies .fewRows,
     )

@@ -6,6 +6,7 @@ use native.Mathlib.Omega.{arith}
 use native.Mathlib.Numerals.{add-one}
 use lib.ListN.{length, length-set, getD, set}
 use lib.Seq.{getD-set-same, getD-set-other}
+use Rattle.sheet.specs.inner.RowLines.{numberedRow}
 use Rattle.sheet.specs.Bounds.{limit}
 use Rattle.sheet.specs.Rows.{Row}
 use Rattle.sheet.specs.inner.Kinds.{partFor}
@@ -13,7 +14,7 @@ use Rattle.sheet.specs.declared.kinds.Part.{Part}
 use Rattle.sheet.specs.declared.kinds.Part.the-variants as part
 use Rattle.table.specs.declared.needs.Need.{Need}
 use Rattle.table.specs.declared.needs.Level.{Level}
-use Rattle.table.specs.inner.MarkedRows.{savedBy, rowNumbered}
+use Rattle.table.specs.inner.MarkedRows.{savedBy}
 use Rattle.table.specs.inner.Needs.{nothing, Few, withSaved, opened, split, afterIf, afterRepeat, Takes, Comes, Sized}
 
 -- ---- the levels
@@ -72,7 +73,7 @@ module _ {words : List ℕ} {first rows : ℕ} {marks : List ℕ} {levels : List
   unfolding Comes
   going-ends h total start = let none : rows - p ≡ 0 = omega arith in rw none at (going .comes total start)
 
-  module _ (sized : Sized words first rows marks) (below : p < rows) {r : Row} {is : Part} (read : r ≡ rowNumbered words first p)
+  module _ (sized : Sized words first rows marks) (below : p < rows) {r : Row} {is : Part} (read : r ≡ numberedRow words first p)
       (found : is ≡ partFor (r .kind)) where
     abbrev After : (total : Need) → Need → List Level → Type 0
     After total = Comes words first marks total (p + 1) (rows - (p + 1))
@@ -82,7 +83,7 @@ module _ {words : List ℕ} {first rows : ℕ} {marks : List ℕ} {levels : List
     unfolding Comes
     taken {q} told total start =
         let some : rows - p ≡ suc (rows - suc p) = omega arith in
-        let kind : partFor (rowNumbered words first p .kind) ≡ q = ap (λ x. partFor (x .kind)) (sym read) ∙ sym found ∙ told in
+        let kind : partFor (numberedRow words first p .kind) ≡ q = ap (λ x. partFor (x .kind)) (sym read) ∙ sym found ∙ told in
         rw (add-one p, read, ← kind) (rw some at (going .comes total start))
 
     -- for the one total that there is

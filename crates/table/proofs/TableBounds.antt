@@ -4,15 +4,15 @@ use mathlib.Core.Path.{_≡_, refl}
 use mathlib.Core.Bool.{Bool, true, false, cond}
 use native.Mathlib.Nat.{mul-le-mul-left}
 use native.Mathlib.Omega.{arith}
-use Rattle.sheet.specs.Tree.{Tree, done, one, fork, again, rows, RowNumber}
+use Rattle.sheet.specs.Tree.{Tree, done, one, fork, again, rows, RowNumber, longestRun}
 use Rattle.sheet.specs.Rows.{Assignment, Test, _≔_, Source, copy, fixed, sum, difference, product, negation}
-use Rattle.sheet.specs.LongestRun.{longestRun}
 use Rattle.sheet.proofs.Depth.{deep}
 use Rattle.sets.specs.Transfers.{Activity}
 use Rattle.sets.specs.Marks.{Marked, numbered}
 use Rattle.table.specs.TableRows.{Table, TableRow, Action, saveTurn, turnRound, whether, onTurn, Operation, turning, ofRow, ofTurningRound}
 use Rattle.table.specs.Adjoint.{Body, put, putIf, forwardRow, forwardPart, partsOf, derivativeRows, backwardOf, backwardPart, adjointTable}
-use Rattle.table.specs.Sizes.{mostForward, mostParts, mostBackward, mostRowsEach, tableRows, valuesNeeded, turnsNeeded}
+use Rattle.table.specs.RowBounds.{mostForward, mostParts, mostBackward, mostRowsEach}
+use Rattle.table.specs.Sizes.{tableRows, valuesNeeded, turnsNeeded}
 
 -- ---- R
 

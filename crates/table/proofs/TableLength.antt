@@ -7,13 +7,12 @@ use native.Mathlib.Omega.{arith}
 use Rattle.sheet.specs.Bounds.{limit}
 use Rattle.sheet.specs.Tree.{rows}
 use Rattle.sheet.specs.Rows.{Row}
-use Rattle.sheet.specs.Reading.{Sheet, variablesOf}
+use Rattle.sheet.specs.Sheets.{Sheet, variablesOf}
 use Rattle.sheet.proofs.RowsCounted.{lines-counted}
-use Rattle.sets.specs.Marks.{marked}
+use Rattle.sets.specs.Rounds.{marked}
 use Rattle.table.specs.TableRows.{Table, linesOf, tableRowOf, wordsOf, tableWords}
-use Rattle.table.specs.Adjoint.{tableOf}
-use Rattle.table.specs.Sizes.{tableRows}
-use Rattle.table.specs.Calls.{tableRoom}
+use Rattle.table.specs.Computed.{tableOf}
+use Rattle.table.specs.Sizes.{tableRows, tableRoom}
 use Rattle.table.specs.inner.MarkedRows.{rowsIn}
 
 -- R

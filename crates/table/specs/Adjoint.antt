@@ -1,11 +1,11 @@
--- The adjoint table of a marked body, for any choice of saved rows.
+-- The adjoint table of a marked body, for any choice of saved rows, and of a sheet, by its sets.
 use Prim.Native.Nat.{ℕ}
 use mathlib.Core.Bool.{Bool, true, false}
 use Rattle.sheet.specs.Tree.{Tree, done, one, fork, again, RowNumber}
-use Rattle.sheet.specs.Rows.{Assignment, _≔_, Source, copy, fixed, sum, difference, product, negation}
-use Rattle.sheet.specs.Reading.{Sheet, variablesOf}
+use Rattle.sheet.specs.Rows.{Assignment, _≔_, targetOf, Source, copy, fixed, sum, difference, product, negation}
+use Rattle.sheet.specs.Sheets.{Sheet, variablesOf}
 use Rattle.sets.specs.Transfers.{Activity}
-use Rattle.sets.specs.Marks.{Marked, MarkedTest, marked}
+use Rattle.sets.specs.Marks.{Sets, Marked, MarkedTest, markedBy}
 use Rattle.table.specs.TableRows.{adjointOf, t, u, Action, assign, save, takeBack, saveTurn, clear, turnRound, whether, onTurn, Operation, saving, itself, turning, takingBack, holding, clearing, scalingForA, addingToA, scalingForB, addingToB, ofRow, ofTurningRound, Table}
 
 abbrev pub Body : Type 0
@@ -19,9 +19,6 @@ put row operation action rest = one (record { origin = ofRow row operation; acti
 abbrev pub putIf : Bool → RowNumber → Operation → Action → Table → Table
 putIf true row operation action rest = put row operation action rest
 putIf false row operation action rest = rest
-
-abbrev pub targetOf : Assignment → ℕ
-targetOf (d ≔ source) = d
 
 -- "Forward part: the sheet's rows in order; before each recorded assignment a save of d; at the end of each first branch "save turn 1",
 -- of each second "save turn 0"."
@@ -93,6 +90,7 @@ module _ (variables : ℕ) where
   unfolding forwardPart backwardPart
   adjointTable body = forwardPart body (one (record { origin = ofTurningRound; action = turnRound }) (backwardPart body done))
 
-unfoldable pub tableOf : Sheet → Table
-unfolding marked adjointTable
-tableOf sheet = adjointTable (variablesOf sheet) (marked sheet)
+-- of the sheet's body as the sets mark it
+unfoldable pub tableBy : Sets → Sheet → Table
+unfolding markedBy adjointTable
+tableBy sets sheet = adjointTable (variablesOf sheet) (markedBy sets sheet)

@@ -1,33 +1,22 @@
--- What the calls check and write answer, and what the lent table buffer then holds.
-use Prim.Native.Nat.{ℕ, _+_, _*_}
+-- What the calls check and write answer, and what the lent table buffer then holds, as it is computed from the words.
+use Prim.Native.Nat.{ℕ}
 use mathlib.Core.List.{List, _++_}
 use lib.ListN.{length, drop}
 use lib.Dec.{leb}
-use Rattle.sheet.specs.Bounds.{limit}
-use Rattle.sheet.specs.Refusals.{Answer, refused, given, _>>=_, numberIn, placeIn, smallTable}
-use Rattle.sheet.specs.Reading.{Sheet, read, unless}
-use Rattle.sheet.specs.LongestRun.{longestRun}
-use Rattle.sets.specs.Marks.{marked}
-use Rattle.table.specs.declared.Checked as declared
-use Rattle.table.specs.declared.Reply as answered
+use Rattle.sheet.specs.Judging.{Answer, refused, given, _>>=_, numberIn, placeIn, unless}
+use Rattle.sheet.specs.Refusals.{smallTable}
+use Rattle.sheet.specs.Sheets.{Sheet}
+use Rattle.sheet.specs.Reading.{read}
+use Rattle.sheet.specs.Tree.{longestRun}
+use Rattle.sets.specs.Rounds.{marked}
 use Rattle.table.specs.TableRows.{tableWords}
-use Rattle.table.specs.Adjoint.{tableOf}
-use Rattle.table.specs.Sizes.{tableRows, valuesNeeded, turnsNeeded, rowsNeeded, valuesFor, turnsFor}
+use Rattle.table.specs.Sizes.{Needs, tableRows, valuesNeeded, turnsNeeded, Sizes, noSizes, Checked, tableRoom, Written}
+use Rattle.table.specs.Computed.{tableOf, rowsNeeded, valuesFor, turnsFor, needsOf}
 
 -- ---- check
 
--- W, R, S and T
-pub record Sizes : Type 0 where
-  pub longest : ℕ
-  pub rows : ℕ
-  pub values : ℕ
-  pub turns : ℕ
-
 abbrev pub sizesOf : Sheet → Sizes
 sizesOf sheet = record { longest = longestRun (sheet .body); rows = rowsNeeded sheet; values = valuesFor sheet; turns = turnsFor sheet }
-
-abbrev pub noSizes : Sizes
-noSizes = record { longest = 0; rows = 0; values = 0; turns = 0 }
 
 -- "answers W, R, S and T, all 0 when refused"
 unfoldable pub sizesIn : Answer Sheet → Sizes
@@ -35,37 +24,19 @@ unfolding longestRun marked tableRows valuesNeeded turnsNeeded
 sizesIn (refused r) = noSizes
 sizesIn (given sheet) = sizesOf sheet
 
-pub record Checked : Type 0 where
-  pub number : ℕ
-  pub place : ℕ
-  pub sizes : Sizes
-
 -- "Checking a sheet uses 1 to 7"
 unfoldable pub check : List ℕ → Checked
 unfolding numberIn placeIn read sizesIn
 check words = let answer = read words in record { number = numberIn answer; place = placeIn answer; sizes = sizesIn answer }
 
--- what the call's answer says
-abbrev pub checkedSaid : declared.Checked → Checked
-checkedSaid r =
-    record {
-      number = r .number;
-      place = r .place;
-      sizes = record { longest = r .longest; rows = r .rows; values = r .values; turns = r .turns };
-    }
-
 -- ---- write
 
--- "table buffer below 1 + 4R words"
-abbrev pub tableRoom : (rows : ℕ) → ℕ
-tableRoom rows = 1 + limit .rowWords * rows
-
--- the sheet, where its table fits a buffer of so many words: refusals 1 to 8
-unfoldable pub readFor : List ℕ → (room : ℕ) → Answer Sheet
-unfolding read marked tableRows
-readFor words room = do
+-- the sheet, where its table, which needs so many rows, fits a buffer of so many words: refusals 1 to 8
+unfoldable pub readFor : (needs : Sheet → Needs) → List ℕ → (room : ℕ) → Answer Sheet
+unfolding read
+readFor needs words room = do
   sheet ← read words
-  _ ← unless (leb (tableRoom (rowsNeeded sheet)) room) smallTable
+  _ ← unless (leb (tableRoom (needs sheet .rows)) room) smallTable
   given sheet
 
 -- "the table buffer starts with the table and keeps its other words"
@@ -78,18 +49,9 @@ unfolding tableOf tableWords overwritten
 tableIn (refused r) buffer = buffer
 tableIn (given sheet) buffer = overwritten (tableWords (tableOf sheet)) buffer
 
-pub record Written : Type 0 where
-  pub number : ℕ
-  pub place : ℕ
-  pub table : List ℕ
-
 -- "Writing a table uses 1 to 8"
 unfoldable pub write : List ℕ → (buffer : List ℕ) → Written
-unfolding numberIn placeIn readFor tableIn
+unfolding numberIn placeIn readFor marked tableRows tableIn
 write words buffer =
-    let answer = readFor words (length buffer) in
+    let answer = readFor needsOf words (length buffer) in
     record { number = numberIn answer; place = placeIn answer; table = tableIn answer buffer }
-
--- what the call's answer and the buffer that it leaves say
-abbrev pub writtenOf : answered.Reply → (table : List ℕ) → Written
-writtenOf answer table = record { number = answer .number; place = answer .place; table = table }

@@ -1,29 +1,14 @@
--- R, S and T.
+-- R, S and T, and what the calls check and write answer. When each is answered is said in the claims; how it is computed stands in Calls.antt.
 use Prim.Native.Nat.{ℕ, suc, _+_, _*_, max}
 use mathlib.Core.Bool.{cond}
+use mathlib.Core.List.{List}
+use Rattle.sheet.specs.Tree.{done, one, fork, again, rows, longestRun}
+use Rattle.sheet.specs.Sheets.{Sheet, variablesOf}
 use Rattle.sheet.specs.Bounds.{limit}
-use Rattle.sheet.specs.Tree.{done, one, fork, again, rows}
-use Rattle.sheet.specs.Reading.{Sheet, variablesOf}
-use Rattle.sets.specs.Marks.{marked}
+use Rattle.sets.specs.Marks.{Sets, markedBy}
 use Rattle.table.specs.Adjoint.{Body, adjointTable}
-
--- "Hence R is at most 9 × 512 + 1": for each of a sheet's rows, and row 17. Forward a save and the row itself
-abbrev pub mostForward : ℕ
-mostForward = 2
-
--- of an assignment's parts: two rows for each of a product's operands
-abbrev pub mostParts : ℕ
-mostParts = 4
-
--- backward: d taken back, t := d̄, d̄ := 0 and the parts
-abbrev pub mostBackward : ℕ
-mostBackward = 3 + mostParts
-
-abbrev pub mostRowsEach : ℕ
-mostRowsEach = mostForward + mostBackward
-
-abbrev pub mostTableRows : ℕ
-mostTableRows = mostRowsEach * limit .rows + 1
+use Rattle.table.specs.declared.Checked as declared
+use Rattle.table.specs.declared.Reply as answered
 
 -- R
 unfoldable pub tableRows : (variables : ℕ) → Body → ℕ
@@ -44,13 +29,61 @@ turnsNeeded (one m k) = turnsNeeded k
 turnsNeeded (fork f a b k) = 1 + max (turnsNeeded a) (turnsNeeded b) + turnsNeeded k
 turnsNeeded (again n a k) = suc n * turnsNeeded a + turnsNeeded k
 
--- ---- of a sheet
+-- ---- of a sheet, by its sets
 
-abbrev pub rowsNeeded : Sheet → ℕ
-rowsNeeded sheet = tableRows (variablesOf sheet) (marked sheet)
+-- R, S and T
+pub record Needs : Type 0 where
+  pub rows : ℕ
+  pub values : ℕ
+  pub turns : ℕ
 
-abbrev pub valuesFor : Sheet → ℕ
-valuesFor sheet = valuesNeeded (marked sheet)
+abbrev pub needsBy : Sets → Sheet → Needs
+needsBy sets sheet =
+    let body = markedBy sets sheet in
+    record { rows = tableRows (variablesOf sheet) body; values = valuesNeeded body; turns = turnsNeeded body }
 
-abbrev pub turnsFor : Sheet → ℕ
-turnsFor sheet = turnsNeeded (marked sheet)
+-- ---- what check answers: W, R, S and T
+
+pub record Sizes : Type 0 where
+  pub longest : ℕ
+  pub rows : ℕ
+  pub values : ℕ
+  pub turns : ℕ
+
+-- "answers W, R, S and T, all 0 when refused"
+abbrev pub sizesBy : Sets → Sheet → Sizes
+sizesBy sets sheet =
+    let needs = needsBy sets sheet in
+    record { longest = longestRun (sheet .body); rows = needs .rows; values = needs .values; turns = needs .turns }
+
+abbrev pub noSizes : Sizes
+noSizes = record { longest = 0; rows = 0; values = 0; turns = 0 }
+
+pub record Checked : Type 0 where
+  pub number : ℕ
+  pub place : ℕ
+  pub sizes : Sizes
+
+-- what the call's answer says
+abbrev pub checkedSaid : declared.Checked → Checked
+checkedSaid r =
+    record {
+      number = r .number;
+      place = r .place;
+      sizes = record { longest = r .longest; rows = r .rows; values = r .values; turns = r .turns };
+    }
+
+-- ---- what write answers
+
+-- "table buffer below 1 + 4R words"
+abbrev pub tableRoom : (rows : ℕ) → ℕ
+tableRoom rows = 1 + limit .rowWords * rows
+
+pub record Written : Type 0 where
+  pub number : ℕ
+  pub place : ℕ
+  pub table : List ℕ
+
+-- what the call's answer and the buffer that it leaves say
+abbrev pub writtenOf : answered.Reply → (table : List ℕ) → Written
+writtenOf answer table = record { number = answer .number; place = answer .place; table = table }

@@ -17,9 +17,6 @@ module _ (variables : ℕ) where
   abbrev pub u : ℕ
   u = 2 * variables + 1
 
-  abbrev pub tableVariables : ℕ
-  tableVariables = 2 * variables + 2
-
 -- "Further kinds: 12 save d, 13 take back d, 14 save turn a (0 or 1), .. 16 d := 0, 17 turn round."
 pub data Action : Type 0 where
   assign : Assignment → Action

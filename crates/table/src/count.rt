@@ -4,7 +4,7 @@ ghost use mathlib.Core.Bool.{cond};
 ghost use Prim.Native.Nat.{_≤_};
 ghost use Rattle.sheet.specs.inner.RowLines.{lineOfRow};
 ghost use Rattle.sheet.specs.Answers.{rowSaid};
-ghost use Rattle.table.specs.Sizes.{mostParts, mostBackward, mostRowsEach};
+ghost use Rattle.table.specs.RowBounds.{mostParts, mostBackward, mostRowsEach};
 ghost use Rattle.table.specs.inner.MarkedRows.{Assigns, SaysPart, partRows, assignmentBack, bothParts, Counted};
 use super::marks;
 use sheet::RowWords;

@@ -1,11 +1,13 @@
 // The adjoint table: what it is (specs/) and how large it gets. Any words in; out come a sheet's sizes, or the first refusal. The plan is for
 // the layers above: the writer, and the runs.
 ghost use mathlib.Core.Path.{_≡_};
-ghost use Rattle.sheet.specs.Refusals.{given};
-ghost use Rattle.sheet.specs.Reading.{Sheet, read};
+ghost use Rattle.sheet.specs.Judging.{given};
+ghost use Rattle.sheet.specs.Sheets.{Sheet};
+ghost use Rattle.sheet.specs.Reading.{read};
 ghost use Rattle.sheet.specs.Answers.{shapeRead};
 ghost use Rattle.sets.specs.Calls.{lent, MarksSaid};
-ghost use Rattle.table.specs.Calls.{checkedSaid, check};
+ghost use Rattle.table.specs.Sizes.{checkedSaid};
+ghost use Rattle.table.specs.Calls.{check};
 ghost use Rattle.table.specs.inner.Plans.{SheetNoted, PlanMade, PlanSays};
 
 mod count;
@@ -93,8 +95,10 @@ pub fn plan_sheet(
         (lent (now (marks .exit)) (now (came .exit)) (now (goes .exit))) ⌝ }
 {
     match sets::mark(words, marks, came, goes) {
-        sheet::Reading::Refused(why) => Planned::Refused(why),
-        sheet::Reading::Accepted(shape) => Planned::Made(plan_of(words, shape, marks, came, goes)),
+        sets::Marking::Refused(why) => Planned::Refused(why),
+        sets::Marking::Marked(shape, ends) => {
+            Planned::Made(plan_of(words, shape, marks, came, goes))
+        }
     }
 }
 

@@ -1,8 +1,6 @@
 -- `table::plan_sheet` meets its contract: the reader's refusal, or the plan of the sheet that it accepts, from what `sets::mark` promises.
-use mathlib.Core.Path.{sym, ap, _∙_}
 use borrow.Author.Needs.{needs}
-use Rattle.sheet.specs.Answers.{said}
-use Rattle.sheet.proofs.ReaderLaws.{refused-read}
+use Rattle.sets.proofs.CallLaws.{marking-refuses, marking-shape}
 use Rattle.table.proofs.NotedTree.{sheet-noted}
 use Rattle.table.proofs.plan_sheet.Statement.{statement}
 use Rattle.table.proofs.plan_sheet.Tie as tie
@@ -20,12 +18,12 @@ plan-of-requires : tie.Need-plan-of-requires
 plan-of-requires c κs =
     let marked : tie.After-mark = search in
     let is : tie.After-shape = search in
-    (sym (marked .mark .ensures .0) ∙ ap said (is .shape .given .1), sheet-noted _ _ _ (marked .mark .ensures .1))
+    (marking-shape _ _ _ _ (marked .mark .ensures .0) (is .shape .given .1), sheet-noted _ _ _ (marked .mark .ensures .1))
 
 returns : tie.Need-returns
 returns c =
     let marked : tie.After-mark = search in
-    (refused-read _ _ _ (marked .mark .ensures .0) (c .before .why .given .1), marked .mark .ensures .1)
+    (marking-refuses _ _ _ (marked .mark .ensures .0) (c .before .why .given .1), marked .mark .ensures .1)
 
 returns-2 : tie.Need-returns-2
 returns-2 c = let marked : tie.After-mark = search in (c .plan-of .ensures, marked .mark .ensures .1)

@@ -5,11 +5,11 @@ use mathlib.Core.Path.{_≡_}
 use mathlib.Core.Bool.{Bool, true, false}
 use mathlib.Core.List.{List, [], _∷_, _++_, map}
 use lib.ListN.{length, getD}
-use Rattle.sheet.specs.Reading.{rowAt}
+use Rattle.sheet.specs.Sheets.{rowAt}
 use Rattle.sheet.specs.Bounds.{limit}
 use Rattle.sheet.specs.Tree.{Tree, done, one, fork, again, rows, RowNumber, basic, ifLine, elseLine, endIf, repeat, endRepeat}
-use Rattle.sheet.specs.Rows.{Assignment, Test, _≔_, Source, fixed, SheetLine, Row, rowOfTest, sheetRowOf}
-use Rattle.sheet.specs.inner.RowLines.{lineOfRow}
+use Rattle.sheet.specs.Rows.{Assignment, Test, _≔_, Source, fixed, SheetLine, Row, rowOfTest}
+use Rattle.sheet.specs.inner.RowLines.{lineOfRow, SaysLine, numberedRow}
 use Rattle.sheet.specs.inner.Kinds.{partOf}
 use Rattle.sheet.specs.declared.Shape.{Shape}
 use Rattle.sheet.specs.declared.kinds.Part.{Part}
@@ -56,20 +56,13 @@ pub record SmallWords (variables : ℕ) (r : Row) : Type 0 where
   pub a : r .a ≤ limit .turns
   pub b : r .b ≤ limit .turns
 
--- a row that says a line says nothing else: its unused words are 0
-pub record Says (r : Row) : Type 0 where
-  pub back : sheetRowOf (lineOfRow r) ≡ r
-
--- and what the line is to the blocks
+-- a row says a line, and this is what the line is to the blocks
 pub record SaysPart (r : Row) (p : Part) : Type 0 where
-  pub says : Says r
+  pub says : SaysLine r
   pub is : p ≡ partOf (lineOfRow r)
 
-abbrev pub sourceIn : Assignment → Source
-sourceIn (d ≔ source) = source
-
 abbrev pub sourceSaid : SheetLine → Source
-sourceSaid (basic b) = sourceIn b
+sourceSaid (basic (d ≔ source)) = source
 sourceSaid (ifLine f) = fixed 0
 sourceSaid elseLine = fixed 0
 sourceSaid endIf = fixed 0
@@ -135,14 +128,11 @@ pub record Counted (most count : ℕ) (rowsFor : (variables : ℕ) → List Row)
 
 -- ---- all rows
 
-abbrev pub rowNumbered : (words : List ℕ) (first p : ℕ) → Row
-rowNumbered words first p = rowAt words (first + p * limit .rowWords)
-
 -- what the reader has made sure of: the rows are there, few, each says a line, and a mark is there for each
 pub record RowsReadable (words : List ℕ) (shape : Shape) (marks : List ℕ) : Type 0 where
   pub few : shape .rows ≤ limit .rows
   pub marked : shape .rows ≤ length marks
-  pub says : (p : ℕ) → p < shape .rows → Says (rowNumbered words (shape .«first_row») p)
+  pub says : (p : ℕ) → p < shape .rows → SaysLine (numberedRow words (shape .«first_row») p)
   pub there : shape .«first_row» + shape .rows * limit .rowWords ≤ length words
 
 -- how many rows so many rows from row p on give in both parts
@@ -150,7 +140,7 @@ unfoldable pub countRows : (variables : ℕ) (words : List ℕ) (first : ℕ) (m
 unfolding forwardOfLine backwardOfLine lineOfRow rowAt
 countRows v words first marks p zero = 0
 countRows v words first marks p (suc n) =
-    length (bothParts v (getD marks p 0) (lineOfRow (rowNumbered words first p))) + countRows v words first marks (suc p) n
+    length (bothParts v (getD marks p 0) (lineOfRow (numberedRow words first p))) + countRows v words first marks (suc p) n
 
 abbrev pub countAll : (variables : ℕ) (words : List ℕ) → Shape → (marks : List ℕ) → ℕ
 countAll v words shape marks = countRows v words (shape .«first_row») marks 0 (shape .rows)

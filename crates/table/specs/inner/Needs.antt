@@ -4,13 +4,14 @@ use mathlib.Core.Path.{_≡_}
 use mathlib.Core.Bool.{Bool, cond}
 use mathlib.Core.List.{List, [], _∷_}
 use lib.ListN.{length, getD}
+use Rattle.sheet.specs.inner.RowLines.{numberedRow}
 use Rattle.sheet.specs.Bounds.{limit}
-use Rattle.sheet.specs.Reading.{rowAt}
+use Rattle.sheet.specs.Sheets.{rowAt}
 use Rattle.sheet.specs.inner.Kinds.{formFor, partFor}
 use Rattle.sheet.specs.declared.Shape.{Shape}
 use Rattle.sheet.specs.declared.kinds.Part.{Part}
 use Rattle.sheet.specs.declared.kinds.Part.the-variants as part
-use Rattle.table.specs.inner.MarkedRows.{savedBy, rowNumbered, countAll}
+use Rattle.table.specs.inner.MarkedRows.{savedBy, countAll}
 use Rattle.table.specs.declared.needs.Need.{Need}
 use Rattle.table.specs.declared.needs.Level.{Level}
 use Rattle.table.specs.declared.sizes.Sizes.{Sizes}
@@ -67,7 +68,7 @@ module _ (words : List ℕ) (first : ℕ) (marks : List ℕ) (total : Need) wher
   unfolding rowAt formFor
   Comes p zero need around = need ≡ total
   Comes p (suc n) need around =
-      let row = rowNumbered words first p in
+      let row = numberedRow words first p in
       Takes (partFor (row .kind)) (row .a) (savedBy (getD marks p 0)) need around (λ next outside. Comes (suc p) n next outside)
 
 -- all rows do, to some total

@@ -2,10 +2,12 @@
 use Prim.Native.Nat.{ℕ}
 use mathlib.Core.Path.{_≡_}
 use mathlib.Core.List.{List}
-use Rattle.sheet.specs.Refusals.{refused, given}
-use Rattle.sheet.specs.Reading.{Sheet, variablesOf, read}
+use Rattle.sheet.specs.Judging.{refused, given}
+use Rattle.sheet.specs.Sheets.{Sheet, variablesOf}
+use Rattle.sheet.specs.Reading.{read}
 use Rattle.sheet.specs.Answers.{refusalOf, shapeOf}
-use Rattle.sets.specs.Marks.{varied, useful, required, markBy, marked}
+use Rattle.sets.specs.Marks.{markBy}
+use Rattle.sets.specs.Rounds.{setsOf, marked}
 use Rattle.table.specs.declared.Plan.{Plan}
 use Rattle.table.specs.declared.Planned.{Planned}
 use Rattle.table.specs.declared.Planned.the-variants as planned
@@ -14,7 +16,7 @@ use Rattle.table.specs.inner.MarkedRows.{Noted}
 
 -- the sheet's own marks and partners are noted
 abbrev pub SheetNoted : (sheet : Sheet) (marks came goes : List ℕ) → Type 0
-SheetNoted sheet marks came goes = Noted marks came goes (markBy (varied sheet) (useful sheet) (required sheet)) (sheet .body) 0
+SheetNoted sheet marks came goes = Noted marks came goes (markBy (setsOf sheet)) (sheet .body) 0
 
 -- what a plan says of its sheet
 pub record PlanOf (sheet : Sheet) (plan : Plan) (marks came goes : List ℕ) : Type 0 where

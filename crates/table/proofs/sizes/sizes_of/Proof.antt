@@ -6,16 +6,18 @@ use mathlib.Core.List.{List}
 use lib.ListN.{length}
 use borrow.Author.Needs.{needs}
 use native.Mathlib.Omega.{arith}
+use Rattle.sheet.specs.inner.RowLines.{numberedRow, SaysLine}
 use Rattle.sheet.specs.declared.Shape.{Shape}
 use Rattle.sheet.specs.Answers.{rowSaid}
 use Rattle.sheet.specs.Rows.{kinds}
 use Rattle.sheet.specs.inner.Kinds.{partFor}
 use Rattle.sheet.specs.declared.kinds.Part.{Part}
 use Rattle.sheet.proofs.PartsRead.{formIn, part-there}
-use Rattle.table.specs.Sizes.{mostRowsEach}
-use Rattle.table.specs.inner.MarkedRows.{Says, SaysPart, rowNumbered, countRows, countAll}
+use Rattle.sheet.proofs.RowsByKind.{row-kind}
+use Rattle.table.specs.RowBounds.{mostRowsEach}
+use Rattle.table.specs.inner.MarkedRows.{SaysPart, countRows, countAll}
 use Rattle.table.specs.inner.Needs.{Sized}
-use Rattle.table.proofs.LineRows.{says-kind, says-part}
+use Rattle.table.proofs.LineRows.{says-part}
 use Rattle.table.proofs.RowCounts.{count-more, count-done}
 use Rattle.table.proofs.SizesPass.{Going, going-starts, going-ends, saved-few, goes-saved, if-fits, goes-into-if, repeat-fits, goes-into-repeat, goes-to-second, if-few, if-inside, goes-past-if, repeat-few, repeat-inside, goes-past-repeat}
 use Rattle.table.proofs.sizes.sizes_of.Statement.{statement}
@@ -45,8 +47,12 @@ module _ (c : tie.After-wide Inv-loop μ-loop) where
   abbrev table : tie.After-forms Inv-loop μ-loop
   table = turn .before .before .before
 
+  -- the row that was read says a line
+  says : SaysLine (rowSaid (c .before .row-of .result))
+  says = subst SaysLine (sym (c .before .row-of .ensures)) (start (turn .before .before) .pre .0 .says _ (turn .if1 .taken))
+
   in-table : c .before .row-of .result .kind ≤ length kinds
-  in-table = says-kind (c .before .row-of .ensures) (start (turn .before .before) .pre .0 .says _ (turn .if1 .taken))
+  in-table = row-kind says
 
   -- what the row is to the blocks, as the table has it for its kind
   abbrev part : Part
@@ -55,9 +61,8 @@ module _ (c : tie.After-wide Inv-loop μ-loop) where
   part-found : part ≡ partFor (c .before .row-of .result .kind)
   part-found = part-there (table .forms .ensures) (c .wide .ensures .0) in-table
 
-  -- the row that was read says a line
   said : SaysPart (rowSaid (c .before .row-of .result)) part
-  said = says-part _ _ (subst Says (sym (c .before .row-of .ensures)) (start (turn .before .before) .pre .0 .says _ (turn .if1 .taken))) part-found
+  said = says-part _ _ says part-found
 
 module _ (c : tie.After-row-count Inv-loop μ-loop) where
   abbrev row : tie.After-row-of Inv-loop μ-loop
@@ -76,7 +81,7 @@ module _ (c : tie.After-row-count Inv-loop μ-loop) where
   abbrev sized : let x = start head .args in Sized (x .words .now) (x .shape .«first_row») (x .shape .rows) (x .marks .now)
   sized = start head .pre .1
 
-  abbrev read : let x = start head .args in rowSaid (row .row-of .result) ≡ rowNumbered (x .words .now) (x .shape .«first_row») (head .loop .p)
+  abbrev read : let x = start head .args in rowSaid (row .row-of .result) ≡ numberedRow (x .words .now) (x .shape .«first_row») (head .loop .p)
   read = row .row-of .ensures
 
   abbrev found : part (c .before .before .before) ≡ partFor (row .row-of .result .kind)

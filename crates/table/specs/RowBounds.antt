@@ -1,0 +1,25 @@
+-- How large R can be, and how many variables a table has. No demand speaks of it: the code's arrays and the count of its steps do.
+use Prim.Native.Nat.{ℕ, _+_, _*_}
+use Rattle.sheet.specs.Bounds.{limit}
+
+-- "Hence R is at most 9 × 512 + 1": for each of a sheet's rows, and row 17. Forward a save and the row itself
+abbrev pub mostForward : ℕ
+mostForward = 2
+
+-- of an assignment's parts: two rows for each of a product's operands
+abbrev pub mostParts : ℕ
+mostParts = 4
+
+-- backward: d taken back, t := d̄, d̄ := 0 and the parts
+abbrev pub mostBackward : ℕ
+mostBackward = 3 + mostParts
+
+abbrev pub mostRowsEach : ℕ
+mostRowsEach = mostForward + mostBackward
+
+abbrev pub mostTableRows : ℕ
+mostTableRows = mostRowsEach * limit .rows + 1
+
+-- the originals, their adjoints, t and u
+abbrev pub tableVariables : (variables : ℕ) → ℕ
+tableVariables v = 2 * v + 2
