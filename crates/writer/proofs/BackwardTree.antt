@@ -9,16 +9,16 @@ use Rattle.sheet.specs.Rows.{Assignment, Test, SheetLine, Row, sheetRowOf, rowO
 use Rattle.sheet.specs.inner.RowLines.{lineOfRow}
 use Rattle.sheet.specs.inner.Kinds.{partOf}
 use Rattle.sheet.specs.declared.kinds.Part.the-variants as part
-use Rattle.sheet.specs.Reading.{rowsAt}
+use Rattle.sheet.specs.Sheets.{rowsAt}
 use Rattle.sheet.proofs.RowsBack.{line-back}
+use Rattle.sheet.proofs.RowsByNumber.{StandsAt, tree-stands, stands-after}
 use Rattle.sets.specs.Marks.{Marked, numbered}
 use Rattle.table.specs.TableRows.{Table, tableRowOf, rowOfTableTest, onTurn}
 use Rattle.table.specs.Adjoint.{backwardOf, backwardPart}
 use Rattle.table.specs.inner.MarkedRows.{rowWith, rowsIn, backwardOfLine, Noted}
-use Rattle.writer.specs.inner.RowsWritten.{stepBack, turnsBack, Handed, rowOfNumber, backwardAt, wayBack, backwardRows}
 use Rattle.table.proofs.AssignmentRows.{none-before}
 use Rattle.table.proofs.MarkedAssignment.{marked-backward}
-use Rattle.table.proofs.TreeRows.{StandsAt, tree-stands, stands-after}
+use Rattle.writer.specs.inner.RowsWritten.{stepBack, turnsBack, Handed, rowOfNumber, backwardAt, wayBack, backwardRows}
 use Rattle.writer.proofs.BackwardOver.{backward-turn}
 use Rattle.writer.proofs.TableTree.{fork-before, again-before}
 

@@ -5,12 +5,15 @@ use mathlib.Core.Bool.{true, false}
 use mathlib.Core.List.{List}
 use lib.ListN.{length}
 use lib.Dec.{leb}
-use Rattle.sheet.specs.Refusals.{Refusal, refused, given, numberOf, placeOf, numberIn, placeIn, smallTable}
-use Rattle.sheet.specs.Reading.{Sheet, read}
+use Rattle.sheet.specs.Judging.{refused, given, numberIn, placeIn}
+use Rattle.sheet.specs.Refusals.{Refusal, numberOf, placeOf, smallTable}
+use Rattle.sheet.specs.Sheets.{Sheet}
+use Rattle.sheet.specs.Reading.{read}
 use Rattle.table.specs.declared.Plan.{Plan}
 use Rattle.table.specs.TableRows.{tableWords}
-use Rattle.table.specs.Adjoint.{tableOf}
-use Rattle.table.specs.Calls.{tableRoom, readFor, overwritten, tableIn, Written, write}
+use Rattle.table.specs.Computed.{tableOf}
+use Rattle.table.specs.Sizes.{tableRoom, Written}
+use Rattle.table.specs.Calls.{readFor, overwritten, tableIn, write}
 use Rattle.table.specs.inner.Plans.{PlanMade}
 
 module _ (words buffer : List ℕ) where

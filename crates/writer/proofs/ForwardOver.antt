@@ -5,12 +5,12 @@ use mathlib.Core.List.{List, [], _++_}
 use lib.ListN.{getD}
 use native.Mathlib.Omega.{arith}
 use Rattle.sheet.specs.Rows.{Row}
-use Rattle.sheet.specs.inner.RowLines.{lineOfRow}
-use Rattle.table.specs.inner.MarkedRows.{rowNumbered, forwardOfLine}
+use Rattle.sheet.specs.inner.RowLines.{lineOfRow, numberedRow}
+use Rattle.table.specs.inner.MarkedRows.{forwardOfLine}
 use Rattle.writer.specs.inner.RowsWritten.{forwardRows}
 
 module _ (words : List ℕ) (first : ℕ) (marks : List ℕ) (p rows : ℕ) where
-  pub forward-next : {r : Row} → p < rows → r ≡ rowNumbered words first p
+  pub forward-next : {r : Row} → p < rows → r ≡ numberedRow words first p
       → forwardRows words first marks p (rows - p)
       ≡ forwardOfLine (getD marks p 0) (lineOfRow r) ++ forwardRows words first marks (p + 1) (rows - (p + 1))
   unfolding forwardRows

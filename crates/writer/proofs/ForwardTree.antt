@@ -7,17 +7,17 @@ use lib.ListN.{getD}
 use native.Mathlib.Omega.{arith}
 use Rattle.sheet.specs.Tree.{Tree, done, one, fork, again, basic, ifLine, elseLine, endIf, repeat, endRepeat, flat, rows, RowNumber}
 use Rattle.sheet.specs.Rows.{Assignment, Test, SheetLine, Row, sheetRowOf, rowOf, rowOfTest, treeRows}
-use Rattle.sheet.specs.inner.RowLines.{lineOfRow}
-use Rattle.sheet.specs.Reading.{rowsAt}
+use Rattle.sheet.specs.inner.RowLines.{lineOfRow, numberedRow}
+use Rattle.sheet.specs.Sheets.{rowsAt}
 use Rattle.sheet.proofs.RowsBack.{line-back}
+use Rattle.sheet.proofs.RowsByNumber.{StandsAt, tree-stands, stands-after}
 use Rattle.sets.specs.Marks.{Marked, numbered}
 use Rattle.table.specs.TableRows.{Table, tableRowOf, rowOfAction, rowOfTableTest, whether, saveTurn, turning}
 use Rattle.table.specs.Adjoint.{put, forwardPart}
-use Rattle.table.specs.inner.MarkedRows.{rowWith, rowsIn, rowNumbered, forwardOfLine, Noted}
-use Rattle.writer.specs.inner.RowsWritten.{forwardRows}
+use Rattle.table.specs.inner.MarkedRows.{rowWith, rowsIn, forwardOfLine, Noted}
 use Rattle.table.proofs.AssignmentRows.{rows-of-put, rows-of-done, none-before}
 use Rattle.table.proofs.MarkedAssignment.{marked-forward}
-use Rattle.table.proofs.TreeRows.{StandsAt, tree-stands, stands-after}
+use Rattle.writer.specs.inner.RowsWritten.{forwardRows}
 use Rattle.writer.proofs.TableTree.{fork-before, again-before}
 
 turn-before : (row : RowNumber) (first : Bool) (after : List Row)
@@ -26,11 +26,11 @@ turn-before row first after = rw (rows-of-put row turning (saveTurn first) done,
 
 module _ (words : List ℕ) (first : ℕ) (marks came goes : List ℕ) (mark : ℕ → Assignment → Marked) where
   forward-turn : (p n : ℕ) → forwardRows words first marks p (suc n)
-      ≡ forwardOfLine (getD marks p 0) (lineOfRow (rowNumbered words first p)) ++ forwardRows words first marks (suc p) n
+      ≡ forwardOfLine (getD marks p 0) (lineOfRow (numberedRow words first p)) ++ forwardRows words first marks (suc p) n
   unfolding forwardRows
   forward-turn p n = refl
 
-  forward-step : (l : SheetLine) (p n c : ℕ) → c ≡ suc n → rowNumbered words first p ≡ sheetRowOf l
+  forward-step : (l : SheetLine) (p n c : ℕ) → c ≡ suc n → numberedRow words first p ≡ sheetRowOf l
       → forwardRows words first marks p c ≡ forwardOfLine (getD marks p 0) l ++ forwardRows words first marks (suc p) n
   forward-step l p n c e stands =
       ap (forwardRows words first marks p) e ∙ forward-turn p n

@@ -5,20 +5,23 @@ use mathlib.Core.Path.{_≡_, refl, ap, subst, _∙_}
 use mathlib.Core.List.{List}
 use lib.ListN.{length, set}
 use Rattle.sheet.specs.Tree.{rows}
-use Rattle.sheet.specs.Reading.{Sheet, variablesOf}
+use Rattle.sheet.specs.Sheets.{Sheet, variablesOf}
 use Rattle.sheet.specs.declared.Shape.{Shape}
-use Rattle.sets.specs.Marks.{marked}
+use Rattle.sets.specs.Rounds.{marked}
+use Rattle.sets.specs.Marks.{markedBy}
 use Rattle.table.specs.TableRows.{tableWords}
-use Rattle.table.specs.Adjoint.{adjointTable, tableOf}
-use Rattle.table.specs.Sizes.{mostTableRows, tableRows}
-use Rattle.table.specs.Calls.{tableRoom, overwritten}
+use Rattle.table.specs.Computed.{tableOf}
+use Rattle.table.specs.Adjoint.{adjointTable}
+use Rattle.table.specs.RowBounds.{mostTableRows}
+use Rattle.table.specs.Sizes.{tableRows, tableRoom}
+use Rattle.table.specs.Calls.{overwritten}
 use Rattle.table.specs.inner.MarkedRows.{rowsIn}
 use Rattle.table.specs.inner.Plans.{SheetNoted}
-use Rattle.writer.specs.inner.RowsWritten.{Handed, handed, Walkable, RowRoom, Wrote, wholeRows}
-use Rattle.writer.specs.inner.JumpsNoted.{noting, notedOver, Numbered, WroteNoted, TableNoted}
 use Rattle.table.proofs.TableLength.{table-rows-counted}
 use Rattle.table.proofs.SheetLaid.{Lies}
 use Rattle.table.proofs.PlanLaws.{marksOf}
+use Rattle.writer.specs.inner.RowsWritten.{Handed, handed, Walkable, RowRoom, Wrote, wholeRows}
+use Rattle.writer.specs.inner.JumpsNoted.{noting, notedOver, Numbered, WroteNoted, TableNoted}
 use Rattle.writer.proofs.WalkTree.{tree-walks}
 use Rattle.writer.proofs.WholeTable.{whole-is-table, buffer-overwritten}
 
@@ -38,7 +41,7 @@ module _ {words : List ℕ} {sheet : Sheet} {shape : Shape} (lies : Lies words s
       }
 
   whole-right : wholeRows given ≡ rowsIn (tableOf sheet)
-  unfolding tableOf marked
+  unfolding tableOf marked markedBy
   whole-right =
       whole-is-table given (marksOf sheet) (sheet .body) (lies .says) noted
       ∙ ap (λ v. rowsIn (adjointTable v (marked sheet))) (lies .variables)

@@ -9,13 +9,13 @@ use Rattle.sheet.specs.Tree.{Tree, done, one, fork, again, basic, ifLine, elseL
 use Rattle.sheet.specs.Rows.{Assignment, Test, SheetLine, sheetRowOf, rowOf, treeRows}
 use Rattle.sheet.specs.inner.RowLines.{lineOfRow}
 use Rattle.sheet.specs.inner.Kinds.{partOf}
-use Rattle.sheet.specs.Reading.{rowsAt}
+use Rattle.sheet.specs.Sheets.{rowsAt}
 use Rattle.sheet.proofs.RowsBack.{line-back}
+use Rattle.sheet.proofs.RowsByNumber.{StandsAt, tree-stands, stands-after, rows-of-tree}
 use Rattle.sets.specs.Marks.{Marked}
 use Rattle.sets.proofs.Truths.{never}
 use Rattle.table.specs.inner.MarkedRows.{Noted}
 use Rattle.writer.specs.inner.RowsWritten.{leadsOn, stepBack, Handed, rowOfNumber, wayBack, Visited, Walks}
-use Rattle.table.proofs.TreeRows.{StandsAt, tree-stands, stands-after, rows-of-tree}
 
 module _ (given : Handed) (mark : ℕ → Assignment → Marked) where
   walk-turn : (n e : ℕ) → Visited given e → Walks given n (wayBack given (e - 1)) → Walks given (suc n) e

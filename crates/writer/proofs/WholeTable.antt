@@ -8,18 +8,18 @@ use lib.Seq.{sets-eq}
 use native.Mathlib.Omega.{arith}
 use Rattle.sheet.specs.Tree.{Tree, done, one, fork, again, rows}
 use Rattle.sheet.specs.Rows.{Assignment, Test, treeRows}
-use Rattle.sheet.specs.Reading.{rowsAt}
+use Rattle.sheet.specs.Sheets.{rowsAt}
 use Rattle.sheet.proofs.RowsCounted.{lines-counted}
+use Rattle.sheet.proofs.RowsByNumber.{rows-of-tree}
 use Rattle.sets.specs.Marks.{Marked, numbered}
 use Rattle.table.specs.TableRows.{Table, TableRow, linesOf, wordsOf, tableWords, rowOfAction, whether, turnRound, ofTurningRound, saveTurn, turning}
 use Rattle.table.specs.Adjoint.{Body, put, forwardPart, backwardPart, adjointTable}
 use Rattle.table.specs.Calls.{overwritten}
 use Rattle.table.specs.inner.MarkedRows.{rowWith, rowsIn, Noted}
-use Rattle.writer.specs.inner.RowsWritten.{RowRoom, Wrote, Handed, wholeRows}
 use Rattle.table.proofs.AssignmentRows.{rows-of-done}
 use Rattle.table.proofs.TableLength.{words-counted}
 use Rattle.table.proofs.MarkedAssignment.{forward-row}
-use Rattle.table.proofs.TreeRows.{rows-of-tree}
+use Rattle.writer.specs.inner.RowsWritten.{RowRoom, Wrote, Handed, wholeRows}
 use Rattle.writer.proofs.TableTree.{rows-of-one, rows-of-fork, rows-of-again}
 use Rattle.writer.proofs.ForwardTree.{forward-is-forward-part}
 use Rattle.writer.proofs.BackwardTree.{backward-is-backward-part}

@@ -7,8 +7,8 @@ use lib.Seq.{sets, length-sets}
 use native.Mathlib.Omega.{arith}
 use Rattle.sheet.specs.Rows.{Row}
 use Rattle.table.specs.TableRows.{wordsOf}
-use Rattle.writer.specs.inner.RowsWritten.{RowRoom, Wrote}
 use Rattle.table.proofs.TableLength.{words-counted}
+use Rattle.writer.specs.inner.RowsWritten.{RowRoom, Wrote}
 
 pub row-stores : (l : List ℕ) (p k d a b : ℕ) → set (set (set (set l p k) (p + 1) d) (p + 2) a) (p + 3) b ≡ sets l p (k ∷ d ∷ a ∷ b ∷ [])
 row-stores l p k d a b =

@@ -1,10 +1,10 @@
 // One sheet row's rows in the table.
 ghost use mathlib.Core.Path.{_≡_};
+ghost use Prim.Native.Nat.{_≤_};
+ghost use mathlib.Core.List.{[], _∷_};
 ghost use Rattle.sheet.specs.inner.RowLines.{lineOfRow};
 ghost use Rattle.sheet.specs.Answers.{rowSaid};
 ghost use Rattle.sheet.specs.Bounds.{limit};
-ghost use Prim.Native.Nat.{_≤_};
-ghost use mathlib.Core.List.{[], _∷_};
 ghost use Rattle.table.specs.TableRows.{t};
 ghost use Rattle.table.specs.inner.MarkedRows.{rowWith, rowIf, SmallWords, scaledRows, partRows, derivativesOf, assignmentBack, Assigns, SaysPart, forwardOfLine, backwardOfLine};
 ghost use Rattle.writer.specs.inner.RowsWritten.{RowRoom, Wrote};

@@ -4,7 +4,7 @@ ghost use mathlib.Core.Bool.{true};
 ghost use lib.ListN.{set, length, getD};
 ghost use Prim.Native.Nat.{_+_, _*_, _≤_, _<_};
 ghost use Rattle.sheet.specs.Bounds.{limit};
-ghost use Rattle.table.specs.Sizes.{mostTableRows};
+ghost use Rattle.table.specs.RowBounds.{mostTableRows};
 ghost use Rattle.table.specs.inner.MarkedRows.{RowsReadable};
 ghost use Rattle.writer.specs.inner.RowsWritten.{RowRoom, forwardAll, leadsOn, stepBack, turnsBack, handed, Walkable, backwardAll, wholeRows};
 ghost use Rattle.writer.specs.inner.JumpsNoted.{noting, Numbered, WroteNoted};

@@ -2,7 +2,7 @@
 use mathlib.Core.Path.{sym}
 use borrow.Author.Tests.{le-leb, lt-leb}
 use native.Mathlib.Omega.{arith}
-use Rattle.table.specs.Calls.{tableRoom}
+use Rattle.table.specs.Sizes.{tableRoom}
 use Rattle.writer.proofs.has_room.Statement.{statement}
 use Rattle.writer.proofs.has_room.Tie as tie
 

@@ -7,12 +7,12 @@ use lib.ListN.{length, getD, set}
 use lib.Dec.{eqb}
 use Rattle.sheet.specs.Bounds.{limit}
 use Rattle.sheet.specs.Rows.{Row}
-use Rattle.sheet.specs.Reading.{Sheet}
+use Rattle.sheet.specs.Sheets.{Sheet}
 use Rattle.sheet.specs.declared.kinds.Part.{Part}
 use Rattle.sheet.specs.declared.kinds.Part.the-variants as part
 use Rattle.table.specs.TableRows.{Table, tableWords}
-use Rattle.table.specs.Adjoint.{tableOf}
-use Rattle.table.specs.Sizes.{mostTableRows}
+use Rattle.table.specs.Computed.{tableOf}
+use Rattle.table.specs.RowBounds.{mostTableRows}
 use Rattle.table.specs.Calls.{overwritten}
 use Rattle.table.specs.inner.MarkedRows.{rowsIn}
 use Rattle.writer.specs.declared.jumps.Branching.{Branching}

@@ -5,16 +5,16 @@ use mathlib.Core.Bool.{Bool, true, false}
 use mathlib.Core.List.{List, [], _∷_, _++_}
 use lib.ListN.{length, getD}
 use lib.Seq.{sets}
-use Rattle.sheet.specs.Reading.{rowAt}
+use Rattle.sheet.specs.Sheets.{rowAt}
 use Rattle.sheet.specs.Bounds.{limit}
 use Rattle.sheet.specs.Rows.{Row}
-use Rattle.sheet.specs.inner.RowLines.{lineOfRow}
+use Rattle.sheet.specs.inner.RowLines.{lineOfRow, numberedRow}
 use Rattle.sheet.specs.inner.Kinds.{partOf}
 use Rattle.sheet.specs.declared.Shape.{Shape}
 use Rattle.sheet.specs.declared.kinds.Part.{Part}
 use Rattle.sheet.specs.declared.kinds.Part.the-variants as part
 use Rattle.table.specs.TableRows.{wordsOf}
-use Rattle.table.specs.inner.MarkedRows.{rowWith, rowNumbered, forwardOfLine, backwardOfLine, SmallWords}
+use Rattle.table.specs.inner.MarkedRows.{rowWith, forwardOfLine, backwardOfLine, SmallWords}
 
 -- ---- rows in a buffer
 
@@ -34,7 +34,7 @@ unfoldable pub forwardRows : (words : List ℕ) (first : ℕ) (marks : List ℕ)
 unfolding forwardOfLine lineOfRow rowAt
 forwardRows words first marks p zero = []
 forwardRows words first marks p (suc n) =
-    forwardOfLine (getD marks p 0) (lineOfRow (rowNumbered words first p)) ++ forwardRows words first marks (suc p) n
+    forwardOfLine (getD marks p 0) (lineOfRow (numberedRow words first p)) ++ forwardRows words first marks (suc p) n
 
 abbrev pub forwardAll : (words : List ℕ) → Shape → (marks : List ℕ) → List Row
 forwardAll words shape marks = forwardRows words (shape .«first_row») marks 0 (shape .rows)
@@ -72,7 +72,7 @@ turnsBack words first goes q part.If = 0
 turnsBack words first goes q part.Else = 0
 turnsBack words first goes q part.EndIf = 0
 turnsBack words first goes q part.Repeat = 0
-turnsBack words first goes q part.EndRepeat = rowNumbered words first (getD goes q 0) .a
+turnsBack words first goes q part.EndRepeat = numberedRow words first (getD goes q 0) .a
 
 -- what the writer is handed for the backward part
 pub record Handed : Type 0 where
@@ -98,7 +98,7 @@ handed words shape marks came goes =
 
 module _ (given : Handed) where
   abbrev pub rowOfNumber : ℕ → Row
-  rowOfNumber q = rowNumbered (given .words) (given .first) q
+  rowOfNumber q = numberedRow (given .words) (given .first) q
 
   -- the backward part's rows: of row q, and of so many rows from the one before `end` on
   abbrev pub backwardAt : (q : ℕ) → List Row

@@ -6,18 +6,19 @@ use mathlib.Core.Bool.{true}
 use lib.ListN.{length, getD}
 use borrow.Author.Needs.{needs}
 use native.Mathlib.Omega.{arith}
-use Rattle.table.specs.inner.MarkedRows.{Says, SaysPart, SmallWords}
+use Rattle.sheet.specs.Answers.{rowSaid}
+use Rattle.sheet.specs.Rows.{kinds}
+use Rattle.sheet.specs.declared.kinds.Part.{Part}
+use Rattle.sheet.specs.inner.RowLines.{lineOfRow, SaysLine}
+use Rattle.sheet.specs.inner.Kinds.{partOf}
+use Rattle.sheet.proofs.PartsRead.{formIn, part-there}
+use Rattle.sheet.proofs.RowsByKind.{row-kind}
+use Rattle.table.specs.inner.MarkedRows.{SaysPart, SmallWords}
+use Rattle.table.proofs.LineRows.{says-part}
 use Rattle.writer.specs.inner.RowsWritten.{leadsOn, Handed, handed, backwardAll, backwardRows, Visited, Walks}
 use Rattle.writer.specs.inner.JumpsNoted.{noting}
 use Rattle.writer.proofs.WritingLaws.{Underway, underway-start, underway-room, underway-next, underway-end, underway-length, room-first}
 use Rattle.writer.proofs.JumpLaws.{Jumping, jumping-start, backward-ends, row-ends, jumping-next, jumping-end}
-use Rattle.sheet.specs.Answers.{rowSaid}
-use Rattle.sheet.specs.Rows.{kinds}
-use Rattle.sheet.specs.declared.kinds.Part.{Part}
-use Rattle.sheet.proofs.PartsRead.{formIn, part-there}
-use Rattle.sheet.specs.inner.RowLines.{lineOfRow}
-use Rattle.sheet.specs.inner.Kinds.{partOf}
-use Rattle.table.proofs.LineRows.{says-kind, says-part}
 use Rattle.writer.proofs.BackwardOver.{backward-next, backward-none, visit-now, walk-on}
 use Rattle.writer.proofs.sweep.backward_part.Statement.{statement}
 use Rattle.writer.proofs.sweep.backward_part.Tie as tie
@@ -44,10 +45,14 @@ visit c = visit-now (handedTo c) _ _ (c .loop-test .taken) (c .before .loop .inv
 there : (c : tie.In-loop Inv-loop μ-loop) → c .before .loop .end - 1 < handedTo c .rows
 there c = omega (arith, visit c)
 
-in-table : (c : tie.After-wide Inv-loop μ-loop) → c .before .row-of .result .kind ≤ length kinds
-in-table c =
+-- the row that was read says a line
+says : (c : tie.After-wide Inv-loop μ-loop) → SaysLine (rowSaid (c .before .row-of .result))
+says c =
     let turn = c .before .before in
-    says-kind (c .before .row-of .ensures) (start turn .pre .1 .1 .0 .says _ (there turn))
+    subst SaysLine (sym (c .before .row-of .ensures)) (start turn .pre .1 .1 .0 .says _ (there turn))
+
+in-table : (c : tie.After-wide Inv-loop μ-loop) → c .before .row-of .result .kind ≤ length kinds
+in-table c = row-kind (says c)
 
 -- what the row is to the blocks, as the table has it for its kind
 abbrev part : tie.After-wide Inv-loop μ-loop → Part
@@ -57,7 +62,7 @@ part c = formIn (c .before .before .before .before .forms .result) (c .wide .res
 said : (c : tie.After-wide Inv-loop μ-loop) → SaysPart (rowSaid (c .before .row-of .result)) (part c)
 said c =
     let turn = c .before .before in
-    says-part _ _ (subst Says (sym (c .before .row-of .ensures)) (start turn .pre .1 .1 .0 .says _ (there turn)))
+    says-part _ _ (says c)
     (part-there (turn .before .before .forms .ensures) (c .wide .ensures .0) (in-table c))
 
 -- the row that it leads to is there

@@ -8,14 +8,15 @@ use native.Mathlib.Omega.{arith}
 use Rattle.sheet.specs.Answers.{rowSaid}
 use Rattle.sheet.specs.Rows.{kinds}
 use Rattle.sheet.specs.declared.kinds.Part.{Part}
+use Rattle.sheet.specs.inner.RowLines.{lineOfRow, SaysLine}
 use Rattle.sheet.proofs.PartsRead.{formIn, part-there}
-use Rattle.sheet.specs.inner.RowLines.{lineOfRow}
-use Rattle.table.specs.inner.MarkedRows.{Says, SaysPart, forwardOfLine}
+use Rattle.sheet.proofs.RowsByKind.{row-kind}
+use Rattle.table.specs.inner.MarkedRows.{SaysPart, forwardOfLine}
+use Rattle.table.proofs.LineRows.{says-part}
 use Rattle.writer.specs.inner.RowsWritten.{forwardRows, forwardAll}
 use Rattle.writer.specs.inner.JumpsNoted.{noting}
 use Rattle.writer.proofs.WritingLaws.{Underway, underway-start, underway-room, underway-next, underway-end, underway-length, room-first}
 use Rattle.writer.proofs.JumpLaws.{Jumping, jumping-start, forward-ends, row-ends, jumping-next, jumping-end}
-use Rattle.table.proofs.LineRows.{says-kind, says-part}
 use Rattle.writer.proofs.ForwardOver.{forward-next, forward-none}
 use Rattle.writer.proofs.sweep.forward_part.Statement.{statement}
 use Rattle.writer.proofs.sweep.forward_part.Tie as tie
@@ -32,10 +33,14 @@ abbrev μ-loop : tie.MeasureT-loop
 abbrev start : tie.In-loop Inv-loop μ-loop → tie.Start Inv-loop μ-loop
 start c = c .before .before .before .before .before .before
 
-in-table : (c : tie.After-wide Inv-loop μ-loop) → c .before .row-of .result .kind ≤ length kinds
-in-table c =
+-- the row that was read says a line
+says : (c : tie.After-wide Inv-loop μ-loop) → SaysLine (rowSaid (c .before .row-of .result))
+says c =
     let turn = c .before .before in
-    says-kind (c .before .row-of .ensures) (start turn .pre .1 .1 .says _ (turn .loop-test .taken))
+    subst SaysLine (sym (c .before .row-of .ensures)) (start turn .pre .1 .1 .says _ (turn .loop-test .taken))
+
+in-table : (c : tie.After-wide Inv-loop μ-loop) → c .before .row-of .result .kind ≤ length kinds
+in-table c = row-kind (says c)
 
 -- what the row is to the blocks, as the table has it for its kind
 abbrev part : tie.After-wide Inv-loop μ-loop → Part
@@ -45,7 +50,7 @@ part c = formIn (c .before .before .before .before .forms .result) (c .wide .res
 said : (c : tie.After-wide Inv-loop μ-loop) → SaysPart (rowSaid (c .before .row-of .result)) (part c)
 said c =
     let turn = c .before .before in
-    says-part _ _ (subst Says (sym (c .before .row-of .ensures)) (start turn .pre .1 .1 .says _ (turn .loop-test .taken)))
+    says-part _ _ (says c)
     (part-there (turn .before .before .forms .ensures) (c .wide .ensures .0) (in-table c))
 
 -- the row's rows before those of the rest

@@ -1,6 +1,6 @@
 -- `writer::sweep::turns_back` meets its contract.
 use mathlib.Core.Path.{sym, ap, _∙_}
-use Rattle.table.specs.inner.MarkedRows.{rowNumbered}
+use Rattle.sheet.specs.inner.RowLines.{numberedRow}
 use Rattle.writer.specs.inner.RowsWritten.{leadsOn, turnsBack}
 use Rattle.writer.proofs.PartsApart.{not-end-repeat}
 use borrow.Author.Needs.{needs}
@@ -24,7 +24,7 @@ unfolding turnsBack
 returns c =
     let told = c .before .before in
     let x = told .before .before .before .before .args in
-    let opened = ap (λ r. r .a) (c .row-of .ensures) ∙ ap (λ p. rowNumbered (x .words .now) (x .first) p .a) (c .before .partner .ensures) in
+    let opened = ap (λ r. r .a) (c .row-of .ensures) ∙ ap (λ p. numberedRow (x .words .now) (x .first) p .a) (c .before .partner .ensures) in
     rw (told .enum-told .given .1) opened
 
 returns-2 : tie.Need-returns-2
