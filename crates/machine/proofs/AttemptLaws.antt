@@ -9,8 +9,7 @@ use lib.ListN.{length, set}
 use native.Mathlib.Omega.{arith}
 use Rattle.number.specs.Arithmetic.{Arithmetic, Outcome, stop, value}
 use Rattle.table.specs.TableRows.{Origin}
-use Rattle.machine.specs.Attempts.{Attempt, _>>=_, halted, present, replaced, stuck, through, fromOutcome}
-use Rattle.machine.specs.Actions.{stoppingAt}
+use Rattle.machine.specs.Actions.{Attempt, _>>=_, halted, present, replaced, stuck, through, fromOutcome, stoppingAt}
 
 pub bind-assoc : {W X Y Z : Type 0} (m : Attempt W X) (f : X → Attempt W Y) (g : Y → Attempt W Z) → (m >>= f >>= g) ≡ (m >>= λ x. f x >>= g)
 bind-assoc (through x) f g = refl

@@ -15,7 +15,9 @@ use Rattle.sheet.specs.Bounds.{limit}
 use Rattle.sheet.specs.Tree.{ifLine, elseLine, endIf, repeat, endRepeat}
 use Rattle.sheet.specs.Rows.{less, Row, rowOf}
 use Rattle.sheet.specs.Answers.{rowSaid}
-use Rattle.sheet.specs.Reading.{rowAt}
+use Rattle.sheet.specs.Sheets.{rowAt}
+use Rattle.sheet.specs.declared.RowWords.{RowWords}
+use Rattle.sheet.specs.declared.Variable.{Variable}
 use Rattle.table.specs.TableRows.{TableTest, whether, onTurn, TableLine, tableRowOf}
 use Rattle.machine.specs.Actions.{Setting, verdictOn}
 use Rattle.machine.specs.Machine.{itsElse, itsEnd, oneMore, seek, Repeat, State, Step, step, stepAt, goTo, jump, afterTest, afterTurn}
@@ -36,8 +38,6 @@ use Rattle.machine.specs.declared.Ended.{Ended}
 use Rattle.machine.specs.declared.Ended.the-variants as ended-as
 use Rattle.machine.specs.declared.Met.{Met}
 use Rattle.machine.specs.declared.Met.the-variants as met-as
-use Rattle.sheet.specs.declared.RowWords.{RowWords}
-use Rattle.sheet.specs.declared.Variable.{Variable}
 use Rattle.machine.proofs.LineLaws.{blockOf, block-said}
 use Rattle.machine.proofs.OpenedLaws.{opened-length}
 use Rattle.machine.proofs.StraightLaws.{stands-there, words-there}

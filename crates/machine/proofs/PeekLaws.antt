@@ -16,7 +16,7 @@ use Rattle.sheet.specs.Rows.{Row, Source, _≔_, copy, sum}
 use Rattle.sheet.specs.Answers.{rowSaid}
 use Rattle.sheet.specs.declared.RowWords.{RowWords}
 use Rattle.table.specs.TableRows.{assign}
-use Rattle.machine.specs.Attempts.{through, fromOutcome}
+use Rattle.machine.specs.Actions.{through, fromOutcome}
 use Rattle.machine.specs.inner.Buffers.{cellsOf, Evaluates}
 use Rattle.machine.specs.inner.RowWords.{actionOf, Named}
 use Rattle.machine.specs.inner.RowsHanded.{Indexes}

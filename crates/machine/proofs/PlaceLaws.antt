@@ -5,7 +5,7 @@ use mathlib.Core.List.{List, [], _∷_}
 use mathlib.Core.Option.{some}
 use native.Mathlib.Omega.{arith}
 use lib.ListN.{length, getD, getElem?}
-use Rattle.machine.specs.Attempts.{through, look}
+use Rattle.machine.specs.Actions.{through, look}
 
 module _ {X : Type 0} where
   pub place-there : (xs : List X) (i : ℕ) (z : X) → i < length xs → getElem? xs i ≡ some (getD xs i z)

@@ -14,8 +14,7 @@ use Rattle.number.specs.Doubles.{doubles}
 use Rattle.number.specs.Residues.{residues}
 use Rattle.sheet.specs.Rows.{_≔_}
 use Rattle.table.specs.TableRows.{Action, save, takeBack, saveTurn, clear, assign, turnWord}
-use Rattle.machine.specs.Attempts.{through, halted, stuck, _>>=_}
-use Rattle.machine.specs.Actions.{Setting, acted, tested, compared}
+use Rattle.machine.specs.Actions.{through, halted, stuck, _>>=_, Setting, acted, tested, compared}
 use Rattle.machine.specs.inner.RowAnswers.{branchOf, turnOf, heightBranched}
 use Rattle.machine.specs.inner.Buffers.{Buffers, memoryOf, Sound, Does, InBoth, Assigns, Clears, MovesValues, SavesTurn, Compares, TakesTurn, stackOf}
 use Rattle.machine.specs.declared.Went.the-variants as went

@@ -8,8 +8,7 @@ use native.Mathlib.Omega.{arith}
 use lib.ListN.{length, take, drop, replicate, take-append-drop}
 use Rattle.number.specs.Arithmetic.{Arithmetic}
 use Rattle.table.specs.TableRows.{Action, TableTest}
-use Rattle.machine.specs.Attempts.{Attempt, through, halted, stuck}
-use Rattle.machine.specs.Actions.{Memory, Setting, Try, Verdict}
+use Rattle.machine.specs.Actions.{Attempt, through, halted, stuck, Memory, Setting, Try, Verdict}
 use Rattle.machine.specs.inner.Buffers.{Buffers, memoryOf, Sound, Does, Tests, stackOf, Stack}
 use Rattle.machine.proofs.StackLaws.{stack-length}
 

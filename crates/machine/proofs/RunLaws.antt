@@ -8,6 +8,7 @@ use native.Mathlib.Omega.{arith}
 use lib.ListN.{length}
 use Rattle.number.specs.Arithmetic.{Arithmetic}
 use Rattle.sheet.specs.Bounds.{limit}
+use Rattle.sheet.specs.declared.RowNumber.{RowNumber}
 use Rattle.table.specs.TableRows.{TableLine}
 use Rattle.machine.specs.Actions.{Memory, Setting}
 use Rattle.machine.specs.Machine.{Repeat, State, Step, goesOn, ended, stops, sticks, step, ifItGoesOn, stateAfter}
@@ -25,7 +26,6 @@ use Rattle.machine.specs.declared.Crossed.the-variants as crossed
 use Rattle.machine.specs.declared.Ended.{Ended}
 use Rattle.machine.specs.declared.Ended.the-variants as ended-as
 use Rattle.machine.specs.declared.Ran.{Ran}
-use Rattle.sheet.specs.declared.RowNumber.{RowNumber}
 use Rattle.machine.proofs.StepsInTurn.{steps-add}
 use Rattle.machine.proofs.OpenedLaws.{opened-length}
 

@@ -16,10 +16,9 @@ use Rattle.number.specs.Residues.{residues}
 use Rattle.sheet.specs.Bounds.{limit}
 use Rattle.sheet.specs.Tree.{basic}
 use Rattle.sheet.specs.Rows.{Source, _≔_, Row, rowOf}
-use Rattle.sheet.specs.Reading.{rowAt}
+use Rattle.sheet.specs.Sheets.{rowAt}
 use Rattle.table.specs.TableRows.{Action, assign, save, takeBack, saveTurn, clear, turnRound, TableLine, TableRow, rowOfAction, tableRowOf}
-use Rattle.machine.specs.Attempts.{Attempt, through, halted, stuck}
-use Rattle.machine.specs.Actions.{Memory, Setting, Try, stoppingAt, evaluated, acted}
+use Rattle.machine.specs.Actions.{Attempt, through, halted, stuck, Memory, Setting, Try, stoppingAt, evaluated, acted}
 use Rattle.machine.specs.inner.RowAnswers.{whetherWent, whetherDid, whetherMoved, heightAfter}
 use Rattle.machine.specs.Machine.{Repeat, Step, step, stepAt, afterAction, goTo}
 use Rattle.machine.specs.inner.Buffers.{Buffers, Cells, cellsOf, memoryOf, Sound, Does, Assigns, MovesValues, SavesTurn, Clears, RoundSizes, TurnsRound}

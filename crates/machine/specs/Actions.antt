@@ -3,13 +3,43 @@ use Prim.Native.Nat.{ℕ, _*_}
 use mathlib.Core.Bool.{Bool, cond}
 use mathlib.Core.List.{List, [], _∷_, _++_}
 use mathlib.Core.Option.{Option, none, some}
-use lib.ListN.{take, drop, getD, getElem?}
-use lib.Dec.{eqb}
-use Rattle.number.specs.Arithmetic.{Arithmetic}
-use Rattle.number.specs.Constants.{signed}
+use lib.ListN.{take, drop, getD, getElem?, length, set}
+use lib.Dec.{eqb, ltb}
+use Rattle.number.specs.Arithmetic.{Arithmetic, Outcome, value, stop, signed}
 use Rattle.sheet.specs.Rows.{_≔_, Source, copy, fixed, sum, difference, product, negation, Test, less, isDependent}
 use Rattle.table.specs.TableRows.{Action, assign, save, takeBack, saveTurn, clear, turnRound, TableTest, whether, onTurn, turnWord, Origin}
-use Rattle.machine.specs.Attempts.{Attempt, through, halted, stuck, _>>=_, fromOutcome, look, replaced, pushed}
+
+-- What trying a row comes to: it went through, the arithmetic stopped it, or it is stuck. Being stuck is an outcome of its own.
+pub data Attempt (Why X : Type 0) : Type 0 where
+  through : X → Attempt Why X
+  halted : Why → Attempt Why X
+  stuck : Attempt Why X
+
+module _ {Why : Type 0} where
+  infixl 30 _>>=_
+  abbrev pub _>>=_ : {X Y : Type 0} → Attempt Why X → (X → Attempt Why Y) → Attempt Why Y
+  through x >>= next = next x
+  halted why >>= next = halted why
+  stuck >>= next = stuck
+
+  abbrev pub fromOutcome : {X : Type 0} → Outcome X Why → Attempt Why X
+  fromOutcome (value x) = through x
+  fromOutcome (stop why) = halted why
+
+  abbrev pub present : {X : Type 0} → Option X → Attempt Why X
+  present none = stuck
+  present (some x) = through x
+
+  -- what stands at a place, and the list with another thing there: an unknown place is stuck
+  abbrev pub look : {X : Type 0} → List X → ℕ → Attempt Why X
+  look xs i = present (getElem? xs i)
+
+  abbrev pub replaced : {X : Type 0} → List X → ℕ → X → Attempt Why (List X)
+  replaced xs i x = cond (ltb i (length xs)) (through (set xs i x)) stuck
+
+  -- onto a stack of so many places, top first: a full one is stuck
+  abbrev pub pushed : {X : Type 0} → (room : ℕ) → X → List X → Attempt Why (List X)
+  pushed room x stack = cond (ltb (length stack) room) (through (x ∷ stack)) stuck
 
 module _ (A : Arithmetic) where
   -- what a run works on: the 2V + 2 variables, both stacks, top first, and the values that row 17 copies out

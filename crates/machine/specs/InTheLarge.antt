@@ -1,11 +1,13 @@
--- A table's rows in the large, block by block: what the machine's steps come to.
+-- A table's rows in the large, block by block: what the machine's steps come to, and what derivative rows then read. No demand speaks of it: the
+-- laws of claims and run go through it.
 use Prim.Native.Nat.{zero, suc}
 use mathlib.Core.Bool.{cond}
+use mathlib.Core.List.{List, [], _++_}
 use Rattle.number.specs.Arithmetic.{Arithmetic}
 use Rattle.sheet.specs.Tree.{done, one, fork, again}
 use Rattle.table.specs.TableRows.{Table}
-use Rattle.machine.specs.Attempts.{Attempt, through, _>>=_, present}
-use Rattle.machine.specs.Actions.{Memory, Setting, Stop, stoppingAt, acted, tested}
+use Rattle.machine.specs.Actions.{Attempt, through, _>>=_, present, Memory, Setting, Stop, stoppingAt, acted, tested}
+use Rattle.machine.specs.RowReads.{Entry, noted, readsOf, onThrough}
 
 module _ (A : Arithmetic) where
   unfoldable pub tableRun : Setting A → Table → Memory A → Attempt (Stop A) (Memory A)
@@ -24,3 +26,20 @@ module _ (A : Arithmetic) where
   tableRun setting (again (suc m) a k) memory = do
     next ← tableRun setting a memory
     tableRun setting (again m a k) next
+
+  -- what its derivative rows read
+  unfoldable pub tableLog : Setting A → Table → Memory A → List (Entry A)
+  unfolding readsOf acted tested tableRun
+  tableLog setting done memory = []
+  tableLog setting (one row k) memory =
+      noted A (setting .variables) row memory
+      ++ onThrough A (stoppingAt A (row .origin) (acted A setting (row .action) memory)) (λ next. tableLog setting k next)
+  tableLog setting (fork f a b k) memory =
+      onThrough A {W = Stop A} (present (tested A f memory))
+      (λ verdict.
+      cond (verdict .first) (tableLog setting a (verdict .memory)) (tableLog setting b (verdict .memory))
+      ++ onThrough A (cond (verdict .first) (tableRun setting a (verdict .memory)) (tableRun setting b (verdict .memory)))
+      (λ next. tableLog setting k next))
+  tableLog setting (again zero a k) memory = tableLog setting a memory ++ onThrough A (tableRun setting a memory) (λ next. tableLog setting k next)
+  tableLog setting (again (suc m) a k) memory =
+      tableLog setting a memory ++ onThrough A (tableRun setting a memory) (λ next. tableLog setting (again m a k) next)

@@ -8,8 +8,7 @@ use lib.ListN.{drop}
 use Rattle.number.specs.Arithmetic.{Arithmetic}
 use Rattle.sheet.specs.Tree.{Tree, done, one, fork, again, Line, basic, ifLine, elseLine, endIf, repeat, endRepeat, RowNumber}
 use Rattle.table.specs.TableRows.{TableLine}
-use Rattle.machine.specs.Attempts.{Attempt, through, halted, stuck}
-use Rattle.machine.specs.Actions.{Memory, Setting, Stop, stoppingAt, Verdict, acted, tested}
+use Rattle.machine.specs.Actions.{Attempt, through, halted, stuck, Memory, Setting, Stop, stoppingAt, Verdict, acted, tested}
 
 -- ---- from an "if" past its "else", and from an "else" past its "end if"
 

@@ -1,18 +1,15 @@
--- What derivative rows read: each one that is executed, with the original values that it reads, in the order of execution; of the machine's
--- steps and of a table in the large.
+-- What derivative rows read: each one that the machine executes, with the original values that it reads, in the order of execution.
 use Prim.Native.Nat.{ℕ, zero, suc}
 use mathlib.Core.Bool.{Bool, true, false, cond}
 use mathlib.Core.List.{List, [], _∷_, _++_}
 use lib.ListN.{getD, drop}
 use lib.Dec.{ltb}
 use Rattle.number.specs.Arithmetic.{Arithmetic}
-use Rattle.sheet.specs.Tree.{done, one, fork, again, basic, ifLine, elseLine, endIf, repeat, endRepeat}
+use Rattle.sheet.specs.Tree.{basic, ifLine, elseLine, endIf, repeat, endRepeat}
 use Rattle.sheet.specs.Rows.{_≔_, Source, copy, fixed, sum, difference, product, negation}
-use Rattle.table.specs.TableRows.{Table, TableRow, TableLine, Action, assign, save, takeBack, saveTurn, clear, turnRound, Operation, saving, itself, turning, takingBack, holding, clearing, scalingForA, addingToA, scalingForB, addingToB, Origin, ofRow, ofTurningRound}
-use Rattle.machine.specs.Attempts.{Attempt, through, halted, stuck, present}
-use Rattle.machine.specs.Actions.{Memory, Setting, Stop, stoppingAt, acted, tested}
+use Rattle.table.specs.TableRows.{TableRow, TableLine, Action, assign, save, takeBack, saveTurn, clear, turnRound, Operation, saving, itself, turning, takingBack, holding, clearing, scalingForA, addingToA, scalingForB, addingToB, Origin, ofRow, ofTurningRound}
+use Rattle.machine.specs.Actions.{Attempt, through, halted, stuck, Memory, Setting}
 use Rattle.machine.specs.Machine.{State, Step, goesOn, ended, stops, sticks, stateAfter}
-use Rattle.machine.specs.InTheLarge.{tableRun}
 
 -- the rows of a derivative rule, as against saving, taking back and the sheet's own rows
 abbrev pub isDerivative : Operation → Bool
@@ -91,25 +88,8 @@ module _ (A : Arithmetic) where
       machineLog n setting lines state
       ++ onNext (stateAfter A n setting lines state) (λ next. notedAt (setting .variables) (drop (next .at .index) lines) (next .memory))
 
-  -- ---- of a table in the large
-
+  -- nothing is noted after what doesn't go through
   abbrev pub onThrough : {W X : Type 0} → Attempt W X → (X → List Entry) → List Entry
   onThrough (through x) log = log x
   onThrough (halted why) log = []
   onThrough stuck log = []
-
-  unfoldable pub tableLog : Setting A → Table → Memory A → List Entry
-  unfolding readsOf acted tested tableRun
-  tableLog setting done memory = []
-  tableLog setting (one row k) memory =
-      noted (setting .variables) row memory
-      ++ onThrough (stoppingAt A (row .origin) (acted A setting (row .action) memory)) (λ next. tableLog setting k next)
-  tableLog setting (fork f a b k) memory =
-      onThrough {W = Stop A} (present (tested A f memory))
-      (λ verdict.
-      cond (verdict .first) (tableLog setting a (verdict .memory)) (tableLog setting b (verdict .memory))
-      ++ onThrough (cond (verdict .first) (tableRun A setting a (verdict .memory)) (tableRun A setting b (verdict .memory)))
-      (λ next. tableLog setting k next))
-  tableLog setting (again zero a k) memory = tableLog setting a memory ++ onThrough (tableRun A setting a memory) (λ next. tableLog setting k next)
-  tableLog setting (again (suc m) a k) memory =
-      tableLog setting a memory ++ onThrough (tableRun A setting a memory) (λ next. tableLog setting (again m a k) next)

@@ -3,7 +3,7 @@ ghost use mathlib.Core.Path.{_≡_};
 ghost use Prim.Native.Nat.{suc, _+_, _*_, _≤_};
 ghost use lib.ListN.{length};
 ghost use Rattle.sheet.specs.Bounds.{limit};
-ghost use Rattle.sheet.specs.Reading.{rowAt};
+ghost use Rattle.sheet.specs.Sheets.{rowAt};
 ghost use Rattle.sheet.specs.Answers.{rowSaid};
 ghost use Rattle.machine.specs.inner.RowsHanded.{placeOfRow};
 ghost use Rattle.machine.specs.inner.RowSteps.{Meets, MeetsKind, Reaches};

@@ -1,8 +1,7 @@
 -- `double_rows::negated` meets its contract.
 use mathlib.Core.Path.{ap}
 use lib.Ieee.{nan}
-use Rattle.machine.specs.Actions.{evaluated}
-use Rattle.machine.specs.Attempts.{fromOutcome}
+use Rattle.machine.specs.Actions.{evaluated, fromOutcome}
 use Rattle.machine.proofs.PlaceLaws.{look-there}
 use borrow.Author.Needs.{needs}
 use Rattle.double_rows.proofs.negated.Statement.{statement}

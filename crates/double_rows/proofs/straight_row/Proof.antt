@@ -2,7 +2,7 @@
 use mathlib.Core.Path.{refl}
 use native.Mathlib.Omega.{arith}
 use borrow.Author.Needs.{needs}
-use Rattle.sheet.specs.Reading.{rowAt}
+use Rattle.sheet.specs.Sheets.{rowAt}
 use Rattle.machine.proofs.StraightLaws.{straight-acts, straight-over}
 use Rattle.double_rows.proofs.straight_row.Statement.{statement}
 use Rattle.double_rows.proofs.straight_row.Tie as tie

@@ -10,8 +10,7 @@ use Rattle.number.specs.Doubles.{doubles}
 use Rattle.number.specs.Residues.{residues}
 use Rattle.sheet.specs.Rows.{Source, fixed, _≔_, less}
 use Rattle.table.specs.TableRows.{Action, assign, saveTurn, clear, turnRound, TableTest, whether, onTurn}
-use Rattle.machine.specs.Attempts.{through, _>>=_}
-use Rattle.machine.specs.Actions.{Memory, Setting, Try, evaluated, acted, tested, verdictOn}
+use Rattle.machine.specs.Actions.{through, _>>=_, Memory, Setting, Try, evaluated, acted, tested, verdictOn}
 use Rattle.machine.specs.inner.RowAnswers.{whetherWent, whetherMoved, heightAfter, branchOf, turnOf, heightBranched}
 use Rattle.machine.specs.declared.Went.{Went}
 use Rattle.machine.specs.declared.Went.the-variants as went-as

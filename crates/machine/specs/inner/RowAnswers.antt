@@ -3,8 +3,7 @@ use Prim.Native.Nat.{ℕ}
 use mathlib.Core.Bool.{Bool, true, false}
 use mathlib.Core.Option.{Option, none, some}
 use Rattle.number.specs.Doubles.{doubles, notFinite}
-use Rattle.machine.specs.Attempts.{Attempt, through, halted, stuck}
-use Rattle.machine.specs.Actions.{Try}
+use Rattle.machine.specs.Actions.{Attempt, through, halted, stuck, Try}
 use Rattle.machine.specs.declared.Went.{Went}
 use Rattle.machine.specs.declared.Went.the-variants as went
 use Rattle.machine.specs.declared.Did.{Did}

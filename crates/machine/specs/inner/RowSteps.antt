@@ -10,10 +10,9 @@ use Rattle.sheet.specs.Bounds.{limit}
 use Rattle.sheet.specs.Tree.{basic}
 use Rattle.sheet.specs.Rows.{Row}
 use Rattle.sheet.specs.Answers.{rowSaid}
-use Rattle.sheet.specs.Reading.{rowAt}
+use Rattle.sheet.specs.Sheets.{rowAt}
 use Rattle.table.specs.TableRows.{TableLine, TableRow, Action, tableRowOf}
-use Rattle.machine.specs.Attempts.{Attempt, through, halted, stuck}
-use Rattle.machine.specs.Actions.{Setting, Try, Stop}
+use Rattle.machine.specs.Actions.{Attempt, through, halted, stuck, Setting, Try, Stop}
 use Rattle.machine.specs.Machine.{Repeat, State, Step, goesOn, ended, stops, sticks, stepAt, step}
 use Rattle.machine.specs.inner.Buffers.{Buffers, Cells, cellsOf, memoryOf, Sound, Does, RoundSizes}
 use Rattle.machine.specs.inner.RowWords.{actionOf}

@@ -8,7 +8,7 @@ use Rattle.number.specs.Arithmetic.{Arithmetic}
 use Rattle.sheet.specs.Bounds.{limit}
 use Rattle.sheet.specs.Tree.{ifLine, elseLine}
 use Rattle.sheet.specs.Rows.{Row}
-use Rattle.sheet.specs.Reading.{rowAt}
+use Rattle.sheet.specs.Sheets.{rowAt}
 use Rattle.table.specs.TableRows.{TableLine, TableTest, tableRowOf}
 use Rattle.machine.specs.Actions.{Setting}
 use Rattle.machine.specs.inner.RowWords.{actionOf, Named}

@@ -1,7 +1,6 @@
 -- `residue_rows::fixed` meets its contract.
 use mathlib.Core.Path.{ap}
-use Rattle.machine.specs.Actions.{evaluated}
-use Rattle.machine.specs.Attempts.{through}
+use Rattle.machine.specs.Actions.{evaluated, through}
 use Rattle.machine.proofs.PlaceLaws.{look-there}
 use borrow.Author.Needs.{needs}
 use Rattle.residue_rows.proofs.fixed.Statement.{statement}
