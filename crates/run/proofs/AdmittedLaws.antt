@@ -8,8 +8,8 @@ use lib.ListN.{length, getD, drop, drop-of-length-le}
 use lib.Seq.{drop-cons}
 use Rattle.number.specs.Arithmetic.{Arithmetic}
 use Rattle.number.specs.Residues.{residues}
-use Rattle.sheet.specs.Refusals.{refused, given, _>>=_, notFiniteGiven}
-use Rattle.sheet.specs.Reading.{unless}
+use Rattle.sheet.specs.Judging.{refused, given, _>>=_, unless}
+use Rattle.sheet.specs.Refusals.{notFiniteGiven}
 use Rattle.run.specs.Calls.{allAdmitted}
 
 module _ (A : Arithmetic) where

@@ -7,16 +7,16 @@ use native.Mathlib.Omega.{arith}
 use lib.ListN.{length, drop, replicate, length-append, length-replicate, replicate-append-replicate}
 use lib.Seq.{drop-at}
 use Rattle.number.specs.Arithmetic.{Arithmetic}
-use Rattle.sheet.specs.Reading.{Sheet, variablesOf}
+use Rattle.sheet.specs.Sheets.{Sheet, variablesOf}
 use Rattle.sheet.proofs.ReadingParts.{accepted}
 use Rattle.sheet.proofs.NamesPresent.{counts}
-use Rattle.sets.specs.Marks.{marked}
-use Rattle.table.specs.TableRows.{linesOf, tableVariables}
-use Rattle.table.specs.Adjoint.{tableOf}
+use Rattle.sets.specs.Rounds.{marked}
+use Rattle.table.specs.RowBounds.{tableVariables}
+use Rattle.table.specs.TableRows.{linesOf}
+use Rattle.table.specs.Computed.{tableOf}
 use Rattle.table.specs.Calls.{overwritten}
 use Rattle.table.specs.declared.Reply.{Reply}
-use Rattle.machine.specs.Attempts.{through, halted, stuck}
-use Rattle.machine.specs.Actions.{Memory, Setting}
+use Rattle.machine.specs.Actions.{through, halted, stuck, Memory, Setting}
 use Rattle.machine.specs.Machine.{Step, ended}
 use Rattle.machine.specs.InTheLarge.{tableRun}
 use Rattle.machine.specs.inner.Buffers.{Cells, cellsOf, Stack, Sound}
@@ -24,13 +24,14 @@ use Rattle.machine.specs.inner.RunsRows.{Handed, RunsRows}
 use Rattle.machine.specs.declared.Ran.{Ran}
 use Rattle.machine.specs.declared.Ended.{Ended}
 use Rattle.machine.specs.declared.Ended.the-variants as ended-as
-use Rattle.run.proofs.MachineFollows.{Result, EndsAs, run-follows}
-use Rattle.run.proofs.RunsCopy.{adjoint-copies}
-use Rattle.run.proofs.RunEnds.{ends-like}
-use Rattle.run.specs.Calls.{settingOf, startOf, runOf, sheetRun, resultOf, lentAfter, ranTo, lentOf, ranOf}
+use Rattle.run.specs.Runs.{settingOf, startOf, runOf, resultOf, lentOf, ranOf}
+use Rattle.run.specs.Calls.{lentAfter, ranTo, adjointJob}
 use Rattle.run.specs.inner.TableRuns.{enoughSteps, EndsLike, cleared, RunsTable}
 use Rattle.run.specs.inner.CallSteps.{ResultFits, answerAt, resultAt}
 use Rattle.run.specs.inner.CallAnswers.{Ready, RunRoom, StacksCleared, RanTo}
+use Rattle.run.proofs.MachineFollows.{Result, EndsAs, run-follows}
+use Rattle.run.proofs.RunsCopy.{adjoint-copies}
+use Rattle.run.proofs.RunEnds.{ends-like}
 use Rattle.run.proofs.EnoughSteps.{accepted-steps-same}
 use Rattle.run.proofs.OpenRepeats.{sheet-shallow}
 
@@ -138,7 +139,7 @@ module _ (A : Arithmetic) where
     start = startOf A sheet starts .memory
 
     abbrev ending : Step A
-    ending = sheetRun A sheet starts seeds (length values) (length turns)
+    ending = runOf A (tableOf sheet) (settingOf A sheet seeds (length values) (length turns)) (startOf A sheet starts)
 
     abbrev itsSetting : Setting A
     itsSetting = settingOf A sheet seeds (length values) (length turns)
@@ -193,8 +194,8 @@ module _ (A : Arithmetic) where
     -- what a call answers and leaves of the result at this end
     ends-as : (end : Ended) (after : Cells A) (buffer : List ℕ) → EndsLike A start after end ending
         → ranOf A (answerAt end)
-        (lentAfter A sheet (lentOf A buffer values turns result) (resultAt A end roles (after .copied) (after .store) result))
-        ≡ ranTo A sheet (lentOf A buffer values turns result) ending
+        (lentAfter A (tableOf sheet) (lentOf A buffer values turns result) (resultAt A end roles (after .copied) (after .store) result))
+        ≡ ranTo A (adjointJob A starts seeds (lentOf A buffer values turns result) sheet) (lentOf A buffer values turns result) ending
     unfolding ranTo answerAt resultAt resultOf
     ends-as ended-as.Finished after buffer ends =
         rw (ends .is, ends .store, held-is (ends .memory .copied) (after .copied) (ended-copies _ (ends .is)) (ends .copies), ready .rolesAre)

@@ -6,19 +6,23 @@ use lib.ListN.{length, replicate}
 use lib.Dec.{eqb}
 use borrow.Author.Tests.{leb-true, eqb-true}
 use Rattle.number.specs.Arithmetic.{Arithmetic}
-use Rattle.sheet.specs.Refusals.{Refusal, Answer, refused, given, _>>=_, smallTable, wrongStarts, wrongSeeds, wrongResult}
-use Rattle.sheet.specs.Reading.{Sheet, read, unless}
+use Rattle.sheet.specs.Judging.{Answer, refused, given, _>>=_, unless}
+use Rattle.sheet.specs.Refusals.{Refusal, smallTable, wrongStarts, wrongSeeds, wrongResult}
+use Rattle.sheet.specs.Sheets.{Sheet}
+use Rattle.sheet.specs.Reading.{read}
 use Rattle.sheet.specs.Answers.{shapeOf}
 use Rattle.sheet.specs.declared.Shape.{Shape}
 use Rattle.sheet.proofs.Judgements.{bind-assoc}
 use Rattle.sheet.proofs.ReadingParts.{bound, passed}
-use Rattle.table.specs.Sizes.{mostTableRows}
+use Rattle.table.specs.RowBounds.{mostTableRows}
+use Rattle.table.specs.Computed.{needsOf}
 use Rattle.table.specs.Calls.{readFor}
-use Rattle.writer.specs.inner.JumpsNoted.{TableNoted}
 use Rattle.table.specs.inner.Plans.{PlanMade}
 use Rattle.table.specs.declared.Reply as answered
 use Rattle.table.specs.declared.Plan.{Plan}
-use Rattle.run.specs.Calls.{Lent, allAdmitted, readToRun, ranOn, run, lentOf, ranOf}
+use Rattle.writer.specs.inner.JumpsNoted.{TableNoted}
+use Rattle.run.specs.Runs.{Lent, lentOf, ranOf}
+use Rattle.run.specs.Calls.{allAdmitted, readToRun, ranOn, runBy, run}
 use Rattle.run.specs.declared.Rooms.{Rooms}
 use Rattle.run.specs.declared.Fit.{Fit}
 use Rattle.run.specs.inner.CallSteps.{tableFits, stacksFit, roomsFit, fitSaid, readWithRoom, Answers, NoRoom, HasRoom}
@@ -78,19 +82,19 @@ module _ (A : Arithmetic) (words : List ℕ) (starts seeds : List (A .Carrier)) 
       }
 
   -- 11 is judged last
-  numbers-last : readToRun A words starts seeds lent
+  numbers-last : readToRun A needsOf words starts seeds lent
       ≡ (readWithRoom words roomsOf >>= λ sheet. allAdmitted A (starts ++ seeds) 0 >>= λ _. given sheet)
   unfolding readToRun readWithRoom
   numbers-last = simp bind-assoc
 
   pub refused-run : {answer : answered.Reply} → NoRoom words roomsOf answer → ranOf A answer lent ≡ run A words starts seeds lent
-  unfolding run ranOn
+  unfolding run runBy ranOn
   refused-run refusal = rw (numbers-last, refusal .is, refusal .answers .number, refusal .answers .place)
 
   module _ {marks came goes : List ℕ} {plan : Plan} (room : HasRoom words roomsOf marks came goes plan) where
     pub numbers-refuse : {why : Refusal} {answer : answered.Reply} → allAdmitted A (starts ++ seeds) 0 ≡ refused why → Answers answer why
         → ranOf A answer lent ≡ run A words starts seeds lent
-    unfolding run ranOn
+    unfolding run runBy ranOn
     numbers-refuse e answers = rw (numbers-last, room .is, e, answers .number, answers .place)
 
     pub accepted-run : allAdmitted A (starts ++ seeds) 0 ≡ given tt → {table beyond : List ℕ}
@@ -99,7 +103,7 @@ module _ (A : Arithmetic) (words : List ℕ) (starts seeds : List (A .Carrier)) 
         → ((sheet : Sheet) (buffer : List ℕ) → TableInPlace words plan table beyond sheet buffer
         → RanTo A sheet buffer starts seeds (lent .values) (lent .turns) (lent .result) answer values turns result)
         → ranOf A answer (lentOf A table values turns result) ≡ run A words starts seeds lent
-    unfolding run ranOn
+    unfolding run runBy ranOn
     accepted-run admitted writes runs =
         let written = written-planned room writes in
         rw (written .written, numbers-last, room .is, admitted) (runs (room .made .sheet) (lent .table) written)

@@ -4,7 +4,8 @@ use mathlib.Core.Path.{_≡_, sym, ap, _∙_}
 use mathlib.Core.List.{List}
 use Rattle.number.specs.Arithmetic.{Arithmetic}
 use Rattle.table.specs.declared.Reply.{Reply}
-use Rattle.run.specs.Calls.{Lent, Ran, run, ranOf}
+use Rattle.run.specs.Runs.{Lent, Ran, ranOf}
+use Rattle.run.specs.Calls.{run}
 
 module _ (A : Arithmetic) where
   -- an answer with what the lent buffers then hold

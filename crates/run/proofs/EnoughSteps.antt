@@ -7,21 +7,23 @@ use native.Mathlib.Nat.{mul-le-mul-left, mul-left-comm}
 use native.Mathlib.Omega.{arith}
 use Rattle.number.specs.Arithmetic.{Arithmetic}
 use Rattle.sheet.specs.Bounds.{limit}
-use Rattle.sheet.specs.Refusals.{given}
-use Rattle.sheet.specs.Tree.{done, one, fork, again}
-use Rattle.sheet.specs.LongestRun.{longestRun}
-use Rattle.sheet.specs.Reading.{Sheet, variablesOf, read}
+use Rattle.sheet.specs.Judging.{given}
+use Rattle.sheet.specs.Tree.{done, one, fork, again, longestRun}
+use Rattle.sheet.specs.Sheets.{Sheet, variablesOf}
+use Rattle.sheet.specs.Reading.{read}
 use Rattle.sheet.proofs.ReadingParts.{accepted}
-use Rattle.sets.specs.Marks.{marked, markBy, varied, useful, required}
+use Rattle.sets.specs.Rounds.{setsOf, marked}
+use Rattle.sets.specs.Marks.{markBy, markedBy}
 use Rattle.table.specs.TableRows.{Table, saveTurn, turnRound, onTurn, turning, ofTurningRound, linesOf}
-use Rattle.table.specs.Adjoint.{Body, put, forwardPart, backwardOf, backwardPart, adjointTable, tableOf}
-use Rattle.table.specs.Sizes.{mostBackward}
+use Rattle.table.specs.Computed.{tableOf}
+use Rattle.table.specs.Adjoint.{Body, put, forwardPart, backwardOf, backwardPart, adjointTable}
+use Rattle.table.specs.RowBounds.{mostBackward}
 use Rattle.table.proofs.TableBounds.{EachRow, backward-row, forward-row, marked-run}
 use Rattle.machine.specs.Actions.{Setting}
 use Rattle.machine.specs.Machine.{stepsOf, stateAfter}
-use Rattle.run.proofs.MachineFollows.{more-steps-same, steps-suffice}
-use Rattle.run.specs.Calls.{startOf, runOf}
+use Rattle.run.specs.Runs.{startOf, runOf}
 use Rattle.run.specs.inner.TableRuns.{mostStepsForward, mostStepsEach, enoughSteps}
+use Rattle.run.proofs.MachineFollows.{more-steps-same, steps-suffice}
 
 -- ---- steps
 
@@ -61,12 +63,12 @@ steps-within-run v t =
     omega (arith, forward-steps t turn, backward-steps v t done)
 
 sheet-steps-within : (words : List ℕ) (sheet : Sheet) → read words ≡ given sheet → stepsOf (tableOf sheet) ≤ mostStepsEach * limit .longestRun + 1
-unfolding tableOf marked
+unfolding tableOf marked markedBy
 sheet-steps-within words sheet e =
     omega (
       arith,
       steps-within-run (variablesOf sheet) (marked sheet),
-      marked-run (markBy (varied sheet) (useful sheet) (required sheet)) (sheet .body) 0,
+      marked-run (markBy (setsOf sheet)) (sheet .body) 0,
       accepted words sheet e .short,
     )
 

@@ -14,7 +14,7 @@ use Rattle.number.specs.Arithmetic.{Arithmetic}
 use Rattle.sheet.specs.Rows.{isIndependent}
 use Rattle.table.specs.Calls.{overwritten}
 use Rattle.machine.proofs.RoleLaws.{counting-length, counting-at}
-use Rattle.run.specs.Calls.{independentAdjoints, resultFrom}
+use Rattle.run.specs.Runs.{independentAdjoints, resultFrom}
 use Rattle.run.specs.inner.CallSteps.{ResultFits}
 
 module _ {X : Type 0} (front before : List X) where

@@ -13,9 +13,9 @@ use Rattle.table.specs.TableRows.{TableTest, whether, onTurn, Table, TableLine,
 use Rattle.table.specs.inner.MarkedRows.{rowsIn}
 use Rattle.writer.specs.declared.jumps.Branching.the-variants as branching
 use Rattle.writer.specs.inner.JumpsNoted.{Noting, noting, notedBy, branchingOf, notedOver, JumpsNoted}
+use Rattle.writer.proofs.JumpLaws.{action-passes}
 use Rattle.machine.specs.Machine.{itsElse, itsEnd, oneMore, seek}
 use Rattle.machine.specs.inner.RowsHanded.{Arrives, Jumps}
-use Rattle.writer.proofs.JumpLaws.{action-passes}
 use Rattle.machine.proofs.LinesPassed.{seek-else, seek-end}
 
 -- ---- where the "if"s and "else"s of a tree go on to, whose first row is p

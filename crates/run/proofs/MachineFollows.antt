@@ -11,15 +11,14 @@ use native.Mathlib.Omega.{arith}
 use Rattle.number.specs.Arithmetic.{Arithmetic}
 use Rattle.sheet.specs.Tree.{done, one, fork, again, basic, ifLine, elseLine, endIf, endRepeat, flat, rows, RowNumber}
 use Rattle.table.specs.TableRows.{TableRow, TableTest, TableLine, Table, linesOf}
-use Rattle.machine.specs.Attempts.{Attempt, through, halted, stuck, _>>=_, present}
-use Rattle.machine.specs.Actions.{Memory, Setting, Stop, stoppingAt, Verdict, acted, tested}
+use Rattle.machine.specs.Actions.{Attempt, through, halted, stuck, _>>=_, present, Memory, Setting, Stop, stoppingAt, Verdict, acted, tested}
 use Rattle.machine.specs.Machine.{oneMore, Repeat, State, Step, goesOn, ended, stops, sticks}
 use Rattle.machine.specs.Machine.{jump, afterAction, branchTo, afterTest, stepAt, step, ifItGoesOn, stateAfter, stepsOf}
-use Rattle.machine.specs.InTheLarge.{tableRun}
-use Rattle.machine.specs.RowReads.{Entry, noted, notedAt, machineLog, onThrough, tableLog}
+use Rattle.machine.specs.InTheLarge.{tableRun, tableLog}
+use Rattle.machine.specs.RowReads.{Entry, noted, notedAt, machineLog, onThrough}
 use Rattle.machine.proofs.LinesPassed.{past-line, past-tree, seek-else, seek-end}
 use Rattle.machine.proofs.StepsInTurn.{steps-add, one-step-is, log-add, log-first}
-use Rattle.run.specs.Calls.{runOf}
+use Rattle.run.specs.Runs.{runOf}
 
 -- ---- what so many steps come to
 

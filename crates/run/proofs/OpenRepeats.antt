@@ -8,22 +8,23 @@ use lib.ListN.{length, drop}
 use native.Mathlib.Omega.{arith}
 use Rattle.number.specs.Arithmetic.{Arithmetic}
 use Rattle.sheet.specs.Bounds.{limit}
-use Rattle.sheet.specs.Refusals.{given}
+use Rattle.sheet.specs.Judging.{given}
 use Rattle.sheet.specs.Tree.{done, one, fork, again, rows, flat, basic, ifLine, elseLine, endIf, repeat, endRepeat, RowNumber}
-use Rattle.sheet.specs.Reading.{Sheet, variablesOf, read}
+use Rattle.sheet.specs.Sheets.{Sheet, variablesOf}
+use Rattle.sheet.specs.Reading.{read}
 use Rattle.sheet.proofs.Depth.{deep, sheet-deep}
-use Rattle.sets.specs.Marks.{marked, markBy, varied, useful, required}
+use Rattle.sets.specs.Rounds.{setsOf, marked}
+use Rattle.sets.specs.Marks.{markBy, markedBy}
 use Rattle.table.specs.TableRows.{Table, TableLine, TableTest, linesOf}
-use Rattle.table.specs.Adjoint.{tableOf}
+use Rattle.table.specs.Computed.{tableOf}
 use Rattle.table.proofs.TableBounds.{table-deep, marked-deep}
-use Rattle.machine.specs.Attempts.{Attempt, through, halted, stuck}
-use Rattle.machine.specs.Actions.{Memory, Setting, Stop, stoppingAt, Verdict, acted, tested}
+use Rattle.machine.specs.Actions.{Attempt, through, halted, stuck, Memory, Setting, Stop, stoppingAt, Verdict, acted, tested}
 use Rattle.machine.specs.Machine.{itsElse, itsEnd, oneMore, seek, Repeat, State, Step, goesOn, ended, stops, sticks}
 use Rattle.machine.specs.Machine.{jump, afterAction, branchTo, afterTest, afterTurn, stepAt, step, ifItGoesOn, stateAfter}
 use Rattle.machine.specs.inner.RowsHanded.{Shallow}
 use Rattle.machine.proofs.LinesStand.{Branch, Stands, stands-at, FromEach, from-each-next, from-each-end}
 use Rattle.machine.proofs.LinesPassed.{past-line, past-tree, seek-else, seek-end}
-use Rattle.run.specs.Calls.{startOf}
+use Rattle.run.specs.Runs.{startOf}
 
 -- ---- how many repeats stand open before these lines: each is ended by one of them
 
@@ -193,12 +194,12 @@ module _ (A : Arithmetic) (setting : Setting A) where
 
   pub sheet-shallow : (words : List ℕ) (sheet : Sheet) → read words ≡ given sheet → (starts : List (A .Carrier))
       → Shallow A setting (linesOf (tableOf sheet)) (startOf A sheet starts)
-  unfolding startOf tableOf marked
+  unfolding startOf tableOf marked markedBy
   sheet-shallow words sheet e starts =
       table-shallow (tableOf sheet) (startOf A sheet starts .memory)
       (omega (
         arith,
         table-deep (variablesOf sheet) (marked sheet),
-        marked-deep (markBy (varied sheet) (useful sheet) (required sheet)) (sheet .body) 0,
+        marked-deep (markBy (setsOf sheet)) (sheet .body) 0,
         sheet-deep words sheet e,
       ))

@@ -10,14 +10,12 @@ use lib.Seq.{length-take-le}
 use lib.Dec.{eqb}
 use Rattle.number.specs.Arithmetic.{Arithmetic}
 use Rattle.sheet.specs.Tree.{done, one, fork, again}
-use Rattle.sheet.specs.Rows.{_≔_, isDependent}
+use Rattle.sheet.specs.Rows.{_≔_, isDependent, targetOf}
+use Rattle.sets.specs.Marks.{Marked}
 use Rattle.table.specs.TableRows.{Action, assign, save, takeBack, saveTurn, clear, turnRound, TableTest, whether, onTurn}
 use Rattle.table.specs.TableRows.{Table, TableRow, saving, itself, ofTurningRound, turnWord}
-use Rattle.sets.specs.Marks.{Marked}
-use Rattle.table.specs.Adjoint.{Body, put, putIf, targetOf, forwardRow, forwardPart, backwardPart, adjointTable}
-use Rattle.machine.specs.Attempts.{through, _>>=_, present, replaced, pushed, look}
-use Rattle.machine.specs.Actions.{Memory, Setting, stoppingAt, evaluated, stored, restored, acted, turnedRound, seeded}
-use Rattle.machine.specs.Actions.{Verdict, verdictOn, turnTaken, tested, compared}
+use Rattle.table.specs.Adjoint.{Body, put, putIf, forwardRow, forwardPart, backwardPart, adjointTable}
+use Rattle.machine.specs.Actions.{through, _>>=_, present, replaced, pushed, look, Memory, Setting, stoppingAt, evaluated, stored, restored, acted, turnedRound, seeded, Verdict, verdictOn, turnTaken, tested, compared}
 use Rattle.machine.specs.InTheLarge.{tableRun}
 use Rattle.machine.proofs.AttemptLaws.{went, same-through, is-present, was-replaced, came}
 use Rattle.machine.proofs.RoleLaws.{counting-length}

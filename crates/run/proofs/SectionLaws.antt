@@ -7,25 +7,27 @@ use lib.ListN.{length, take, drop, replicate, length-drop, length-replicate, rep
 use lib.Seq.{length-take-le, take-at}
 use Rattle.number.specs.Arithmetic.{Arithmetic}
 use Rattle.sheet.specs.Bounds.{limit}
-use Rattle.sheet.specs.Refusals.{given}
+use Rattle.sheet.specs.Judging.{given}
 use Rattle.sheet.specs.Tree.{rows}
-use Rattle.sheet.specs.Reading.{Sheet, read}
+use Rattle.sheet.specs.Sheets.{Sheet}
+use Rattle.sheet.specs.Reading.{read}
 use Rattle.sheet.specs.Answers.{shapeOf}
 use Rattle.sheet.specs.declared.Shape.{Shape}
 use Rattle.sheet.proofs.RowsCounted.{lines-counted}
 use Rattle.sheet.proofs.ReadingParts.{accepted}
 use Rattle.sheet.proofs.NamesPresent.{counts, count-judged}
-use Rattle.table.specs.TableRows.{linesOf, tableVariables}
-use Rattle.table.specs.Adjoint.{tableOf}
-use Rattle.table.specs.Sizes.{tableRows, mostTableRows}
-use Rattle.writer.specs.inner.JumpsNoted.{TableNoted}
+use Rattle.table.specs.RowBounds.{tableVariables, mostTableRows}
+use Rattle.table.specs.TableRows.{linesOf}
+use Rattle.table.specs.Computed.{tableOf}
+use Rattle.table.specs.Sizes.{tableRows}
 use Rattle.table.specs.declared.Plan.{Plan}
 use Rattle.table.proofs.PlanLaws.{planned-few}
+use Rattle.writer.specs.inner.JumpsNoted.{TableNoted}
 use Rattle.machine.specs.inner.RowsHanded.{Holds, Indexed}
-use Rattle.run.proofs.JumpsRight.{jumps-right}
 use Rattle.run.specs.declared.Rooms.{Rooms}
 use Rattle.run.specs.inner.CallSteps.{HasRoom}
 use Rattle.run.specs.inner.CallAnswers.{TableInPlace, SheetRoom, Ready, RunRoom}
+use Rattle.run.proofs.JumpsRight.{jumps-right}
 use Rattle.run.proofs.TableHeld.{table-holds}
 use Rattle.run.proofs.TableNames.{table-indexed}
 

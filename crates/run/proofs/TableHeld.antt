@@ -5,7 +5,7 @@ use mathlib.Core.List.{List, [], _∷_, _++_, map}
 use lib.ListN.{length, drop, length-append}
 use native.Mathlib.Omega.{arith}
 use Rattle.sheet.specs.Bounds.{limit}
-use Rattle.sheet.specs.Reading.{rowAt}
+use Rattle.sheet.specs.Sheets.{rowAt}
 use Rattle.sheet.proofs.RowsCounted.{lines-counted}
 use Rattle.table.specs.TableRows.{Table, TableLine, tableRowOf, linesOf, wordsOf, tableWords}
 use Rattle.table.specs.Calls.{overwritten}

@@ -12,13 +12,17 @@ use Rattle.sheet.specs.Bounds.{limit}
 use Rattle.sheet.specs.Tree.{Tree, done, one, fork, again, rows, flat, basic, ifLine, elseLine, endIf, repeat, endRepeat, RowNumber}
 use Rattle.sheet.specs.Rows.{Assignment, _≔_, Source, copy, fixed, sum, difference, product, negation, Test, less, rowOf, rowOfTest}
 use Rattle.sheet.specs.Names.{SourcePresent, AssignmentPresent, TestPresent, Present}
-use Rattle.sheet.specs.Refusals.{given}
-use Rattle.sheet.specs.Reading.{Sheet, read, rowAt}
+use Rattle.sheet.specs.Judging.{given}
+use Rattle.sheet.specs.Sheets.{Sheet, rowAt}
+use Rattle.sheet.specs.Reading.{read}
 use Rattle.sheet.proofs.NamesPresent.{names-present}
 use Rattle.sets.specs.Transfers.{Activity}
-use Rattle.sets.specs.Marks.{Marked, numbered, markBy, marked, varied, useful, required}
-use Rattle.table.specs.TableRows.{Table, TableLine, TableRow, Action, assign, save, takeBack, saveTurn, clear, turnRound, Operation, turning, TableTest, whether, onTurn, tableVariables, rowOfAction, rowOfTableTest, tableRowOf, linesOf}
-use Rattle.table.specs.Adjoint.{Body, put, putIf, forwardRow, forwardPart, partsOf, derivativeRows, backwardOf, backwardPart, adjointTable, tableOf}
+use Rattle.sets.specs.Rounds.{setsOf, marked}
+use Rattle.sets.specs.Marks.{Marked, numbered, markBy, markedBy}
+use Rattle.table.specs.RowBounds.{tableVariables}
+use Rattle.table.specs.TableRows.{Table, TableLine, TableRow, Action, assign, save, takeBack, saveTurn, clear, turnRound, Operation, turning, TableTest, whether, onTurn, rowOfAction, rowOfTableTest, tableRowOf, linesOf}
+use Rattle.table.specs.Computed.{tableOf}
+use Rattle.table.specs.Adjoint.{Body, put, putIf, forwardRow, forwardPart, partsOf, derivativeRows, backwardOf, backwardPart, adjointTable}
 use Rattle.machine.specs.inner.RowWords.{actionOf, ActionPresent, Named}
 use Rattle.machine.specs.inner.RowsHanded.{Holds, Compared, Indexed}
 use Rattle.machine.proofs.LineLaws.{action-said, straight-or-not}
@@ -223,17 +227,17 @@ module _ (v k : ℕ) where
       let told = words-there buffer lines (there .rest) (there .line) p _ holds refl (there .is) in
       subst (Compared (tableVariables v)) told (line-compared (there .line) (there .rest) (subst LineKnown (there .is) (known p)))
 
-mark-keeps : (sheet : Sheet) (p : ℕ) (b : Assignment) → markBy (varied sheet) (useful sheet) (required sheet) p b .assignment ≡ b
+mark-keeps : (sheet : Sheet) (p : ℕ) (b : Assignment) → markBy (setsOf sheet) p b .assignment ≡ b
 unfolding markBy
 mark-keeps sheet p b = refl
 
 pub table-indexed : (words : List ℕ) (sheet : Sheet) → read words ≡ given sheet → (buffer : List ℕ) → Holds buffer (linesOf (tableOf sheet))
     → Indexed buffer (length (linesOf (tableOf sheet))) (tableVariables (length (sheet .roles))) (length (sheet .constants))
-unfolding tableOf marked linesOf
+unfolding tableOf marked markedBy linesOf
 table-indexed words sheet e buffer holds =
     let v = length (sheet .roles) in
     let k = length (sheet .constants) in
-    let body = body-known v k (markBy (varied sheet) (useful sheet) (required sheet)) (mark-keeps sheet) (sheet .body) 0 (names-present words sheet e) in
+    let body = body-known v k (markBy (setsOf sheet)) (mark-keeps sheet) (sheet .body) 0 (names-present words sheet e) in
     let known = lines-known v k (adjointTable v (marked sheet)) [] (table-known v k (marked sheet) body) (from-each-end (LineKnown v k) tt) in
     record {
       within = holds .within;

@@ -7,7 +7,7 @@ ghost use Rattle.number.specs.Doubles.{doubles};
 ghost use Rattle.number.specs.Residues.{residues};
 ghost use Rattle.sheet.specs.Rows.{isIndependent};
 ghost use Rattle.table.specs.Calls.{overwritten};
-ghost use Rattle.run.specs.Calls.{independentAdjoints, resultFrom};
+ghost use Rattle.run.specs.Runs.{independentAdjoints, resultFrom};
 ghost use Rattle.run.specs.inner.CallSteps.{ResultFits};
 use number::double;
 use sheet::is_independent;

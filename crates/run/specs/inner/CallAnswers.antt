@@ -5,18 +5,21 @@ use mathlib.Core.List.{List}
 use lib.ListN.{length, replicate}
 use Rattle.number.specs.Arithmetic.{Arithmetic}
 use Rattle.sheet.specs.Bounds.{limit}
-use Rattle.sheet.specs.Refusals.{given}
-use Rattle.sheet.specs.Reading.{Sheet, variablesOf, read}
+use Rattle.sheet.specs.Judging.{given}
+use Rattle.sheet.specs.Sheets.{Sheet, variablesOf}
+use Rattle.sheet.specs.Reading.{read}
 use Rattle.sheet.specs.Answers.{shapeOf}
-use Rattle.sets.specs.Marks.{marked}
-use Rattle.table.specs.TableRows.{linesOf, tableWords, tableVariables}
-use Rattle.table.specs.Adjoint.{tableOf}
-use Rattle.table.specs.Sizes.{tableRows, mostTableRows}
+use Rattle.sets.specs.Rounds.{marked}
+use Rattle.table.specs.RowBounds.{tableVariables, mostTableRows}
+use Rattle.table.specs.TableRows.{linesOf, tableWords}
+use Rattle.table.specs.Computed.{tableOf}
+use Rattle.table.specs.Sizes.{tableRows}
 use Rattle.table.specs.Calls.{overwritten}
 use Rattle.table.specs.declared.Reply.{Reply}
 use Rattle.table.specs.declared.Plan.{Plan}
 use Rattle.machine.specs.inner.RowsHanded.{Holds, Jumps}
-use Rattle.run.specs.Calls.{sheetRun, ranTo, lentOf, ranOf}
+use Rattle.run.specs.Runs.{lentOf, ranOf}
+use Rattle.run.specs.Calls.{ranBy, adjointJob}
 
 -- ---- a sheet whose table has been written
 
@@ -70,4 +73,4 @@ module _ (A : Arithmetic) where
       → (after : List (A .Carrier)) → (turnsAfter : List ℕ) → (resultAfter : List (A .Carrier)) → Type 0
   RanTo sheet buffer starts seeds before turnsBefore resultBefore answer after turnsAfter resultAfter =
       ranOf A answer (lentOf A (overwritten (tableWords (tableOf sheet)) buffer) after turnsAfter resultAfter)
-      ≡ ranTo A sheet (lentOf A buffer before turnsBefore resultBefore) (sheetRun A sheet starts seeds (length before) (length turnsBefore))
+      ≡ ranBy A (adjointJob A starts seeds (lentOf A buffer before turnsBefore resultBefore) sheet) (lentOf A buffer before turnsBefore resultBefore)

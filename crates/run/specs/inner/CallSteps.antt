@@ -6,18 +6,21 @@ use lib.ListN.{length}
 use lib.Dec.{leb, eqb}
 use Rattle.number.specs.Arithmetic.{Arithmetic}
 use Rattle.number.specs.Doubles.{doubles}
-use Rattle.sheet.specs.Refusals.{Refusal, Answer, refused, given, _>>=_, numberOf, placeOf}
+use Rattle.sheet.specs.Judging.{Answer, refused, given, _>>=_, unless}
+use Rattle.sheet.specs.Refusals.{Refusal, numberOf, placeOf}
 use Rattle.sheet.specs.Refusals.{smallTable, smallValueStack, smallTurnStack, wrongStarts, wrongSeeds, wrongResult, notFiniteGiven, notFiniteResult}
-use Rattle.sheet.specs.Reading.{Sheet, variablesOf, unless}
-use Rattle.sets.specs.Marks.{marked}
-use Rattle.table.specs.Sizes.{valuesNeeded, turnsNeeded, valuesFor, turnsFor}
-use Rattle.table.specs.Calls.{tableRoom, readFor}
+use Rattle.sheet.specs.Sheets.{Sheet, variablesOf}
+use Rattle.sets.specs.Rounds.{marked}
+use Rattle.table.specs.Computed.{valuesFor, turnsFor, needsOf}
+use Rattle.table.specs.Sizes.{valuesNeeded, turnsNeeded, tableRoom}
+use Rattle.table.specs.Calls.{readFor}
 use Rattle.table.specs.inner.Plans.{PlanMade}
 use Rattle.table.specs.declared.Reply as answered
 use Rattle.table.specs.declared.Plan.{Plan}
 use Rattle.machine.specs.declared.Ended.{Ended}
 use Rattle.machine.specs.declared.Ended.the-variants as ended
-use Rattle.run.specs.Calls.{resultFrom, stuckNumber}
+use Rattle.run.specs.Runs.{resultFrom}
+use Rattle.run.specs.Calls.{stuckNumber}
 use Rattle.run.specs.declared.Rooms.{Rooms}
 use Rattle.run.specs.declared.Judged.{Judged}
 use Rattle.run.specs.declared.Judged.the-variants as judged
@@ -56,7 +59,7 @@ roomsFit plan rooms = do
 unfoldable pub readWithRoom : (words : List ℕ) → Rooms → Answer Sheet
 unfolding readFor marked valuesNeeded turnsNeeded
 readWithRoom words rooms = do
-  sheet ← readFor words (rooms .table)
+  sheet ← readFor needsOf words (rooms .table)
   _ ← stacksFit (valuesFor sheet) (rooms .values) (turnsFor sheet) (rooms .turns)
   _ ← lengthsFit (variablesOf sheet) (rooms .starts) (rooms .seeds) (rooms .result)
   given sheet

@@ -7,7 +7,7 @@ use lib.ListN.{length, replicate}
 use Rattle.number.specs.Arithmetic.{Arithmetic}
 use Rattle.sheet.specs.Bounds.{limit}
 use Rattle.table.specs.TableRows.{TableLine}
-use Rattle.table.specs.Sizes.{mostForward, mostBackward}
+use Rattle.table.specs.RowBounds.{mostForward, mostBackward}
 use Rattle.machine.specs.Actions.{Memory, Setting}
 use Rattle.machine.specs.Machine.{State, Step, goesOn, ended, sticks, stateAfter}
 use Rattle.machine.specs.inner.Buffers.{Cells, cellsOf}
