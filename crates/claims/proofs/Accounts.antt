@@ -7,13 +7,10 @@ use Rattle.sheet.specs.Tree.{RowNumber}
 use Rattle.sheet.specs.Rows.{Assignment}
 use Rattle.sets.specs.Transfers.{Activity}
 use Rattle.table.specs.TableRows.{Table}
-use Rattle.machine.specs.Attempts.{Attempt, through, halted, _>>=_}
-use Rattle.machine.specs.Actions.{Memory, Setting, Stop}
-use Rattle.machine.specs.InTheLarge.{tableRun}
-use Rattle.machine.specs.RowReads.{Entry, onThrough, tableLog}
-use Rattle.claims.specs.Execution.{Executed}
-use Rattle.claims.specs.IdealSweep.{derivedBy, swept}
-use Rattle.claims.specs.ReadLog.{derivedLog, sweptLog}
+use Rattle.machine.specs.Actions.{Attempt, through, halted, _>>=_, Memory, Setting, Stop}
+use Rattle.machine.specs.InTheLarge.{tableRun, tableLog}
+use Rattle.machine.specs.RowReads.{Entry, onThrough}
+use Rattle.claims.specs.IdealSweep.{Executed, derivedBy, swept, derivedLog, sweptLog}
 
 module _ (A : Arithmetic) where
   pub record Account (X : Type 0) : Type 0 where

@@ -8,15 +8,15 @@ use native.Mathlib.Nat.{suc-mul}
 use native.Mathlib.Omega.{arith}
 use Rattle.number.specs.Arithmetic.{Arithmetic}
 use Rattle.sheet.specs.Tree.{Tree, done, one, fork, again, basic, flat, RowNumber}
-use Rattle.sheet.specs.Rows.{Assignment, Test}
+use Rattle.sheet.specs.Rows.{Assignment, Test, targetOf}
 use Rattle.sets.specs.Transfers.{Activity}
 use Rattle.sets.specs.Marks.{numbered}
 use Rattle.table.specs.TableRows.{Table, TableLine, Action, assign, save, Operation, saving, itself, ofRow}
-use Rattle.table.specs.Adjoint.{Body, putIf, targetOf, forwardRow, forwardPart}
+use Rattle.table.specs.Adjoint.{Body, putIf, forwardRow, forwardPart}
 use Rattle.table.specs.Sizes.{valuesNeeded}
-use Rattle.claims.specs.Execution.{Progress}
+use Rattle.claims.specs.IdealSweep.{Progress}
 use Rattle.claims.specs.Demands.{WithoutIf}
-use Rattle.claims.specs.SavedRows.{savedValues}
+use Rattle.claims.specs.WholeRun.{savedValues}
 use Rattle.claims.proofs.Runs.{Runs, stay, row, left, right, last, more}
 use Rattle.claims.proofs.Forward.{body, one-more}
 

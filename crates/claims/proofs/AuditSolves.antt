@@ -8,24 +8,25 @@ use lib.Seq.{take-at, drop-at, getD-drop}
 use native.Mathlib.Nat.{not-suc-le-zero, le-of-suc-le-suc}
 use native.Mathlib.Omega.{arith}
 use Rattle.number.specs.Residues.{modulus, residues}
-use Rattle.sheet.specs.Refusals.{given}
+use Rattle.sheet.specs.Judging.{given}
 use Rattle.sheet.specs.Rows.{isIndependent}
-use Rattle.sheet.specs.Reading.{Sheet, variablesOf, read}
+use Rattle.sheet.specs.Sheets.{Sheet, variablesOf}
+use Rattle.sheet.specs.Reading.{read}
 use Rattle.sheet.proofs.NamesPresent.{names-present}
-use Rattle.sets.specs.Marks.{varied, useful, activityAt}
+use Rattle.sets.specs.Rounds.{setsOf}
+use Rattle.sets.specs.Marks.{activityAt}
 use Rattle.sets.proofs.SetsLeast.{varied-least, useful-least}
-use Rattle.machine.specs.Attempts.{through}
-use Rattle.machine.specs.Actions.{Setting, counting}
-use Rattle.run.specs.Calls.{Lent, Ran, settingOf, independentAdjoints, lentAfter, run}
-use Rattle.claims.specs.ExactlyWhen.{Runnable}
-use Rattle.claims.specs.Execution.{Progress, beginning, execution}
-use Rattle.claims.specs.IdealSweep.{swept, firstAdjoints, Ideal, ideal}
+use Rattle.table.specs.Sizes.{needsBy}
+use Rattle.machine.specs.Actions.{through, Setting, counting}
+use Rattle.machine.proofs.AttemptLaws.{same-through, went}
+use Rattle.run.specs.Runs.{Lent, Ran, settingOf, independentAdjoints}
+use Rattle.run.specs.Calls.{lentAfter, run}
+use Rattle.claims.specs.IdealSweep.{Progress, beginning, execution, swept, firstAdjoints, Ideal, ideal}
 use Rattle.claims.specs.EquationTwo.{Instance, valueNo, EquationTwo}
 use Rattle.claims.specs.Demands.{AuditSolves}
-use Rattle.machine.proofs.AttemptLaws.{same-through, went}
 use Rattle.claims.proofs.Runs.{runs}
 use Rattle.claims.proofs.RunsKeepSizes.{runs-keep}
-use Rattle.claims.proofs.StartExactlyWhen.{accepted-to-run}
+use Rattle.claims.proofs.StartExactlyWhen.{accepted-to-run, Ready}
 use Rattle.claims.proofs.RunsAnswer.{AnswersAs, run-answers}
 use Rattle.claims.proofs.EquationTwoSolved.{equation-two-solvable}
 use Rattle.claims.proofs.EquationTwoHolds.{Sound, Given, ideal-goes, ideal-solves}
@@ -48,8 +49,8 @@ adjoint-at (role ∷ roles) adjoints (suc x) h =
     adjoint-at roles (drop 1 adjoints) x (le-of-suc-le-suc h)
     ∙ ap (λ y. cond (isIndependent (getD roles x 0)) y 0) (getD-drop 1 adjoints x 0 ∙ ap (λ i. getD adjoints i 0) (omega arith))
 
-module _ (words starts seeds : List ℕ) (lent : Lent residues) (sheet : Sheet) (ready : Runnable residues words starts seeds lent sheet)
-    (below : (x : ℕ) → x < variablesOf sheet → getD seeds x 0 < modulus) (answer : Ran residues)
+module _ (words starts seeds : List ℕ) (lent : Lent residues) (sheet : Sheet)
+    (ready : Ready residues needsBy words starts seeds lent sheet) (below : (x : ℕ) → x < variablesOf sheet → getD seeds x 0 < modulus) (answer : Ran residues)
     (contract : answer ≡ run residues words starts seeds lent) where
   abbrev values : ℕ
   values = length (lent .values)
@@ -61,17 +62,17 @@ module _ (words starts seeds : List ℕ) (lent : Lent residues) (sheet : Sheet) 
   setting = settingOf residues sheet seeds values turns
 
   given-soundly : Sound sheet
-  given-soundly = sound words sheet (accepted-to-run residues words starts seeds lent sheet ready)
+  given-soundly = sound words sheet (accepted-to-run residues needsBy words starts seeds lent sheet ready)
 
   begins : Given sheet starts seeds
   begins = record { started = ready .lengths .startValues; below = below }
 
   -- an ideal sweep that ended began with an execution that did
-  executes : (i : Ideal residues) → ideal residues sheet setting starts ≡ through i → execution residues sheet starts ≡ through (i .progress)
+  executes : (i : Ideal residues) → ideal residues sheet (setsOf sheet) setting starts ≡ through i → execution residues sheet starts ≡ through (i .progress)
   unfolding ideal
   executes i goes =
       let run-is = went (execution residues sheet starts) _ i goes in
-      let lean = went (swept residues setting (activityAt (varied sheet) (useful sheet)) (run-is .0 .trace)
+      let lean = went (swept residues setting (activityAt (setsOf sheet .varied) (setsOf sheet .useful)) (run-is .0 .trace)
       (firstAdjoints residues (setting .roles) (setting .seeds))) _ i (run-is .2) in
       run-is .1 ∙ ap through (ap (λ (x : Ideal residues). x .progress) (same-through (lean .2)))
 
@@ -82,7 +83,7 @@ module _ (words starts seeds : List ℕ) (lent : Lent residues) (sheet : Sheet) 
       (runs residues (sheet .constants) (sheet .body) 0 (beginning residues starts) progress e)
       ∙ ready .lengths .startValues
 
-  from-answer : (i : Ideal residues) → ideal residues sheet setting starts ≡ through i → AnswersAs residues sheet lent (through i) answer
+  from-answer : (i : Ideal residues) → ideal residues sheet (setsOf sheet) setting starts ≡ through i → AnswersAs residues sheet lent (through i) answer
       → AuditSolves sheet starts seeds answer
   unfolding AnswersAs lentAfter
   from-answer i goes answers =

@@ -10,10 +10,8 @@ use Rattle.sets.specs.Transfers.{Activity}
 use Rattle.sets.specs.Marks.{numbered}
 use Rattle.table.specs.TableRows.{Table, ofRow, takeBack, takingBack, onTurn}
 use Rattle.table.specs.Adjoint.{putIf, derivativeRows, backwardOf, backwardPart}
-use Rattle.machine.specs.Attempts.{present}
-use Rattle.machine.specs.Actions.{Setting, stoppingAt, acted, tested}
-use Rattle.machine.specs.InTheLarge.{tableRun}
-use Rattle.machine.specs.RowReads.{tableLog}
+use Rattle.machine.specs.Actions.{present, Setting, stoppingAt, acted, tested}
+use Rattle.machine.specs.InTheLarge.{tableRun, tableLog}
 use Rattle.claims.proofs.Accounts.{account, Same, quiet, in-turn-same}
 use Rattle.claims.proofs.DerivativesAlike.{derivative-rows-same}
 use Rattle.claims.proofs.Forward.{body}

@@ -4,12 +4,14 @@ use Prim.Native.Nat.{ℕ}
 use mathlib.Core.Path.{_≡_, sym, subst}
 use mathlib.Core.List.{List}
 use Rattle.number.specs.Arithmetic.{Arithmetic}
-use Rattle.table.specs.Calls.{checkedSaid, check, writtenOf, write}
+use Rattle.table.specs.Sizes.{checkedSaid, writtenOf, needsBy}
+use Rattle.table.specs.Calls.{check, write}
 use Rattle.table.specs.declared.Checked.{Checked}
 use Rattle.table.specs.declared.Reply.{Reply}
-use Rattle.run.specs.Calls.{Lent, run, ranOf}
-use Rattle.claims.specs.CallsExactly.{CheckExactly, WriteExactly, RunExactly}
-use Rattle.claims.specs.Demands.{FirstDemand}
+use Rattle.run.specs.Runs.{Lent, ranOf}
+use Rattle.run.specs.Calls.{run}
+use Rattle.claims.specs.Demands.{CheckExactly, WriteExactly, RunExactly, adjointBy}
+use Rattle.claims.specs.ThreeDemands.{FirstDemand}
 use Rattle.claims.proofs.ExactlyWhenHolds.{check-exactly, write-exactly, run-exactly}
 
 -- the contract of `check`
@@ -23,9 +25,10 @@ write-call words before after answer contract = subst (WriteExactly words before
 
 -- the contracts of `run_double` and `run_audit`
 pub run-call : (A : Arithmetic) (words : List ℕ) (starts seeds : List (A .Carrier)) (before after : Lent A) (answer : Reply)
-    → ranOf A answer after ≡ run A words starts seeds before → RunExactly A words starts seeds before (ranOf A answer after)
+    → ranOf A answer after ≡ run A words starts seeds before
+    → RunExactly A needsBy (adjointBy A starts seeds before) words starts seeds before (ranOf A answer after)
 run-call A words starts seeds before after answer contract =
-    subst (RunExactly A words starts seeds before) (sym contract) (run-exactly A words starts seeds before)
+    subst (RunExactly A needsBy (adjointBy A starts seeds before) words starts seeds before) (sym contract) (run-exactly A words starts seeds before)
 
 pub demand-one : FirstDemand
 demand-one A = record { checks = check-call; writes = write-call; runs = run-call A }

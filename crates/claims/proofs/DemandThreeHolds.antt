@@ -7,29 +7,30 @@ use lib.Seq.{take-at}
 use native.Mathlib.Omega.{arith}
 use Rattle.number.specs.Arithmetic.{Arithmetic}
 use Rattle.sheet.specs.Tree.{done, one, rows, flat}
-use Rattle.sheet.specs.Refusals.{given}
-use Rattle.sheet.specs.Reading.{Sheet, variablesOf, read}
-use Rattle.sets.specs.Marks.{markBy, marked}
+use Rattle.sheet.specs.Judging.{given}
+use Rattle.sheet.specs.Sheets.{Sheet, variablesOf}
+use Rattle.sheet.specs.Reading.{read}
+use Rattle.sets.specs.Rounds.{setsOf}
+use Rattle.sets.specs.Marks.{markBy, markedBy}
 use Rattle.table.specs.TableRows.{Table, ofTurningRound, turnRound, linesOf}
-use Rattle.table.specs.Adjoint.{Body, forwardPart, backwardPart, adjointTable, tableOf}
-use Rattle.table.specs.Sizes.{valuesNeeded, turnsNeeded}
-use Rattle.machine.specs.Attempts.{Attempt, through, _>>=_}
-use Rattle.machine.specs.Actions.{Memory, Setting}
+use Rattle.table.specs.Adjoint.{Body, forwardPart, backwardPart, adjointTable, tableBy}
+use Rattle.table.specs.Sizes.{valuesNeeded, turnsNeeded, needsBy}
+use Rattle.machine.specs.Actions.{Attempt, through, _>>=_, Memory, Setting}
 use Rattle.machine.specs.Machine.{State, goesOn, sticks}
-use Rattle.machine.specs.InTheLarge.{tableRun}
-use Rattle.machine.specs.RowReads.{tableLog, onThrough}
+use Rattle.machine.specs.InTheLarge.{tableRun, tableLog}
+use Rattle.machine.specs.RowReads.{onThrough}
 use Rattle.machine.proofs.LinesPassed.{past-tree}
+use Rattle.run.specs.Runs.{settingOf, startOf, runOf}
 use Rattle.run.proofs.MachineFollows.{atRow, goes-through}
-use Rattle.run.specs.Calls.{settingOf, startOf, runOf}
-use Rattle.claims.specs.Execution.{Progress, beginning, execution}
-use Rattle.claims.specs.IdealSweep.{ideal}
-use Rattle.claims.specs.SavedRows.{savedValues, recordedIn}
-use Rattle.claims.specs.WholeRun.{Matches}
-use Rattle.claims.specs.Demands.{lines, afterSteps, NeverStuck, SavedAtTurning, ReplaysInReverse, DemandThree, ThirdDemand}
+use Rattle.claims.specs.IdealSweep.{Progress, beginning, execution, ideal}
+use Rattle.claims.specs.WholeRun.{savedValues, recordedIn, Matches}
+use Rattle.claims.specs.ThreeDemands.{ThirdDemand}
+use Rattle.claims.specs.Demands.{lines, afterSteps, NeverStuck, SavedAtTurning, ReplaysInReverse, DemandThree}
 use Rattle.claims.proofs.MachineLogs.{table-log}
 use Rattle.claims.proofs.Heights.{Within, table-never-sticks, table-heights}
 use Rattle.claims.proofs.RunInTheLarge.{knownIn, marksOf, turningOf, memoryAt, Prepared, forward-part, forward-notes, ran, keeps-size, turning-notes}
 use Rattle.claims.proofs.WholeRunMatches.{own-run-matches}
+use Rattle.claims.proofs.StartExactlyWhen.{accepted-reads, by-own-sets}
 use Rattle.claims.proofs.RunsAnswer.{unstuck-run}
 use Rattle.claims.proofs.AtTurningRound.{forward-lines, saved-exactly}
 use Rattle.claims.proofs.SavesOnlyRecorded.{saves-only-recorded}
@@ -42,61 +43,61 @@ module _ (A : Arithmetic) (words : List ℕ) (sheet : Sheet) (accepted : read wo
   abbrev settingIn : (valueRoom turnRoom : ℕ) → Setting A
   settingIn valueRoom turnRoom = settingOf A sheet seeds valueRoom turnRoom
 
-  module _ (valueRoom turnRoom : ℕ) (values : valuesNeeded (marked sheet) ≤ valueRoom) (turns : turnsNeeded (marked sheet) ≤ turnRoom) where
-    matches : Matches A v (ideal A sheet (settingIn valueRoom turnRoom) starts)
-        (runOf A (tableOf sheet) (settingIn valueRoom turnRoom) (startOf A sheet starts))
+  module _ (valueRoom turnRoom : ℕ) (values : valuesNeeded (markedBy (setsOf sheet) sheet) ≤ valueRoom) (turns : turnsNeeded (markedBy (setsOf sheet) sheet) ≤ turnRoom) where
+    matches : Matches A v (ideal A sheet (setsOf sheet) (settingIn valueRoom turnRoom) starts)
+        (runOf A (tableBy (setsOf sheet) sheet) (settingIn valueRoom turnRoom) (startOf A sheet starts))
     matches = own-run-matches A words sheet accepted starts seeds n valueRoom turnRoom values turns
 
-    unstuck : runOf A (tableOf sheet) (settingIn valueRoom turnRoom) (startOf A sheet starts) ≡ sticks → ⊥
-    unstuck = unstuck-run A v (ideal A sheet (settingIn valueRoom turnRoom) starts) _ matches
+    unstuck : runOf A (tableBy (setsOf sheet) sheet) (settingIn valueRoom turnRoom) (startOf A sheet starts) ≡ sticks → ⊥
+    unstuck = unstuck-run A v (ideal A sheet (setsOf sheet) (settingIn valueRoom turnRoom) starts) _ matches
 
   -- ---- never stuck, and never higher than S and T
 
-  never-stuck : (valueRoom turnRoom : ℕ) → valuesNeeded (marked sheet) ≤ valueRoom → turnsNeeded (marked sheet) ≤ turnRoom
-      → NeverStuck A sheet starts seeds valueRoom turnRoom
+  never-stuck : (valueRoom turnRoom : ℕ) → valuesNeeded (markedBy (setsOf sheet) sheet) ≤ valueRoom → turnsNeeded (markedBy (setsOf sheet) sheet) ≤ turnRoom
+      → NeverStuck A sheet (setsOf sheet) starts seeds valueRoom turnRoom
   unfolding startOf settingOf
   never-stuck valueRoom turnRoom values turns =
       record {
         unstuck =
-            table-never-sticks A (tableOf sheet) (settingIn valueRoom turnRoom) (startOf A sheet starts .memory)
+            table-never-sticks A (tableBy (setsOf sheet) sheet) (settingIn valueRoom turnRoom) (startOf A sheet starts .memory)
             (unstuck valueRoom turnRoom values turns);
         valuesWithin = λ k s e. within k s e .valuesFit;
         turnsWithin = λ k s e. within k s e .turnsFit;
       }
     where
       S : ℕ
-      S = valuesNeeded (marked sheet)
+      S = valuesNeeded (markedBy (setsOf sheet) sheet)
 
       T : ℕ
-      T = turnsNeeded (marked sheet)
+      T = turnsNeeded (markedBy (setsOf sheet) sheet)
 
-      within : (k : ℕ) (s : State A) → afterSteps A sheet starts seeds valueRoom turnRoom k ≡ goesOn s → Within A S T (s .memory)
+      within : (k : ℕ) (s : State A) → afterSteps A sheet (setsOf sheet) starts seeds valueRoom turnRoom k ≡ goesOn s → Within A S T (s .memory)
       within k s e =
-          table-heights A (tableOf sheet) (settingIn S T) (startOf A sheet starts .memory) (unstuck S T (omega arith) (omega arith))
+          table-heights A (tableBy (setsOf sheet) sheet) (settingIn S T) (startOf A sheet starts .memory) (unstuck S T (omega arith) (omega arith))
           (record { valuesFit = omega arith; turnsFit = omega arith }) valueRoom turnRoom values turns k s e
 
   -- ---- an execution that goes through
 
-  module _ (valueRoom turnRoom : ℕ) (values : valuesNeeded (marked sheet) ≤ valueRoom) (turns : turnsNeeded (marked sheet) ≤ turnRoom)
+  module _ (valueRoom turnRoom : ℕ) (values : valuesNeeded (markedBy (setsOf sheet) sheet) ≤ valueRoom) (turns : turnsNeeded (markedBy (setsOf sheet) sheet) ≤ turnRoom)
       (e : Progress A) (executes : execution A sheet starts ≡ through e) where
     abbrev setting : Setting A
     setting = settingIn valueRoom turnRoom
 
     abbrev marks : Body
-    marks = marksOf sheet (recordedIn sheet)
+    marks = marksOf sheet (recordedIn (setsOf sheet))
 
     abbrev turning : Table
-    turning = turningOf sheet (recordedIn sheet)
+    turning = turningOf sheet (recordedIn (setsOf sheet))
 
     abbrev memory : Progress A → Memory A
-    memory = memoryAt A sheet (recordedIn sheet)
+    memory = memoryAt A sheet (recordedIn (setsOf sheet))
 
     -- no row is saved but the recorded ones
-    is-marked : marked sheet ≡ marks
-    unfolding marked markBy
+    is-marked : markedBy (setsOf sheet) sheet ≡ marks
+    unfolding markedBy markBy
     is-marked = refl
 
-    prepared : Prepared A words sheet (recordedIn sheet) starts valueRoom turnRoom
+    prepared : Prepared A words sheet (recordedIn (setsOf sheet)) starts valueRoom turnRoom
     unfolding markBy
     prepared =
         record {
@@ -111,44 +112,44 @@ module _ (A : Arithmetic) (words : List ℕ) (sheet : Sheet) (accepted : read wo
     unfolding tableRun
     forward-goes = forward-part A seeds prepared done ∙ ap (λ (x : Attempt _ _). x >>= λ m. through (memory m)) executes
 
-    table-is : tableOf sheet ≡ forwardPart marks turning
-    unfolding tableOf adjointTable
+    table-is : tableBy (setsOf sheet) sheet ≡ forwardPart marks turning
+    unfolding tableBy adjointTable
     table-is = ap (λ t. forwardPart t (one (record { origin = ofTurningRound; action = turnRound }) (backwardPart v t done))) is-marked
 
-    table-lines : lines A sheet starts seeds valueRoom turnRoom ≡ flat (forwardPart marks done) (flat turning [])
+    table-lines : lines A sheet (setsOf sheet) starts seeds valueRoom turnRoom ≡ flat (forwardPart marks done) (flat turning [])
     unfolding linesOf
     table-lines = ap (λ t. flat t []) table-is ∙ forward-lines marks turning []
 
-    saved-at-turning : SavedAtTurning A sheet starts seeds valueRoom turnRoom e
+    saved-at-turning : SavedAtTurning A sheet (setsOf sheet) starts seeds valueRoom turnRoom e
     unfolding startOf savedValues flat
     saved-at-turning =
-        let there = goes-through A setting (lines A sheet starts seeds valueRoom turnRoom) (forwardPart marks done) 0 (flat turning []) []
+        let there = goes-through A setting (lines A sheet (setsOf sheet) starts seeds valueRoom turnRoom) (forwardPart marks done) 0 (flat turning []) []
         (memory (beginning A starts)) (memory e) table-lines forward-goes in
         record {
           steps = there .0;
           state = atRow A (0 + rows (forwardPart marks done)) [] (memory e);
           reached = there .2;
           rest = flat (backwardPart v marks done) [];
-          there = past-tree (lines A sheet starts seeds valueRoom turnRoom) 0 (forwardPart marks done) (flat turning []) table-lines;
+          there = past-tree (lines A sheet (setsOf sheet) starts seeds valueRoom turnRoom) 0 (forwardPart marks done) (flat turning []) table-lines;
           originals = take-at (e .store) (replicate (v + 2) (A .zero)) v (keeps-size A seeds prepared e executes);
           values = refl;
           turns = refl;
           full = λ none.
-              saved-exactly (knownIn sheet) (recordedIn sheet) A (sheet .constants) (ran A seeds prepared e executes) none
+              saved-exactly (knownIn sheet) (recordedIn (setsOf sheet)) A (sheet .constants) (ran A seeds prepared e executes) none
               ∙ ap (λ t. 0 + valuesNeeded t) (sym is-marked) ∙ omega arith;
         }
 
     -- the derivative rows executed, and what they read
-    replays-in-reverse : ReplaysInReverse A sheet starts seeds valueRoom turnRoom e
+    replays-in-reverse : ReplaysInReverse A sheet (setsOf sheet) starts seeds valueRoom turnRoom e
     unfolding startOf savedValues settingOf
     replays-in-reverse k h =
-        table-log A setting (tableOf sheet) (startOf A sheet starts .memory) k h
+        table-log A setting (tableBy (setsOf sheet) sheet) (startOf A sheet starts .memory) k h
         ∙ ap (λ t. tableLog A setting t (memory (beginning A starts))) table-is ∙ forward-notes A seeds prepared turning
         ∙ ap (λ (x : Attempt _ _). onThrough A x (λ m. tableLog A setting turning (memory m))) executes
         ∙ turning-notes A seeds prepared e executes
 
-  all-of-it : (valueRoom turnRoom : ℕ) → valuesNeeded (marked sheet) ≤ valueRoom → turnsNeeded (marked sheet) ≤ turnRoom
-      → DemandThree A sheet starts seeds valueRoom turnRoom
+  all-of-it : (valueRoom turnRoom : ℕ) → valuesNeeded (markedBy (setsOf sheet) sheet) ≤ valueRoom → turnsNeeded (markedBy (setsOf sheet) sheet) ≤ turnRoom
+      → DemandThree A sheet (setsOf sheet) starts seeds valueRoom turnRoom
   all-of-it valueRoom turnRoom values turns =
       record {
         never = never-stuck valueRoom turnRoom values turns;
@@ -159,4 +160,8 @@ module _ (A : Arithmetic) (words : List ℕ) (sheet : Sheet) (accepted : read wo
       }
 
 pub demand-three : ThirdDemand
-demand-three = all-of-it
+demand-three A words sheet sets accepted starts seeds n valueRoom turnRoom values turns =
+    let mine = accepted-reads words sheet (accepted .isRead) in
+    by-own-sets words sheet
+    (λ s. needsBy s sheet .values ≤ valueRoom → needsBy s sheet .turns ≤ turnRoom → DemandThree A sheet s starts seeds valueRoom turnRoom)
+    (all-of-it A words sheet mine starts seeds n valueRoom turnRoom) sets accepted values turns

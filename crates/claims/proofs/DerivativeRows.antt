@@ -1,6 +1,6 @@
 -- The derivative rows of an assignment work on the adjoints alone and read no original outside its adjoint use: on two stores that
 -- agree on the use they do the same and read the same.
-use Prim.Native.Nat.{ℕ, zero, _+_, _-_, _≤_, _<_}
+use Prim.Native.Nat.{ℕ, _+_, _-_, _≤_, _<_}
 use mathlib.Core.Path.{_≡_, refl, sym, ap, _∙_}
 use mathlib.Core.Logic.{_⊎_, inl, inr}
 use mathlib.Core.Bool.{cond}
@@ -13,9 +13,9 @@ use borrow.Author.Tests.{lt-ltb}
 use Rattle.number.specs.Arithmetic.{Arithmetic, Outcome}
 use Rattle.sheet.specs.Rows.{_≔_, Source, copy, fixed, sum, difference, product, negation}
 use Rattle.sets.specs.VariableSets.{VariableSet, has}
-use Rattle.table.specs.TableRows.{Action, assign, save, takeBack, saveTurn, clear, turnRound, tableVariables}
-use Rattle.machine.specs.Attempts.{through, halted, _>>=_, fromOutcome, look}
-use Rattle.machine.specs.Actions.{Memory, Setting, evaluated, acted, stored, withStore}
+use Rattle.table.specs.RowBounds.{tableVariables}
+use Rattle.table.specs.TableRows.{Action, assign, save, takeBack, saveTurn, clear, turnRound}
+use Rattle.machine.specs.Actions.{through, halted, _>>=_, fromOutcome, look, Memory, Setting, evaluated, acted, stored, withStore}
 use Rattle.machine.specs.RowReads.{originalAt, readsOf}
 use Rattle.machine.proofs.AttemptLaws.{Ready, gives, stops, from-outcome-ready}
 use Rattle.claims.proofs.Stores.{same-default, at-known, at-first-part, at-second-part, set-second-part}

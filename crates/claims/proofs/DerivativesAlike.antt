@@ -18,13 +18,11 @@ use Rattle.sets.specs.Transfers.{Activity, adjointUse}
 use Rattle.sets.proofs.VariableSetLaws.{single-has, union-left, union-right}
 use Rattle.table.specs.TableRows.{Table, TableRow, Action, assign, clear, adjointOf, t, u, Operation, Origin, ofRow, ofTurningRound}
 use Rattle.table.specs.Adjoint.{put, putIf, partsOf, derivativeRows}
-use Rattle.machine.specs.Attempts.{Attempt, through, _>>=_}
-use Rattle.machine.specs.Actions.{Memory, Setting, Stop, stoppingAt, acted, withStore}
-use Rattle.machine.specs.InTheLarge.{tableRun}
-use Rattle.machine.specs.RowReads.{Entry, isDerivative, readsOf, entryIf, notedBy, noted, tableLog}
-use Rattle.claims.specs.IdealSweep.{derivedBy}
-use Rattle.claims.specs.ReadLog.{derivedLog}
+use Rattle.machine.specs.Actions.{Attempt, through, _>>=_, Memory, Setting, Stop, stoppingAt, acted, withStore}
+use Rattle.machine.specs.InTheLarge.{tableRun, tableLog}
+use Rattle.machine.specs.RowReads.{Entry, isDerivative, readsOf, entryIf, notedBy, noted}
 use Rattle.claims.proofs.Accounts.{Account, account, Same, derived, inTurn, noting, stopping, nothing-more, noting-more, in-turn-same}
+use Rattle.claims.proofs.DerivedInTheLarge.{derived-in-the-large, derived-log-in-the-large}
 use Rattle.claims.proofs.DerivativeRows.{MayRead, OnAdjoints, Agree, AdjointSize, Does, Halts, Alike, bothDo, bothHalt, same-reads, row-alike}
 
 -- ---- rows in a list
@@ -234,7 +232,7 @@ module _ (A : Arithmetic) (setting : Setting A) where
   pub derivatives-alike : (k d : ℕ) (source : Source) (row : RowNumber) (known : Activity) → d < v → SourcePresent v k source
       → (originals before adjoints : List (A .Carrier)) → length originals ≡ v → length before ≡ v → AdjointSize A v adjoints
       → Agree A originals before (adjointUse source known) → Derives d source row known originals before adjoints
-  unfolding derivedBy derivedLog tableRun tableLog
+  unfolding tableRun tableLog
   derivatives-alike k d source row known h p originals before adjoints n m z agree =
       against (listed-alike (adjointUse source known) originals before n m agree _ (derivative-listed v k d source row known h p) adjoints z)
     where
@@ -244,12 +242,21 @@ module _ (A : Arithmetic) (setting : Setting A) where
       adjointsOf : Account A (Memory A) → Account A (List (A .Carrier))
       adjointsOf after = record { log = after .log; outcome = after .outcome >>= λ x. through (drop v (x .store)) }
 
+      in-the-large : derived A setting (d ≔ source) row known before adjoints
+          ≡ adjointsOf (account A setting (derivativeRows v (known .active) d source row known done)
+          (record { store = before ++ adjoints; values = []; turns = []; copied = [] }))
+      in-the-large =
+          λ i. record {
+            log = derived-log-in-the-large A setting (d ≔ source) row known before adjoints i;
+            outcome = derived-in-the-large A setting (d ≔ source) row known before adjoints i;
+          }
+
       against : PartAlike originals before (derivativeRows v (known .active) d source row known) adjoints
           → Derives d source row known originals before adjoints
       against (bothReach next size log f g) =
           derives next size log f
-          (ap adjointsOf (g alone done) ∙ nothing-more A log _ ∙ ap (λ x. record { log = log; outcome = through x }) (drop-at before next v m))
-      against (bothStop at log f g) = breaks at log f (ap adjointsOf (g alone done))
+          (in-the-large ∙ ap adjointsOf (g alone done) ∙ nothing-more A log _ ∙ ap (λ x. record { log = log; outcome = through x }) (drop-at before next v m))
+      against (bothStop at log f g) = breaks at log f (in-the-large ∙ ap adjointsOf (g alone done))
 
   -- what stands after derivative rows may be exchanged for what does the same
   puts-same : (rs : List TableRow) (rest other : Table) → Same A setting rest other → Same A setting (puts rs rest) (puts rs other)

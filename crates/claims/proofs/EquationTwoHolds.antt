@@ -9,25 +9,24 @@ use lib.Dec.{T}
 use native.Mathlib.Decide.{decLt}
 use native.Mathlib.Nat.{zero-add}
 use native.Mathlib.Omega.{arith}
+use lib.Seq.{getD-drop}
 use Rattle.number.specs.Residues.{modulus, residues}
 use Rattle.sheet.specs.Tree.{rows}
 use Rattle.sheet.specs.Rows.{isIndependent, isDependent}
 use Rattle.sheet.specs.Names.{Present}
-use Rattle.sheet.specs.Reading.{Sheet, variablesOf}
+use Rattle.sheet.specs.Sheets.{Sheet, variablesOf}
 use Rattle.sets.specs.VariableSets.{VariableSet, places}
-use Rattle.sets.specs.Equations.{Satisfy, setAt}
+use Rattle.sets.specs.Rounds.{setsOf, setAt, varied, useful}
+use Rattle.sets.specs.Equations.{Satisfy}
 use Rattle.sets.specs.Transfers.{variedAfter, usefulBefore}
-use Rattle.sets.specs.Marks.{varied, useful, variedEquations, usefulEquations, activityAt}
+use Rattle.sets.specs.Marks.{variedEquations, usefulEquations, activityAt}
 use Rattle.sets.proofs.VariableSetLaws.{places-has}
 use Rattle.sets.proofs.EquationsAlong.{forward-along, backward-along}
-use Rattle.machine.specs.Attempts.{Attempt, through}
-use Rattle.machine.specs.Actions.{Stop, counting}
-use Rattle.run.specs.Calls.{settingOf}
-use Rattle.claims.specs.Execution.{Progress, beginning, execution, executed}
-use Rattle.claims.specs.IdealSweep.{swept, firstAdjoints, Ideal, ideal}
-use Rattle.claims.specs.EquationTwo.{Instance, valueNo, Trace, EquationTwo}
+use Rattle.machine.specs.Actions.{Attempt, through, Stop, counting}
 use Rattle.machine.proofs.AttemptLaws.{same-through, went}
-use lib.Seq.{getD-drop}
+use Rattle.run.specs.Runs.{settingOf}
+use Rattle.claims.specs.IdealSweep.{Progress, beginning, execution, executed, swept, firstAdjoints, Ideal, ideal}
+use Rattle.claims.specs.EquationTwo.{Instance, valueNo, Trace, EquationTwo}
 use Rattle.claims.proofs.Runs.{runs}
 use Rattle.claims.proofs.ResiduesGo.{execution-goes}
 use Rattle.claims.proofs.EquationTwoSolved.{fullSwept, seedAt, full-sweep-solves}
@@ -83,7 +82,7 @@ seeds-agree varied roles seeds below =
 -- the lean sweep of a sheet's executed assignments, from the seeds
 abbrev pub leanSweep : Sheet → (seeds : List ℕ) → (valueRoom turnRoom : ℕ) → Trace → Attempt (Stop residues) (List ℕ)
 leanSweep sheet seeds valueRoom turnRoom trace =
-    swept residues (settingOf residues sheet seeds valueRoom turnRoom) (activityAt (varied sheet) (useful sheet)) trace
+    swept residues (settingOf residues sheet seeds valueRoom turnRoom) (activityAt (setsOf sheet .varied) (setsOf sheet .useful)) trace
     (firstAdjoints residues (sheet .roles) seeds)
 
 -- what an accepted sheet gives: its sets satisfy 01's equations, and it names nothing that isn't there
@@ -147,7 +146,7 @@ module _ (sheet : Sheet) (starts seeds : List ℕ) (valueRoom turnRoom : ℕ) (s
   -- ---- the same of the ideal sweep, the execution with it
 
   abbrev pub idealRun : Attempt (Stop residues) (Ideal residues)
-  idealRun = ideal residues sheet (settingOf residues sheet seeds valueRoom turnRoom) starts
+  idealRun = ideal residues sheet (setsOf sheet) (settingOf residues sheet seeds valueRoom turnRoom) starts
 
   pub ideal-goes : (i : Ideal residues) × (idealRun ≡ through i)
   unfolding ideal settingOf

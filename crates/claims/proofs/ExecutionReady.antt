@@ -10,11 +10,10 @@ use Rattle.number.specs.Arithmetic.{Arithmetic, Outcome}
 use Rattle.sheet.specs.Tree.{Tree, done, one, fork, again, rows}
 use Rattle.sheet.specs.Rows.{Assignment, _≔_, Source, copy, fixed, sum, difference, product, negation, Test, less}
 use Rattle.sheet.specs.Names.{SourcePresent, AssignmentPresent, TestPresent, Present}
-use Rattle.machine.specs.Attempts.{Attempt, through, _>>=_, fromOutcome, look}
-use Rattle.machine.specs.Actions.{Stop, evaluated, compared}
-use Rattle.claims.specs.Execution.{Progress, performed, turned, executed}
+use Rattle.machine.specs.Actions.{Attempt, through, _>>=_, fromOutcome, look, Stop, evaluated, compared}
 use Rattle.machine.proofs.AttemptLaws.{Ready, gives, ready-then, stops, from-outcome-ready}
 use Rattle.machine.proofs.PlaceLaws.{place-there}
+use Rattle.claims.specs.IdealSweep.{Progress, performed, turned, executed}
 use Rattle.claims.proofs.Runs.{runs}
 use Rattle.claims.proofs.RunsKeepSizes.{performed-keeps, runs-keep}
 use Rattle.claims.proofs.Originals.{replaced-alone}

@@ -6,8 +6,8 @@ use mathlib.Core.List.{List, [], _∷_}
 use mathlib.Core.Logic.{_⊎_, inl, inr}
 use lib.ListN.{length, getD}
 use native.Mathlib.Omega.{arith}
-use Rattle.sheet.specs.Refusals.{Refusal, Answer, refused, given, _>>=_}
-use Rattle.sheet.specs.Reading.{unless}
+use Rattle.sheet.specs.Judging.{Answer, refused, given, _>>=_, unless}
+use Rattle.sheet.specs.Refusals.{Refusal}
 use Rattle.claims.specs.ExactlyWhen.{First}
 
 unfoldable pub eachJudged : {A : Type 0} (test : A → Bool) (refusal : ℕ → Refusal) → List A → (place : ℕ) → Answer (Unit {0})

@@ -17,12 +17,11 @@ use Rattle.sets.specs.Marks.{Marked, MarkedTest, numbered}
 use Rattle.table.specs.TableRows.{Table, ofRow, itself, turning, saving, assign, save, saveTurn, turnWord}
 use Rattle.table.specs.Adjoint.{put, putIf, forwardRow, forwardPart}
 use Rattle.table.specs.Sizes.{valuesNeeded, turnsNeeded}
-use Rattle.machine.specs.Attempts.{Attempt, through, halted, stuck, _>>=_, present, replaced}
-use Rattle.machine.specs.Actions.{Memory, Setting, Stop, stoppingAt, evaluated, acted, compared, verdictOn, stored}
+use Rattle.machine.specs.Actions.{Attempt, through, halted, stuck, _>>=_, present, replaced, Memory, Setting, Stop, stoppingAt, evaluated, acted, compared, verdictOn, stored}
 use Rattle.machine.specs.InTheLarge.{tableRun}
-use Rattle.claims.specs.Execution.{Progress, onward, performed, turned, executed}
-use Rattle.claims.specs.SavedRows.{onto, savedValues}
 use Rattle.machine.proofs.AttemptLaws.{bind-assoc, bind-same}
+use Rattle.claims.specs.IdealSweep.{Progress, onward, performed, turned, executed}
+use Rattle.claims.specs.WholeRun.{onto, savedValues}
 use Rattle.claims.proofs.Runs.{was-performed, Runs, stay, row, left, right, last, more, runs}
 use Rattle.claims.proofs.RunsKeepSizes.{performed-keeps, runs-keep}
 use Rattle.claims.proofs.Originals.{evaluated-originals, compared-originals, replaced-original, replaced-alone, looked-up}

@@ -6,18 +6,17 @@ use mathlib.Core.List.{List, [], _++_}
 use lib.ListN.{length}
 use Rattle.number.specs.Arithmetic.{Arithmetic}
 use Rattle.sheet.specs.Tree.{Tree, done, one, fork, again, RowNumber}
-use Rattle.sheet.specs.Rows.{Assignment, Test}
+use Rattle.sheet.specs.Rows.{Assignment, Test, targetOf}
 use Rattle.sheet.specs.Names.{Present}
 use Rattle.sets.specs.Transfers.{Activity}
 use Rattle.table.specs.TableRows.{Table, Action, assign, save, saveTurn, TableTest, whether, ofRow, Operation, saving, itself, turning}
-use Rattle.table.specs.Adjoint.{Body, put, putIf, targetOf, forwardRow, forwardPart}
+use Rattle.table.specs.Adjoint.{Body, put, putIf, forwardRow, forwardPart}
 use Rattle.table.specs.Sizes.{valuesNeeded, turnsNeeded}
-use Rattle.machine.specs.Attempts.{Attempt, through, halted, stuck, _>>=_, present}
-use Rattle.machine.specs.Actions.{Memory, Setting, Stop, stoppingAt, acted, tested}
-use Rattle.machine.specs.InTheLarge.{tableRun}
-use Rattle.machine.specs.RowReads.{Entry, isDerivative, notedBy, onThrough, tableLog}
-use Rattle.claims.specs.Execution.{Progress, executed}
-use Rattle.claims.specs.SavedRows.{savedValues}
+use Rattle.machine.specs.Actions.{Attempt, through, halted, stuck, _>>=_, present, Memory, Setting, Stop, stoppingAt, acted, tested}
+use Rattle.machine.specs.InTheLarge.{tableRun, tableLog}
+use Rattle.machine.specs.RowReads.{Entry, isDerivative, notedBy, onThrough}
+use Rattle.claims.specs.IdealSweep.{Progress, executed}
+use Rattle.claims.specs.WholeRun.{savedValues}
 use Rattle.claims.proofs.Forward.{body, memoryWith, forward-executes}
 
 module _ (A : Arithmetic) where

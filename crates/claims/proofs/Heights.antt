@@ -11,12 +11,11 @@ use Rattle.number.specs.Arithmetic.{Arithmetic}
 use Rattle.sheet.specs.Tree.{basic, ifLine, elseLine, endIf, repeat, endRepeat, RowNumber}
 use Rattle.sheet.specs.Rows.{_≔_}
 use Rattle.table.specs.TableRows.{Action, assign, save, takeBack, saveTurn, clear, turnRound, whether, onTurn, turnWord, Origin, TableLine, Table, linesOf}
-use Rattle.machine.specs.Attempts.{Attempt, through, halted, stuck, _>>=_, look, replaced, pushed}
-use Rattle.machine.specs.Actions.{Memory, Setting, stoppingAt, evaluated, restored, turnedRound, acted, compared, verdictOn, turnTaken, tested}
+use Rattle.machine.specs.Actions.{Attempt, through, halted, stuck, _>>=_, look, replaced, pushed, Memory, Setting, stoppingAt, evaluated, restored, turnedRound, acted, compared, verdictOn, turnTaken, tested}
 use Rattle.machine.specs.Machine.{itsElse, itsEnd, oneMore, seek, Repeat, State, Step, goesOn, ended, stops, sticks, jump, afterAction, branchTo, afterTest, afterTurn, stepAt, step, ifItGoesOn, stateAfter, stepsOf}
 use Rattle.machine.proofs.StepsInTurn.{steps-add}
+use Rattle.run.specs.Runs.{runOf}
 use Rattle.run.proofs.MachineFollows.{atRow, more-steps-same, steps-suffice}
-use Rattle.run.specs.Calls.{runOf}
 use Rattle.claims.proofs.MoreRoom.{withRooms, more-room-same}
 
 -- ---- what holds of whatever goes through

@@ -4,18 +4,17 @@ use mathlib.Core.Path.{_≡_, refl, sym, _∙_}
 use mathlib.Core.List.{List, [], _∷_}
 use native.Mathlib.Omega.{arith}
 use Rattle.number.specs.Arithmetic.{Arithmetic}
-use Rattle.sheet.specs.Tree.{done, RowNumber}
-use Rattle.sheet.specs.Rows.{Assignment, _≔_}
-use Rattle.sheet.specs.Reading.{Sheet}
+use Rattle.sheet.specs.Tree.{RowNumber}
+use Rattle.sheet.specs.Rows.{Assignment}
+use Rattle.sheet.specs.Sheets.{Sheet}
 use Rattle.sets.specs.Transfers.{Activity}
-use Rattle.table.specs.Adjoint.{derivativeRows}
-use Rattle.machine.specs.Attempts.{Attempt, stuck}
-use Rattle.machine.specs.Actions.{Setting, Stop}
+use Rattle.sets.specs.Rounds.{setsOf}
+use Rattle.machine.specs.Actions.{Attempt, stuck, Setting, Stop}
 use Rattle.machine.specs.InTheLarge.{tableRun}
-use Rattle.run.specs.Calls.{settingOf}
-use Rattle.claims.specs.Execution.{Executed, execution}
-use Rattle.claims.specs.IdealSweep.{derivedBy, swept, Ideal, ideal}
 use Rattle.machine.proofs.AttemptLaws.{bind-unless}
+use Rattle.run.specs.Runs.{settingOf}
+use Rattle.claims.specs.IdealSweep.{Executed, execution, derivationOf, derivedBy, swept, Ideal, ideal}
+use Rattle.claims.proofs.DerivedInTheLarge.{derived-in-the-large}
 use Rattle.claims.proofs.MoreRoom.{withRooms, more-room-same-in-the-large}
 
 module _ (A : Arithmetic) (setting : Setting A) (values turns : ℕ) (moreValues : setting .valueRoom ≤ values)
@@ -26,13 +25,11 @@ module _ (A : Arithmetic) (setting : Setting A) (values turns : ℕ) (moreValues
   derived-in-more-room : (b : Assignment) (row : RowNumber) (known : Activity) (originals adjoints : List (A .Carrier))
       → (derivedBy A setting b row known originals adjoints ≡ stuck → ⊥)
       → derivedBy A larger b row known originals adjoints ≡ derivedBy A setting b row known originals adjoints
-  unfolding derivedBy
-  derived-in-more-room (d ≔ source) row known originals adjoints =
-      bind-unless (tableRun A setting (derivativeRows (setting .variables) (known .active) d source row known done) _)
-      (tableRun A larger (derivativeRows (setting .variables) (known .active) d source row known done) _) _ _
-      (more-room-same-in-the-large A setting values turns moreValues moreTurns
-      (derivativeRows (setting .variables) (known .active) d source row known done) _)
-      (λ x unstuck. refl)
+  derived-in-more-room b row known originals adjoints =
+      let rows = derivationOf A (setting .variables) b row known in
+      rw (derived-in-the-large A setting b row known originals adjoints, derived-in-the-large A larger b row known originals adjoints)
+      (bind-unless (tableRun A setting rows _) (tableRun A larger rows _) _ _
+      (more-room-same-in-the-large A setting values turns moreValues moreTurns rows _) (λ x unstuck. refl))
 
   swept-in-more-room : (known : ℕ → Assignment → Activity) (trace : List (Executed A)) (adjoints : List (A .Carrier))
       → (swept A setting known trace adjoints ≡ stuck → ⊥) → swept A larger known trace adjoints ≡ swept A setting known trace adjoints
@@ -44,8 +41,8 @@ module _ (A : Arithmetic) (setting : Setting A) (values turns : ℕ) (moreValues
       (derived-in-more-room (e .assignment) (e .row) (known (e .row .index) (e .assignment)) (e .before) adjoints)
       (λ next. swept-in-more-room known earlier next)
 
-  ideal-in-more-room : (sheet : Sheet) (starts : List (A .Carrier)) → (ideal A sheet setting starts ≡ stuck → ⊥)
-      → ideal A sheet larger starts ≡ ideal A sheet setting starts
+  ideal-in-more-room : (sheet : Sheet) (starts : List (A .Carrier)) → (ideal A sheet (setsOf sheet) setting starts ≡ stuck → ⊥)
+      → ideal A sheet (setsOf sheet) larger starts ≡ ideal A sheet (setsOf sheet) setting starts
   unfolding ideal
   ideal-in-more-room sheet starts =
       bind-unless (execution A sheet starts) (execution A sheet starts) _ _ (λ unstuck. refl)
@@ -53,7 +50,7 @@ module _ (A : Arithmetic) (setting : Setting A) (values turns : ℕ) (moreValues
 
 module _ (A : Arithmetic) (sheet : Sheet) (starts seeds : List (A .Carrier)) where
   abbrev idealIn : (values turns : ℕ) → Attempt (Stop A) (Ideal A)
-  idealIn values turns = ideal A sheet (settingOf A sheet seeds values turns) starts
+  idealIn values turns = ideal A sheet (setsOf sheet) (settingOf A sheet seeds values turns) starts
 
   pub ideal-in-any-room : (values turns values′ turns′ : ℕ) → (idealIn values turns ≡ stuck → ⊥) → (idealIn values′ turns′ ≡ stuck → ⊥)
       → idealIn values turns ≡ idealIn values′ turns′

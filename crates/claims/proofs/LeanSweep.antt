@@ -10,15 +10,13 @@ use Rattle.sheet.specs.Tree.{Tree, done, one, fork, again, rows}
 use Rattle.sheet.specs.Rows.{Assignment, _≔_, Test}
 use Rattle.sheet.specs.Names.{AssignmentPresent, Present}
 use Rattle.sets.specs.VariableSets.{VariableSet, _∪_, _⊆_}
-use Rattle.sets.specs.Equations.{setAt}
+use Rattle.sets.specs.Rounds.{setAt}
 use Rattle.sets.specs.Transfers.{variedAfter, usefulBefore, Activity}
 use Rattle.sets.specs.Marks.{activityAt}
 use Rattle.sets.proofs.VariableSetLaws.{union-left, union-right, ⊆-refl}
 use Rattle.sets.proofs.EquationsAlong.{ForwardAlong, BackwardAlong}
-use Rattle.machine.specs.Attempts.{through}
-use Rattle.machine.specs.Actions.{Setting}
-use Rattle.claims.specs.Execution.{Executed, Progress, performed}
-use Rattle.claims.specs.IdealSweep.{swept}
+use Rattle.machine.specs.Actions.{through, Setting}
+use Rattle.claims.specs.IdealSweep.{Executed, Progress, performed, swept}
 use Rattle.claims.specs.EquationTwo.{Trace}
 use Rattle.claims.proofs.Runs.{Runs, stay, row, left, right, last, more, was-performed}
 use Rattle.claims.proofs.RunsKeepSizes.{performed-keeps, runs-keep}
@@ -42,7 +40,7 @@ module _ (setting : Setting residues) (constants : List ℕ) (variedSets usefulS
   v = setting .variables
 
   abbrev pub known : ℕ → Assignment → Activity
-  known = activityAt variedSets usefulSets
+  known = activityAt (setAt variedSets) (setAt usefulSets)
 
   abbrev pub AgreesAt : ℕ → (ℕ → ℕ) → List ℕ → Type 0
   AgreesAt p = Agrees (setAt variedSets p) (setAt usefulSets p) v

@@ -16,6 +16,8 @@ pub mod ReaderExactlyWhen
 pub mod Runs
 pub mod RunsKeepSizes
 pub mod Stores
+pub mod MachineLogs
+pub mod DerivedInTheLarge
 pub mod Accounts
 pub mod DerivativeRows
 pub mod DerivativesAlike
@@ -26,11 +28,10 @@ pub mod ForwardLog
 pub mod Undoing
 pub mod BackwardRest
 pub mod Replay
-pub mod MachineLogs
 pub mod MoreRoom
 pub mod Heights
 pub mod IdealRooms
-pub mod StopRow
+pub mod RunsEnd
 pub mod RowSeventeen
 pub mod RunInTheLarge
 pub mod WholeRunMatches

@@ -10,10 +10,11 @@ use lib.ListN.{length}
 use lib.Dec.{ltb}
 use native.Mathlib.Omega.{arith}
 use Rattle.sheet.specs.Bounds.{limit}
-use Rattle.sheet.specs.Refusals.{Answer, refused, given, _>>=_, badRow, badBlock}
+use Rattle.sheet.specs.Judging.{Answer, refused, given, _>>=_, unless}
+use Rattle.sheet.specs.Refusals.{badRow, badBlock}
 use Rattle.sheet.specs.Tree.{basic, ifLine, elseLine, endIf, repeat, endRepeat}
-use Rattle.sheet.specs.Rows.{SheetLine, Row, Slot, variable, constant, turns, unused, fits, Kind, kindOf, wordsFit}
-use Rattle.sheet.specs.Reading.{unless, Item, Block, inFirst, inSecond, inRepeat, RowsTaken, lineBy, lineOf, entered, splitAt, ifEndedAt, repeatEndedAt, taken}
+use Rattle.sheet.specs.Reading.{fits, wordsFit, Item, Block, inFirst, inSecond, inRepeat, RowsTaken, lineBy, lineOf, entered, splitAt, ifEndedAt, repeatEndedAt, taken}
+use Rattle.sheet.specs.Rows.{SheetLine, Row, Slot, variable, constant, turns, unused, Kind, kindOf}
 use Rattle.sheet.proofs.Judgements.{Tells, leb-tells, eqb-tells, both-tell, judged, _andThen_, passes, refuses, after-given, after-refused}
 use Rattle.claims.specs.ExactlyWhen.{Fits, Says, Opening, firstBranch, secondBranch, repeatBody, Takes, assigns, opensIf, splitsIf, closesIf, opensRepeat, closesRepeat}
 

@@ -8,11 +8,10 @@ use native.Mathlib.Omega.{arith}
 use Rattle.number.specs.Arithmetic.{Arithmetic}
 use Rattle.sheet.specs.Tree.{flat, rows}
 use Rattle.table.specs.TableRows.{TableLine, Table, linesOf}
-use Rattle.machine.specs.Attempts.{through, halted, stuck}
-use Rattle.machine.specs.Actions.{Memory, Setting}
+use Rattle.machine.specs.Actions.{through, halted, stuck, Memory, Setting}
 use Rattle.machine.specs.Machine.{Repeat, Step, step, stepAt, stepsOf}
-use Rattle.machine.specs.InTheLarge.{tableRun}
-use Rattle.machine.specs.RowReads.{onNext, machineLog, tableLog}
+use Rattle.machine.specs.InTheLarge.{tableRun, tableLog}
+use Rattle.machine.specs.RowReads.{onNext, machineLog}
 use Rattle.machine.proofs.LinesPassed.{past-tree}
 use Rattle.machine.proofs.StepsInTurn.{log-add, log-first}
 use Rattle.run.proofs.MachineFollows.{atRow, Result, LandsAt, reaches}

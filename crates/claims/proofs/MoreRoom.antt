@@ -10,8 +10,7 @@ use Rattle.number.specs.Arithmetic.{Arithmetic}
 use Rattle.sheet.specs.Tree.{done, one, fork, again, basic, ifLine, elseLine, endIf, repeat, endRepeat}
 use Rattle.sheet.specs.Rows.{_≔_}
 use Rattle.table.specs.TableRows.{Action, assign, save, takeBack, saveTurn, clear, turnRound, turnWord, TableLine, Table}
-use Rattle.machine.specs.Attempts.{Attempt, through, stuck, present, look, pushed}
-use Rattle.machine.specs.Actions.{Memory, Setting, Stop, stoppingAt, saved, turnedRound, acted, tested}
+use Rattle.machine.specs.Actions.{Attempt, through, stuck, present, look, pushed, Memory, Setting, Stop, stoppingAt, saved, turnedRound, acted, tested}
 use Rattle.machine.specs.Machine.{State, Step, goesOn, ended, stops, sticks, afterAction, stepAt, step, ifItGoesOn, stateAfter}
 use Rattle.machine.specs.InTheLarge.{tableRun}
 use Rattle.machine.proofs.AttemptLaws.{bind-unless}

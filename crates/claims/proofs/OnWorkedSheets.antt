@@ -6,24 +6,26 @@ use mathlib.Core.List.{[], _∷_, map}
 use lib.ListN.{getD, replicate}
 use native.Mathlib.Omega.{arith}
 use Rattle.number.specs.Residues.{modulus, residues, residue}
-use Rattle.sheet.specs.Refusals.{Answer, refused, given}
+use Rattle.sheet.specs.Judging.{Answer, refused, given}
 use Rattle.sheet.specs.Tree.{done}
-use Rattle.sheet.specs.Reading.{Sheet, variablesOf, read}
-use Rattle.sets.specs.Marks.{marked, markBy, varied, useful, required, activityAt}
-use Rattle.table.specs.Sizes.{valuesNeeded, turnsNeeded}
-use Rattle.machine.specs.Attempts.{Attempt, through, halted, stuck}
-use Rattle.machine.specs.Actions.{Stop, counting}
-use Rattle.run.specs.Calls.{Lent, settingOf, readToRun, run}
-use Rattle.claims.specs.ExactlyWhen.{Runnable}
-use Rattle.claims.specs.Execution.{Progress, execution}
-use Rattle.claims.specs.IdealSweep.{firstAdjoints}
-use Rattle.claims.specs.ReadLog.{sweptLog}
-use Rattle.claims.specs.EquationTwo.{Instance, valueNo, EquationTwo}
-use Rattle.claims.specs.SavedRows.{savedValues, recordedIn}
-use Rattle.claims.specs.WorkedSheets.{wordsD, wordsE}
-use Rattle.claims.specs.Demands.{AuditSolves, DemandThree, SameAsAllSaved}
+use Rattle.sheet.specs.Sheets.{Sheet, variablesOf}
+use Rattle.sheet.specs.Reading.{read}
 use Rattle.sheet.proofs.Settled.{given-exactly}
-use Rattle.claims.proofs.StartExactlyWhen.{start-settled}
+use Rattle.sets.specs.Rounds.{varied, useful, required, setsOf}
+use Rattle.sets.specs.Marks.{markBy, activityAt, markedBy}
+use Rattle.table.specs.Sizes.{tableRows, valuesNeeded, turnsNeeded, needsBy}
+use Rattle.machine.specs.Actions.{Attempt, through, halted, stuck, Stop, counting}
+use Rattle.run.specs.Runs.{Lent, settingOf}
+use Rattle.run.specs.Calls.{readToRun, run}
+use Rattle.claims.specs.ExactlyWhen.{Accepted}
+use Rattle.claims.specs.IdealSweep.{Progress, execution, firstAdjoints, sweptLog}
+use Rattle.claims.specs.EquationTwo.{Instance, valueNo, EquationTwo}
+use Rattle.claims.specs.WholeRun.{savedValues, recordedIn}
+use Rattle.claims.specs.WorkedSheets.{wordsD, wordsE}
+use Rattle.claims.specs.ThreeDemands.{SameAsAllSaved}
+use Rattle.claims.specs.Demands.{AuditSolves, DemandThree}
+use Rattle.claims.proofs.ReadingExactlyWhen.{reading-settled}
+use Rattle.claims.proofs.StartExactlyWhen.{own-sets, start-settled, Ready}
 use Rattle.claims.proofs.AuditSolves.{audit-solves}
 use Rattle.claims.proofs.DemandTwoHolds.{same-as-all-saved}
 use Rattle.claims.proofs.DemandThreeHolds.{demand-three}
@@ -44,17 +46,20 @@ sheetE : Sheet
 unfolding sheetIn read
 sheetE = sheetIn (read wordsE)
 
-E-accepted : read wordsE ≡ given sheetE
+E-is-read : read wordsE ≡ given sheetE
 unfolding sheetE read
-E-accepted = refl
+E-is-read = refl
 
-E-demand-three : DemandThree residues sheetE (1 ∷ 0 ∷ []) (1 ∷ 0 ∷ []) 2 0
-unfolding sheetE marked valuesNeeded turnsNeeded
-E-demand-three = demand-three residues wordsE sheetE E-accepted (1 ∷ 0 ∷ []) (1 ∷ 0 ∷ []) refl 2 0 (omega arith) (omega arith)
+E-accepted : Accepted wordsE sheetE (setsOf sheetE)
+E-accepted = own-sets wordsE sheetE (given-exactly (reading-settled wordsE) sheetE .0 E-is-read)
 
-E-same-as-all-saved : SameAsAllSaved residues sheetE (1 ∷ 0 ∷ []) (1 ∷ 0 ∷ [])
+E-demand-three : DemandThree residues sheetE (setsOf sheetE) (1 ∷ 0 ∷ []) (1 ∷ 0 ∷ []) 2 0
+unfolding sheetE markedBy required valuesNeeded turnsNeeded
+E-demand-three = demand-three residues wordsE sheetE (setsOf sheetE) E-accepted (1 ∷ 0 ∷ []) (1 ∷ 0 ∷ []) refl 2 0 (omega arith) (omega arith)
+
+E-same-as-all-saved : SameAsAllSaved residues sheetE (setsOf sheetE) (1 ∷ 0 ∷ []) (1 ∷ 0 ∷ [])
 unfolding sheetE
-E-same-as-all-saved = same-as-all-saved residues wordsE sheetE (1 ∷ 0 ∷ []) (1 ∷ 0 ∷ []) E-accepted refl
+E-same-as-all-saved = same-as-all-saved residues wordsE sheetE (1 ∷ 0 ∷ []) (1 ∷ 0 ∷ []) E-is-read refl
 
 -- what E executes from 1 and 0
 ended : Attempt (Stop residues) (Progress residues) → Progress residues
@@ -71,13 +76,13 @@ unfolding progressE
 E-executes = refl
 
 -- two values are saved, 2 on top of 1
-E-saves : savedValues residues (recordedIn sheetE) (progressE .trace) ≡ 2 ∷ 1 ∷ []
+E-saves : savedValues residues (recordedIn (setsOf sheetE)) (progressE .trace) ≡ 2 ∷ 1 ∷ []
 unfolding savedValues markBy required progressE
 E-saves = refl
 
 -- Each turn's sum reads no original; each turn's product reads x twice: 2 in the second turn, which is taken back first, and 1 in the first.
 E-reads : map (λ entry. entry .reads)
-    (sweptLog residues (settingOf residues sheetE (1 ∷ 0 ∷ []) 2 0) (activityAt (varied sheetE) (useful sheetE)) (progressE .trace)
+    (sweptLog residues (settingOf residues sheetE (1 ∷ 0 ∷ []) 2 0) (activityAt (setsOf sheetE .varied) (setsOf sheetE .useful)) (progressE .trace)
     (firstAdjoints residues (sheetE .roles) (1 ∷ 0 ∷ [])))
     ≡ [] ∷ [] ∷ [] ∷ [] ∷ [] ∷ [] ∷ (2 ∷ []) ∷ [] ∷ (2 ∷ []) ∷ [] ∷ [] ∷ [] ∷ [] ∷ [] ∷ [] ∷ [] ∷ (1 ∷ []) ∷ [] ∷ (1 ∷ []) ∷ [] ∷ []
 unfolding sweptLog settingOf activityAt varied useful progressE counting residue
@@ -86,9 +91,9 @@ E-reads = refl
 lentE : Lent residues
 lentE = record { table = replicate 77 7; values = 7 ∷ 7 ∷ []; turns = []; result = 7 ∷ 7 ∷ 7 ∷ 7 ∷ [] }
 
-E-runs : Runnable residues wordsE (1 ∷ 0 ∷ []) (1 ∷ 0 ∷ []) lentE sheetE
-unfolding readToRun sheetE lentE
-E-runs = given-exactly (start-settled residues wordsE (1 ∷ 0 ∷ []) (1 ∷ 0 ∷ []) lentE) sheetE .0 refl
+E-runs : Ready residues needsBy wordsE (1 ∷ 0 ∷ []) (1 ∷ 0 ∷ []) lentE sheetE
+unfolding readToRun sheetE lentE tableRows markedBy required valuesNeeded turnsNeeded
+E-runs = given-exactly (start-settled residues needsBy wordsE (1 ∷ 0 ∷ []) (1 ∷ 0 ∷ []) lentE) sheetE .0 refl
 
 E-audit : AuditSolves sheetE (1 ∷ 0 ∷ []) (1 ∷ 0 ∷ []) (run residues wordsE (1 ∷ 0 ∷ []) (1 ∷ 0 ∷ []) lentE)
 E-audit = audit-solves wordsE (1 ∷ 0 ∷ []) (1 ∷ 0 ∷ []) lentE sheetE E-runs small _ refl
@@ -107,13 +112,16 @@ sheetD : Sheet
 unfolding sheetIn read
 sheetD = sheetIn (read wordsD)
 
-D-accepted : read wordsD ≡ given sheetD
+D-is-read : read wordsD ≡ given sheetD
 unfolding sheetD read
-D-accepted = refl
+D-is-read = refl
 
-D-demand-three : DemandThree residues sheetD (5 ∷ 2 ∷ []) (1 ∷ 0 ∷ []) 0 1
-unfolding sheetD marked valuesNeeded turnsNeeded
-D-demand-three = demand-three residues wordsD sheetD D-accepted (5 ∷ 2 ∷ []) (1 ∷ 0 ∷ []) refl 0 1 (omega arith) (omega arith)
+D-accepted : Accepted wordsD sheetD (setsOf sheetD)
+D-accepted = own-sets wordsD sheetD (given-exactly (reading-settled wordsD) sheetD .0 D-is-read)
+
+D-demand-three : DemandThree residues sheetD (setsOf sheetD) (5 ∷ 2 ∷ []) (1 ∷ 0 ∷ []) 0 1
+unfolding sheetD markedBy required valuesNeeded turnsNeeded
+D-demand-three = demand-three residues wordsD sheetD (setsOf sheetD) D-accepted (5 ∷ 2 ∷ []) (1 ∷ 0 ∷ []) refl 0 1 (omega arith) (omega arith)
 
 D-turns : ended (execution residues sheetD (5 ∷ 2 ∷ [])) .turns ≡ true ∷ []
 unfolding ended sheetD execution

@@ -10,8 +10,7 @@ use borrow.Author.Tests.{lt-ltb}
 use Rattle.number.specs.Arithmetic.{Arithmetic}
 use Rattle.sheet.specs.Rows.{Source, copy, fixed, sum, difference, product, negation, Test, less}
 use Rattle.sheet.specs.Names.{SourcePresent, TestPresent}
-use Rattle.machine.specs.Attempts.{through, replaced}
-use Rattle.machine.specs.Actions.{evaluated, compared}
+use Rattle.machine.specs.Actions.{through, replaced, evaluated, compared}
 use Rattle.machine.proofs.PlaceLaws.{place-there}
 use Rattle.claims.proofs.Stores.{at-first-part}
 

@@ -3,8 +3,9 @@ use mathlib.Core.Path.{_≡_, refl, sym, ap, subst}
 use mathlib.Core.List.{List}
 use mathlib.Core.Logic.{_⊎_, inl, inr}
 use Prim.Native.Nat.{ℕ}
-use Rattle.sheet.specs.Refusals.{Refusal, given}
-use Rattle.sheet.specs.Reading.{Sheet}
+use Rattle.sheet.specs.Judging.{given}
+use Rattle.sheet.specs.Refusals.{Refusal}
+use Rattle.sheet.specs.Sheets.{Sheet}
 use Rattle.sheet.specs.Answers.{said, shapeOf, shapeRead}
 use Rattle.sheet.specs.declared.Shape.{Shape}
 use Rattle.sheet.specs.declared.Reading.{Reading}
@@ -12,7 +13,7 @@ use Rattle.sheet.specs.declared.Reading.the-variants.{Accepted}
 use Rattle.sheet.proofs.Settled.{Settled, given-exactly, named-exactly, done-exactly, numbers-within}
 use Rattle.sheet.proofs.ReaderLaws.{same-said}
 use Rattle.claims.specs.ExactlyWhen.{ReadingRefuses, Read}
-use Rattle.claims.specs.CallsExactly.{ShapeOfRead, ReaderExactly}
+use Rattle.claims.specs.ReaderExactly.{ShapeOfRead, ReaderExactly}
 use Rattle.claims.proofs.ReadingExactlyWhen.{reading-settled, reading-numbers}
 
 module _ (words : List ℕ) where

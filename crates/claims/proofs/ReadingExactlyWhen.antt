@@ -7,11 +7,12 @@ use lib.ListN.{length, take, drop}
 use lib.Dec.{leb}
 use native.Mathlib.Omega.{arith}
 use Rattle.sheet.specs.Bounds.{limit}
-use Rattle.sheet.specs.Refusals.{Refusal, Answer, refused, given, _>>=_, numberOf, wordsLeft, tooLong}
-use Rattle.sheet.specs.Tree.{Tree}
+use Rattle.sheet.specs.Judging.{Answer, refused, given, _>>=_, unless}
+use Rattle.sheet.specs.Refusals.{Refusal, numberOf, wordsLeft, tooLong}
+use Rattle.sheet.specs.Tree.{Tree, longestRun}
 use Rattle.sheet.specs.Rows.{Assignment, Test, treeRows}
-use Rattle.sheet.specs.LongestRun.{longestRun}
-use Rattle.sheet.specs.Reading.{Sheet, unless, rolesFit, read}
+use Rattle.sheet.specs.Sheets.{Sheet}
+use Rattle.sheet.specs.Reading.{rolesFit, read}
 use Rattle.sheet.proofs.Judgements.{Tells, leb-tells, unmet, judged, _andThen_, after-given, after-refused}
 use Rattle.sheet.proofs.Settled.{Settled}
 use Rattle.sheet.proofs.TreeOfRows.{body-rows, only-body}

@@ -18,11 +18,9 @@ use Rattle.sets.proofs.EquationsAlong.{ForwardAlong}
 use Rattle.table.specs.TableRows.{Table, onTurn}
 use Rattle.table.specs.Adjoint.{backwardPart}
 use Rattle.machine.specs.Actions.{Memory, Setting, Stop}
-use Rattle.machine.specs.InTheLarge.{tableRun}
-use Rattle.machine.specs.RowReads.{Entry, tableLog}
-use Rattle.claims.specs.Execution.{Executed, Progress, onward, turned}
-use Rattle.claims.specs.IdealSweep.{swept}
-use Rattle.claims.specs.ReadLog.{sweptLog}
+use Rattle.machine.specs.InTheLarge.{tableRun, tableLog}
+use Rattle.machine.specs.RowReads.{Entry}
+use Rattle.claims.specs.IdealSweep.{Executed, Progress, onward, turned, swept, sweptLog}
 use Rattle.claims.proofs.Runs.{was-performed, Runs, stay, row, left, right, last, more}
 use Rattle.claims.proofs.Accounts.{Account, account, sweeping, stopping, noting, nothing-more, noting-more, noting-then, inTurn}
 use Rattle.claims.proofs.RunsKeepSizes.{performed-keeps, runs-keep}

@@ -18,11 +18,11 @@ use Rattle.sheet.specs.Names.{SourcePresent}
 use Rattle.sets.specs.Transfers.{Activity}
 use Rattle.table.specs.TableRows.{t, u, Action, assign, clear, Operation, holding, clearing, scalingForA, addingToA, scalingForB, addingToB, Table}
 use Rattle.table.specs.Adjoint.{put, putIf, addInto, subtractFrom, scaled, partsOf, derivativeRows}
-use Rattle.machine.specs.Attempts.{through, look, replaced}
-use Rattle.machine.specs.Actions.{Memory, Setting, acted}
+use Rattle.machine.specs.Actions.{through, look, replaced, Memory, Setting, acted}
 use Rattle.machine.specs.InTheLarge.{tableRun}
-use Rattle.claims.specs.IdealSweep.{derivedBy}
 use Rattle.machine.proofs.PlaceLaws.{place-there}
+use Rattle.claims.specs.IdealSweep.{derivedBy}
+use Rattle.claims.proofs.DerivedInTheLarge.{derived-in-the-large}
 use Rattle.claims.proofs.LeanGain.{variedGain, leanGain, cleared, Grown}
 use Rattle.claims.proofs.Stores.{at-first-part, at-second-part, set-second-part}
 
@@ -287,7 +287,10 @@ pub derived-goes : (setting : Setting residues) (constants d : ℕ) (source : So
     → length α ≡ setting .variables + 2 → ((x : ℕ) → getD α x 0 < modulus)
     → (after : List ℕ) × (derivedBy residues setting (d ≔ source) row known originals α ≡ through after)
     × Grown (setting .variables) (λ x. cleared d α x + leanGain known source originals (getD α d 0) x) after
-unfolding derivedBy leanGain
+unfolding leanGain
 derived-goes setting constants d source row known originals α sized h present size below =
-    let w = rows-go setting originals sized (known .active) constants d source row known α h present size below in
-    (w .0, rw (w .1, drop-at originals (w .0) (setting .variables) sized), w .2)
+    let w = rows-go setting originals sized (known .active) constants d source row known α h present size below in (
+      w .0,
+      derived-in-the-large residues setting (d ≔ source) row known originals α ∙ rw (w .1, drop-at originals (w .0) (setting .variables) sized),
+      w .2,
+    )

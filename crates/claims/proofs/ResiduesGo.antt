@@ -5,10 +5,10 @@ use mathlib.Core.List.{List}
 use lib.ListN.{length}
 use Rattle.number.specs.Residues.{residues}
 use Rattle.sheet.specs.Names.{Present}
-use Rattle.sheet.specs.Reading.{Sheet, variablesOf}
-use Rattle.machine.specs.Attempts.{through}
-use Rattle.claims.specs.Execution.{Progress, beginning, execution}
+use Rattle.sheet.specs.Sheets.{Sheet, variablesOf}
+use Rattle.machine.specs.Actions.{through}
 use Rattle.machine.proofs.AttemptLaws.{Ready, gives, stops}
+use Rattle.claims.specs.IdealSweep.{Progress, beginning, execution}
 use Rattle.claims.proofs.ExecutionReady.{executed-ready}
 
 pub execution-goes : (sheet : Sheet) (starts : List ℕ) → length starts ≡ variablesOf sheet

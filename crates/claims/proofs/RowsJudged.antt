@@ -5,10 +5,12 @@ use mathlib.Core.List.{List, [], _∷_}
 use mathlib.Core.Logic.{_⊎_, inl, inr}
 use native.Mathlib.Omega.{arith}
 use Rattle.sheet.specs.Bounds.{limit}
-use Rattle.sheet.specs.Refusals.{Answer, refused, given, badRow, badBlock}
+use Rattle.sheet.specs.Judging.{Answer, refused, given}
+use Rattle.sheet.specs.Refusals.{badRow, badBlock}
 use Rattle.sheet.specs.Tree.{Tree, done}
 use Rattle.sheet.specs.Rows.{Assignment, Test, SheetLine}
-use Rattle.sheet.specs.Reading.{rowsAt, Item, Block, closed, RowsTaken, taken, bodyOf}
+use Rattle.sheet.specs.Sheets.{rowsAt}
+use Rattle.sheet.specs.Reading.{Item, Block, closed, RowsTaken, taken, bodyOf}
 use Rattle.sheet.proofs.Judgements.{_andThen_}
 use Rattle.claims.specs.ExactlyWhen.{rows, Opening, Takes, variableCount, constantCount, rowCount, rowPlace, rowNo, sheetRows, firstItem, afterRows, RowsReached, RowSays, OpenAfter, start, next, rowSaysNothing, blockWrong, neverClosed}
 use Rattle.claims.proofs.SectionsJudged.{SomeRule}

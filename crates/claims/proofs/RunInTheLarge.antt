@@ -1,6 +1,6 @@
 -- A run of an accepted sheet's table, for any rows saved that include the recorded ones: the forward part executes the sheet, row 17 turns
 -- round, the backward part sweeps back; the whole matches the ideal.
-use Prim.Native.Nat.{ℕ, zero, _+_, _≤_}
+use Prim.Native.Nat.{ℕ, _+_, _≤_}
 use mathlib.Core.Path.{_≡_, refl, sym, ap, subst, _∙_}
 use mathlib.Core.Bool.{Bool}
 use mathlib.Core.List.{List, [], _++_}
@@ -9,31 +9,29 @@ use lib.Seq.{drop-at}
 use native.Mathlib.Omega.{arith}
 use Rattle.number.specs.Arithmetic.{Arithmetic}
 use Rattle.sheet.specs.Tree.{Tree, done, one}
-use Rattle.sheet.specs.Refusals.{given}
+use Rattle.sheet.specs.Judging.{given}
 use Rattle.sheet.specs.Rows.{Assignment}
 use Rattle.sheet.specs.Names.{Present}
-use Rattle.sheet.specs.Reading.{Sheet, variablesOf, read}
+use Rattle.sheet.specs.Sheets.{Sheet, variablesOf}
+use Rattle.sheet.specs.Reading.{read}
 use Rattle.sheet.proofs.NamesPresent.{names-present}
-use Rattle.sets.specs.Equations.{setAt, Satisfy}
+use Rattle.sets.specs.Rounds.{setsOf, setAt, required}
+use Rattle.sets.specs.Equations.{Satisfy}
 use Rattle.sets.specs.Transfers.{Activity, requiredAfter}
-use Rattle.sets.specs.Marks.{Marked, MarkedTest, varied, useful, required, activityAt, requiredEquations}
+use Rattle.sets.specs.Marks.{Marked, MarkedTest, activityAt, requiredEquations}
 use Rattle.sets.proofs.EquationsAlong.{forward-along}
 use Rattle.sets.proofs.SetsLeast.{required-least}
 use Rattle.table.specs.TableRows.{Table, turnRound, ofTurningRound}
 use Rattle.table.specs.Adjoint.{forwardPart, backwardPart, adjointTable}
 use Rattle.table.specs.Sizes.{valuesNeeded, turnsNeeded}
-use Rattle.machine.specs.Attempts.{Attempt, through, halted, _>>=_}
-use Rattle.machine.specs.Actions.{Memory, Setting, Stop, acted}
-use Rattle.machine.specs.InTheLarge.{tableRun}
-use Rattle.machine.specs.RowReads.{tableLog, onThrough}
+use Rattle.machine.specs.Actions.{Attempt, through, halted, _>>=_, Memory, Setting, Stop, acted}
+use Rattle.machine.specs.InTheLarge.{tableRun, tableLog}
+use Rattle.machine.specs.RowReads.{onThrough}
 use Rattle.machine.proofs.AttemptLaws.{Ready, gives, stops}
+use Rattle.run.specs.Runs.{settingOf, startOf, runOf}
 use Rattle.run.proofs.MachineFollows.{EndsAs, run-follows}
-use Rattle.run.specs.Calls.{settingOf, startOf, runOf}
-use Rattle.claims.specs.Execution.{Progress, beginning, execution}
-use Rattle.claims.specs.IdealSweep.{swept, firstAdjoints, Ideal, ideal}
-use Rattle.claims.specs.ReadLog.{sweptLog}
-use Rattle.claims.specs.SavedRows.{savedValues}
-use Rattle.claims.specs.WholeRun.{Matches}
+use Rattle.claims.specs.IdealSweep.{Progress, beginning, execution, swept, firstAdjoints, Ideal, ideal, sweptLog}
+use Rattle.claims.specs.WholeRun.{savedValues, Matches}
 use Rattle.claims.proofs.Runs.{Runs, runs}
 use Rattle.claims.proofs.RunsKeepSizes.{runs-keep}
 use Rattle.claims.proofs.Accounts.{account}
@@ -45,7 +43,7 @@ use Rattle.claims.proofs.Replay.{Requires, Retraces, retraced, cutShort
 use Rattle.claims.proofs.RowSeventeen.{first-size, turns-round}
 
 abbrev pub knownIn : Sheet → ℕ → Assignment → Activity
-knownIn sheet = activityAt (varied sheet) (useful sheet)
+knownIn sheet = activityAt (setsOf sheet .varied) (setsOf sheet .useful)
 
 -- a sheet's body with these rows saved
 abbrev pub marksOf : Sheet → (ℕ → Assignment → Bool) → Tree Marked MarkedTest
@@ -163,7 +161,7 @@ module _ (A : Arithmetic) where
           ≡ tableRun A setting (backwardPart (variablesOf sheet) marks done) turned
       table-comes = forward-part turning ∙ rw executes refl ∙ ap (λ x. x .outcome) turning-comes
 
-      ideal-comes : ideal A sheet setting starts
+      ideal-comes : ideal A sheet (setsOf sheet) setting starts
           ≡ (swept A setting (knownIn sheet) (e .trace) adjoints₀ >>= λ adjoints. through (record { progress = e; adjoints = adjoints }))
       unfolding ideal settingOf
       ideal-comes = rw executes refl
@@ -181,10 +179,10 @@ module _ (A : Arithmetic) where
         subst (λ r. EndsAs A r (runOf A (adjointTable (variablesOf sheet) marks) setting (startOf A sheet starts))) e
         (run-follows A (adjointTable (variablesOf sheet) marks) setting (memory (beginning A starts)))
 
-    ends-alike : (i : Ideal A) (originals : List (A .Carrier)) → length originals ≡ variablesOf sheet → ideal A sheet setting starts ≡ through i
+    ends-alike : (i : Ideal A) (originals : List (A .Carrier)) → length originals ≡ variablesOf sheet → ideal A sheet (setsOf sheet) setting starts ≡ through i
         → tableRun A setting (forwardPart marks turning) (memory (beginning A starts))
         ≡ through (record { store = originals ++ i .adjoints; values = []; turns = []; copied = i .progress .store })
-        → Claim (ideal A sheet setting starts)
+        → Claim (ideal A sheet (setsOf sheet) setting starts)
     unfolding Matches
     ends-alike i originals size goes e =
         subst Claim (sym goes)
@@ -197,22 +195,22 @@ module _ (A : Arithmetic) where
           turnsEmpty = refl;
         })
 
-    stops-alike : (stop : Stop A) → ideal A sheet setting starts ≡ halted stop
-        → tableRun A setting (forwardPart marks turning) (memory (beginning A starts)) ≡ halted stop → Claim (ideal A sheet setting starts)
+    stops-alike : (stop : Stop A) → ideal A sheet (setsOf sheet) setting starts ≡ halted stop
+        → tableRun A setting (forwardPart marks turning) (memory (beginning A starts)) ≡ halted stop → Claim (ideal A sheet (setsOf sheet) setting starts)
     unfolding Matches
     stops-alike stop goes e = subst Claim (sym goes) (machine-follows (halted stop) e)
 
-    pub matches-ideal : Claim (ideal A sheet setting starts)
+    pub matches-ideal : Claim (ideal A sheet (setsOf sheet) setting starts)
     unfolding execution ideal swept tableRun savedValues settingOf
     matches-ideal = by-execution (executed-ready A (sheet .constants) (variablesOf sheet) (sheet .body) 0 (beginning A starts) (is .started) present)
       where
-        by-sweep : (e : Progress A) (h : execution A sheet starts ≡ through e) → Back e h → Claim (ideal A sheet setting starts)
+        by-sweep : (e : Progress A) (h : execution A sheet starts ≡ through e) → Back e h → Claim (ideal A sheet (setsOf sheet) setting starts)
         by-sweep e h (retraced originals adjoints then log sw goes) =
             ends-alike (record { progress = e; adjoints = adjoints }) originals (then .size) (ideal-comes e h ∙ rw (ap (λ x. x .outcome) sw) refl)
             (table-comes e h ∙ ap (λ x. x .outcome) goes)
         by-sweep e h (cutShort stop log sw goes) =
             stops-alike stop (ideal-comes e h ∙ rw (ap (λ x. x .outcome) sw) refl) (table-comes e h ∙ ap (λ x. x .outcome) goes)
 
-        by-execution : Ready (execution A sheet starts) → Claim (ideal A sheet setting starts)
+        by-execution : Ready (execution A sheet starts) → Claim (ideal A sheet (setsOf sheet) setting starts)
         by-execution (gives e h) = by-sweep e h (backward-part e h)
         by-execution (stops stop h) = stops-alike stop (rw h refl) (forward-part turning ∙ rw h refl)

@@ -9,10 +9,9 @@ use Rattle.number.specs.Arithmetic.{Arithmetic}
 use Rattle.sheet.specs.Tree.{Tree, done, one, fork, again, rows}
 use Rattle.sheet.specs.Rows.{Assignment, _≔_, Source, Test}
 use Rattle.table.specs.TableRows.{ofRow, itself}
-use Rattle.machine.specs.Attempts.{through, present, replaced}
-use Rattle.machine.specs.Actions.{stoppingAt, evaluated, compared}
-use Rattle.claims.specs.Execution.{Progress, onward, performed, turned, executed}
+use Rattle.machine.specs.Actions.{through, present, replaced, stoppingAt, evaluated, compared}
 use Rattle.machine.proofs.AttemptLaws.{came, is-present, same-through, was-replaced, went}
+use Rattle.claims.specs.IdealSweep.{Progress, onward, performed, turned, executed}
 
 module _ (A : Arithmetic) where
   module _ (constants : List ℕ) where

@@ -6,8 +6,8 @@ use lib.ListN.{length, length-set}
 use Rattle.number.specs.Arithmetic.{Arithmetic}
 use Rattle.sheet.specs.Tree.{Tree}
 use Rattle.sheet.specs.Rows.{Assignment, _≔_, Test}
-use Rattle.machine.specs.Attempts.{through}
-use Rattle.claims.specs.Execution.{Progress, performed}
+use Rattle.machine.specs.Actions.{through}
+use Rattle.claims.specs.IdealSweep.{Progress, performed}
 use Rattle.claims.proofs.Runs.{Runs, stay, row, left, right, last, more, was-performed}
 
 module _ (A : Arithmetic) (constants : List ℕ) where

@@ -6,21 +6,22 @@ use mathlib.Core.List.{List, [], _∷_}
 use lib.ListN.{drop}
 use native.Mathlib.Omega.{arith}
 use Rattle.sheet.specs.Tree.{Tree, done, one, fork, again, basic, ifLine, elseLine, endIf, repeat, endRepeat, flat, rows, RowNumber}
-use Rattle.sheet.specs.Rows.{Assignment, _≔_, Source, copy, fixed, sum, difference, product, negation, Test, SheetLine}
-use Rattle.sheet.specs.Reading.{Sheet, variablesOf}
+use Rattle.sheet.specs.Rows.{Assignment, _≔_, Source, copy, fixed, sum, difference, product, negation, Test, SheetLine, targetOf}
+use Rattle.sheet.specs.Sheets.{Sheet, variablesOf}
 use Rattle.sets.specs.Transfers.{Activity}
-use Rattle.sets.specs.Marks.{Marked, varied, useful, required, numbered, markBy, marked}
+use Rattle.sets.specs.Rounds.{setsOf}
+use Rattle.sets.specs.Marks.{Marked, numbered, markBy, markedBy}
 use Rattle.table.specs.TableRows.{Action, assign, save, takeBack, saveTurn, clear, turnRound, Operation, saving, itself, Origin, ofRow, TableLine, Table, linesOf}
-use Rattle.table.specs.Adjoint.{Body, put, putIf, targetOf, forwardRow, forwardPart, partsOf, derivativeRows, backwardOf, backwardPart, adjointTable, tableOf}
+use Rattle.table.specs.Adjoint.{Body, put, putIf, forwardRow, forwardPart, partsOf, derivativeRows, backwardOf, backwardPart, adjointTable, tableBy}
 use Rattle.machine.proofs.LinesPassed.{past-line, past-tree}
-use Rattle.claims.specs.SavedRows.{recordedIn}
+use Rattle.claims.specs.WholeRun.{recordedIn}
 use Rattle.claims.specs.Demands.{SavesRecorded}
 
 module _ (sheet : Sheet) where
   -- what is claimed of an action, and of a line
   FineAction : Origin → Action → Type 0
   FineAction origin (assign b) = Unit {0}
-  FineAction origin (save d) = SavesRecorded sheet origin d
+  FineAction origin (save d) = SavesRecorded sheet (setsOf sheet) origin d
   FineAction origin (takeBack d) = Unit {0}
   FineAction origin (saveTurn first) = Unit {0}
   FineAction origin (clear d) = Unit {0}
@@ -98,7 +99,7 @@ module _ (sheet : Sheet) where
   -- ---- the forward part saves before recorded assignments alone
 
   abbrev mark : ℕ → Assignment → Marked
-  mark = markBy (varied sheet) (useful sheet) (required sheet)
+  mark = markBy (setsOf sheet)
 
   abbrev sheetLines : List SheetLine
   sheetLines = flat (sheet .body) []
@@ -106,9 +107,9 @@ module _ (sheet : Sheet) where
   row-fine : (p : ℕ) (b : Assignment) (below : List SheetLine) → drop p sheetLines ≡ basic b ∷ below → (rest : Table) (after : List TableLine)
       → AllFine (flat rest after) → AllFine (flat (forwardRow (mark p b) rest) after)
   unfolding forwardRow flat Fine FineAction markBy
-  row-fine p b below there rest after others = by-choice (recordedIn sheet p b) refl
+  row-fine p b below there rest after others = by-choice (recordedIn (setsOf sheet) p b) refl
     where
-      by-choice : (choice : Bool) → recordedIn sheet p b ≡ choice
+      by-choice : (choice : Bool) → recordedIn (setsOf sheet) p b ≡ choice
           → AllFine (flat (putIf choice (record { index = p }) saving (save (targetOf b)) (put (record { index = p }) itself (assign b) rest)) after)
       by-choice true recorded =
           one-line
@@ -143,11 +144,11 @@ module _ (sheet : Sheet) where
       let atK = past-line sheetLines (suc p + rows a) endRepeat _ (past-tree sheetLines (suc p) a _ atA) in
       one-line tt (forward-fine a (suc p) _ atA done _ (one-line tt (forward-fine k _ below atK rest after others)))
 
-  table-fine : AllFine (linesOf (tableOf sheet))
-  unfolding linesOf tableOf marked adjointTable flat Fine FineAction
-  table-fine = forward-fine (sheet .body) 0 [] refl _ [] (one-line tt (backward-fine (variablesOf sheet) (marked sheet) done [] no-line))
+  table-fine : AllFine (linesOf (tableBy (setsOf sheet) sheet))
+  unfolding linesOf tableBy markedBy adjointTable flat Fine FineAction
+  table-fine = forward-fine (sheet .body) 0 [] refl _ [] (one-line tt (backward-fine (variablesOf sheet) (markedBy (setsOf sheet) sheet) done [] no-line))
 
   pub saves-only-recorded : (i d : ℕ) (origin : Origin) (rest : List TableLine)
-      → drop i (linesOf (tableOf sheet)) ≡ basic (record { origin = origin; action = save d }) ∷ rest → SavesRecorded sheet origin d
+      → drop i (linesOf (tableBy (setsOf sheet) sheet)) ≡ basic (record { origin = origin; action = save d }) ∷ rest → SavesRecorded sheet (setsOf sheet) origin d
   unfolding Fine FineAction
   saves-only-recorded i d origin rest there = table-fine .at i (basic (record { origin = origin; action = save d })) rest there

@@ -9,8 +9,9 @@ use lib.Seq.{getD-take, getD-drop}
 use lib.Dec.{leb, ltb}
 use native.Mathlib.Omega.{arith}
 use Rattle.sheet.specs.Bounds.{limit}
-use Rattle.sheet.specs.Refusals.{Refusal, Answer, refused, given, _>>=_, wordsEnd, countBeyond, roleAbove}
-use Rattle.sheet.specs.Reading.{unless, countAt, rolesFit}
+use Rattle.sheet.specs.Judging.{Answer, refused, given, _>>=_, unless}
+use Rattle.sheet.specs.Refusals.{Refusal, wordsEnd, countBeyond, roleAbove}
+use Rattle.sheet.specs.Reading.{countAt, rolesFit}
 use Rattle.sheet.proofs.Judgements.{Tells, leb-tells, both-tell, fails, unmet, judged, _andThen_}
 use Rattle.claims.specs.ExactlyWhen.{First, Section, variables, lowest, greatest, itemWords, variableCount, countPlace, count, firstItem, CountThere, CountInRange, ItemsThere, InOrder, RoleAbove, Reached, ReadingRefuses, countMissing, itemsMissing, countOutOfRange, roleTooGreat}
 use Rattle.claims.proofs.FirstFailing.{eachJudged, Fails, all-pass, first-refused, all-or-first}

@@ -3,7 +3,7 @@ use Prim.Native.Nat.{ℕ, zero, suc}
 use mathlib.Core.Path.{_≡_, refl}
 use mathlib.Core.List.{List, [], _∷_}
 use Rattle.sheet.specs.Bounds.{limit}
-use Rattle.table.specs.Sizes.{mostTableRows}
+use Rattle.table.specs.RowBounds.{mostTableRows}
 use Rattle.table.specs.Calls.{check}
 
 -- so many times x := x × x

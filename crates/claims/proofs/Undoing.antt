@@ -18,13 +18,12 @@ use Rattle.sets.specs.Transfers.{Activity, adjointUse, recordedBy}
 use Rattle.sets.proofs.VariableSetLaws.{union-has, without-has, union-left, union-right}
 use Rattle.table.specs.TableRows.{Table}
 use Rattle.table.specs.Adjoint.{derivativeRows, backwardOf}
-use Rattle.machine.specs.Attempts.{through}
-use Rattle.machine.specs.Actions.{Setting, Stop, acted}
-use Rattle.machine.specs.InTheLarge.{tableRun}
-use Rattle.machine.specs.RowReads.{Entry, tableLog}
-use Rattle.claims.specs.Execution.{Progress, onward}
-use Rattle.claims.specs.SavedRows.{savedValues}
+use Rattle.machine.specs.Actions.{through, Setting, Stop, acted}
+use Rattle.machine.specs.InTheLarge.{tableRun, tableLog}
+use Rattle.machine.specs.RowReads.{Entry}
 use Rattle.machine.proofs.PlaceLaws.{place-there}
+use Rattle.claims.specs.IdealSweep.{Progress, onward}
+use Rattle.claims.specs.WholeRun.{savedValues}
 use Rattle.claims.proofs.Stores.{at-set-same, at-set-other}
 use Rattle.claims.proofs.Accounts.{Account, account, derived, stopping, noting}
 use Rattle.claims.proofs.DerivativeRows.{Agree, AdjointSize}

@@ -8,7 +8,7 @@ use lib.ListN.{getD}
 use lib.Dec.{eqb}
 use Rattle.number.specs.Residues.{residues, residue, opposite}
 use Rattle.sheet.specs.Rows.{Assignment, _≔_, Source, copy, fixed, sum, difference, product, negation, isDependent}
-use Rattle.claims.specs.Execution.{Executed}
+use Rattle.claims.specs.IdealSweep.{Executed}
 
 -- v_i: the n-th value of a variable, its start value being value 0
 pub data Instance : Type 0 where

@@ -1,5 +1,5 @@
 -- Demand 1's "exactly when": 01's table of refusals as it stands there, a rule for each of its rows, and 01's order in what each rule asks for.
--- It speaks of words, counts, rows and open blocks, and of no judgement that the calls are made of. What the calls answer is in CallsExactly.
+-- It speaks of words, counts, rows and open blocks, and of no judgement that the calls are made of. What the calls answer is in Demands.
 use Prim.Native.Nat.{ℕ, zero, suc, _+_, _*_, _≤_, _<_}
 use mathlib.Core.Path.{_≡_}
 use mathlib.Core.Bool.{false}
@@ -10,15 +10,15 @@ use lib.ListN.{length, getD, take, drop}
 use Rattle.number.specs.Arithmetic.{Arithmetic}
 use Rattle.sheet.specs.Bounds.{limit}
 use Rattle.sheet.specs.Refusals.{Refusal, wordsEnd, wordsLeft, countBeyond, roleAbove, badRow, badBlock, tooLong, smallTable, smallValueStack, smallTurnStack, wrongStarts, wrongSeeds, wrongResult, notFiniteGiven, notFiniteResult}
-use Rattle.sheet.specs.Tree.{Tree, basic, ifLine, elseLine, endIf, repeat, endRepeat, RowNumber}
+use Rattle.sheet.specs.Tree.{Tree, basic, ifLine, elseLine, endIf, repeat, endRepeat, RowNumber, longestRun}
 use Rattle.sheet.specs.Rows.{Assignment, Test, SheetLine, Row, Slot, variable, constant, turns, unused, Kind, kindOf, treeRows}
-use Rattle.sheet.specs.LongestRun.{longestRun}
-use Rattle.sheet.specs.Reading.{Sheet, variablesOf, rowAt, rowsAt}
-use Rattle.table.specs.Sizes.{rowsNeeded, valuesFor, turnsFor}
-use Rattle.table.specs.Calls.{tableRoom}
-use Rattle.machine.specs.Actions.{Memory, Stop}
-use Rattle.machine.specs.Machine.{Step, ended, stops}
-use Rattle.run.specs.Calls.{Lent, sheetRun}
+use Rattle.sheet.specs.Sheets.{Sheet, variablesOf, rowAt, rowsAt}
+use Rattle.sets.specs.Marks.{Sets, LeastSets}
+use Rattle.table.specs.TableRows.{TableRow, TableLine, linesOf}
+use Rattle.table.specs.Sizes.{Needs, tableRoom}
+use Rattle.machine.specs.Actions.{halted, Memory, acted, Stop}
+use Rattle.machine.specs.Machine.{State, goesOn, stateAfter}
+use Rattle.run.specs.Runs.{Lent, Job}
 
 -- ---- where things stand
 
@@ -94,22 +94,16 @@ module _ (words : List ℕ) where
   abbrev pub variableCount : ℕ
   variableCount = word 0
 
-  abbrev pub constantCountPlace : ℕ
-  constantCountPlace = 1 + variableCount
-
   abbrev pub constantCount : ℕ
-  constantCount = word constantCountPlace
-
-  abbrev pub rowCountPlace : ℕ
-  rowCountPlace = constantCountPlace + 1 + constantCount
+  constantCount = word (1 + variableCount)
 
   abbrev pub rowCount : ℕ
-  rowCount = word rowCountPlace
+  rowCount = word (1 + variableCount + 1 + constantCount)
 
   abbrev pub countPlace : Section → ℕ
   countPlace variables = 0
-  countPlace constants = constantCountPlace
-  countPlace rows = rowCountPlace
+  countPlace constants = 1 + variableCount
+  countPlace rows = 1 + variableCount + 1 + constantCount
 
   abbrev pub count : Section → ℕ
   count section = word (countPlace section)
@@ -208,19 +202,25 @@ module _ (words : List ℕ) where
     pub body : treeRows (sheet .body) ≡ sheetRows
     pub short : longestRun (sheet .body) ≤ limit .longestRun
 
--- ---- writing
+-- such a sheet with its three sets: "All are least solutions"
+pub record Accepted (words : List ℕ) (sheet : Sheet) (sets : Sets) : Type 0 where
+  pub isRead : Read words sheet
+  pub least : LeastSets sheet sets
 
-module _ (words : List ℕ) (buffer : List ℕ) where
+-- ---- writing, where a sheet with these sets needs so much
+
+module _ (needs : Sets → Sheet → Needs) (words : List ℕ) (buffer : List ℕ) where
   -- "Writing a table uses 1 to 8"
   pub data WritingRefuses : Refusal → Type 0 where
     whileReading : {r : Refusal} → ReadingRefuses words r → WritingRefuses r
     -- 8 | table buffer below 1 + 4R words | 0
-    tableTooSmall : (sheet : Sheet) → Read words sheet → length buffer < tableRoom (rowsNeeded sheet) → WritingRefuses smallTable
+    tableTooSmall : (sheet : Sheet) (sets : Sets) → Accepted words sheet sets → length buffer < tableRoom (needs sets sheet .rows)
+        → WritingRefuses smallTable
 
   -- a sheet whose table fits
-  pub record Writable (sheet : Sheet) : Type 0 where
-    pub isRead : Read words sheet
-    pub tableFits : tableRoom (rowsNeeded sheet) ≤ length buffer
+  pub record Writable (sheet : Sheet) (sets : Sets) : Type 0 where
+    pub accepted : Accepted words sheet sets
+    pub tableFits : tableRoom (needs sets sheet .rows) ≤ length buffer
 
 -- ---- a run
 
@@ -228,55 +228,78 @@ module _ (words : List ℕ) (buffer : List ℕ) where
 abbrev pub NotFinite : (A : Arithmetic) → (starts seeds : List (A .Carrier)) → ℕ → Type 0
 NotFinite A starts seeds i = (i < length (starts ++ seeds)) × (A .admits (getD (starts ++ seeds) i (A .zero)) ≡ false)
 
-module _ (A : Arithmetic) (words : List ℕ) (starts seeds : List (A .Carrier)) (lent : Lent A) where
+module _ (A : Arithmetic) (needs : Sets → Sheet → Needs) (words : List ℕ) (starts seeds : List (A .Carrier)) (lent : Lent A) where
   -- "and the rest in number order": each of these asks for the one before it
-  pub record StacksSuffice (sheet : Sheet) : Type 0 where
-    pub writable : Writable words (lent .table) sheet
-    pub values : valuesFor sheet ≤ length (lent .values)
-    pub turns : turnsFor sheet ≤ length (lent .turns)
+  pub record StacksSuffice (sheet : Sheet) (sets : Sets) : Type 0 where
+    pub writable : Writable needs words (lent .table) sheet sets
+    pub values : needs sets sheet .values ≤ length (lent .values)
+    pub turns : needs sets sheet .turns ≤ length (lent .turns)
 
-  pub record LengthsRight (sheet : Sheet) : Type 0 where
-    pub stacks : StacksSuffice sheet
+  pub record LengthsRight (sheet : Sheet) (sets : Sets) : Type 0 where
+    pub stacks : StacksSuffice sheet sets
     pub startValues : length starts ≡ variablesOf sheet
     pub seedValues : length seeds ≡ variablesOf sheet
     pub results : length (lent .result) ≡ 2 * variablesOf sheet
 
-  pub record Runnable (sheet : Sheet) : Type 0 where
-    pub lengths : LengthsRight sheet
+  pub record Runnable (sheet : Sheet) (sets : Sets) : Type 0 where
+    pub lengths : LengthsRight sheet sets
     pub finite : (i : ℕ) → ¬ NotFinite A starts seeds i
-
-  -- the machine over the sheet's table
-  abbrev pub endingOf : Sheet → Step A
-  endingOf sheet = sheetRun A sheet starts seeds (length (lent .values)) (length (lent .turns))
 
   -- refusals before the machine starts: 1 to 11
   pub data StartRefused : Refusal → Type 0 where
-    whileWriting : {r : Refusal} → WritingRefuses words (lent .table) r → StartRefused r
+    whileWriting : {r : Refusal} → WritingRefuses needs words (lent .table) r → StartRefused r
     -- 9 | value stack below S, or turn stack below T | 0 for the first, else 1
-    valueStackTooSmall : (sheet : Sheet) → Writable words (lent .table) sheet → length (lent .values) < valuesFor sheet → StartRefused smallValueStack
-    turnStackTooSmall : (sheet : Sheet) → Writable words (lent .table) sheet → valuesFor sheet ≤ length (lent .values)
-        → length (lent .turns) < turnsFor sheet → StartRefused smallTurnStack
+    valueStackTooSmall : (sheet : Sheet) (sets : Sets) → Writable needs words (lent .table) sheet sets → length (lent .values) < needs sets sheet .values
+        → StartRefused smallValueStack
+    turnStackTooSmall : (sheet : Sheet) (sets : Sets) → Writable needs words (lent .table) sheet sets → needs sets sheet .values ≤ length (lent .values)
+        → length (lent .turns) < needs sets sheet .turns → StartRefused smallTurnStack
     -- 10 | start values or seeds not V long, result not 2V | 0, 1, 2, first wrong
-    startsNotV : (sheet : Sheet) → StacksSuffice sheet → length starts ≢ variablesOf sheet → StartRefused wrongStarts
-    seedsNotV : (sheet : Sheet) → StacksSuffice sheet → length starts ≡ variablesOf sheet → length seeds ≢ variablesOf sheet → StartRefused wrongSeeds
-    resultNot2V : (sheet : Sheet) → StacksSuffice sheet → length starts ≡ variablesOf sheet → length seeds ≡ variablesOf sheet
+    startsNotV : (sheet : Sheet) (sets : Sets) → StacksSuffice sheet sets → length starts ≢ variablesOf sheet → StartRefused wrongStarts
+    seedsNotV : (sheet : Sheet) (sets : Sets) → StacksSuffice sheet sets → length starts ≡ variablesOf sheet → length seeds ≢ variablesOf sheet
+        → StartRefused wrongSeeds
+    resultNot2V : (sheet : Sheet) (sets : Sets) → StacksSuffice sheet sets → length starts ≡ variablesOf sheet → length seeds ≡ variablesOf sheet
         → length (lent .result) ≢ 2 * variablesOf sheet → StartRefused wrongResult
     -- 11 | a start value or seed not finite (doubles) | the first one's index; seeds from V
-    givenNotFinite : (sheet : Sheet) (i : ℕ) → LengthsRight sheet → First (NotFinite A starts seeds) i → StartRefused (notFiniteGiven i)
+    givenNotFinite : (sheet : Sheet) (sets : Sets) (i : ℕ) → LengthsRight sheet sets → First (NotFinite A starts seeds) i
+        → StartRefused (notFiniteGiven i)
 
-  -- 12: the machine was stopped at a row
-  pub record Stops (sheet : Sheet) (row : RowNumber) : Type 0 where
-    pub runnable : Runnable sheet
+-- ---- how the machine's steps in turn end
+
+module _ (A : Arithmetic) (job : Job A) where
+  -- "a result not finite": the machine came to this row, which has the stop's origin, and the arithmetic refused its operation there
+  pub record StoppedThere (row : RowNumber) (stop : Stop A) : Type 0 where
+    pub steps : ℕ
+    pub state : State A
+    pub reached : stateAfter A steps (job .setting) (linesOf (job .table)) (job .start) ≡ goesOn state
+    pub atRow : state .at ≡ row
+    pub line : TableRow
+    pub rest : List TableLine
+    pub there : drop (row .index) (linesOf (job .table)) ≡ basic line ∷ rest
+    pub comesFrom : line .origin ≡ stop .origin
+    pub refuses : acted A (job .setting) (line .action) (state .memory) ≡ halted (stop .why)
+
+  -- it came past the last row, with this memory
+  pub record FinishedWith (memory : Memory A) : Type 0 where
+    pub steps : ℕ
+    pub state : State A
+    pub reached : stateAfter A steps (job .setting) (linesOf (job .table)) (job .start) ≡ goesOn state
+    pub pastAll : drop (state .at .index) (linesOf (job .table)) ≡ []
+    pub leaves : state .memory ≡ memory
+
+module _ (A : Arithmetic) (needs : Sets → Sheet → Needs) (job : Sets → Sheet → Job A) (words : List ℕ) (starts seeds : List (A .Carrier))
+    (lent : Lent A) where
+  -- 12 | a result not finite (doubles) | table row, from 0
+  pub record Stops (sheet : Sheet) (sets : Sets) (row : RowNumber) : Type 0 where
+    pub runnable : Runnable A needs words starts seeds lent sheet sets
     pub stop : Stop A
-    pub ending : endingOf sheet ≡ stops row stop
+    pub there : StoppedThere A (job sets sheet) row stop
+
+  -- 0 | done | 0
+  pub record Finishes (sheet : Sheet) (sets : Sets) (memory : Memory A) : Type 0 where
+    pub runnable : Runnable A needs words starts seeds lent sheet sets
+    pub finished : FinishedWith A (job sets sheet) memory
 
   -- "a run .. uses all"
   pub data RunRefuses : Refusal → Type 0 where
-    beforeStart : {r : Refusal} → StartRefused r → RunRefuses r
-    -- 12 | a result not finite (doubles) | table row, from 0
-    resultNotFinite : (sheet : Sheet) (row : RowNumber) → Stops sheet row → RunRefuses (notFiniteResult (row .index))
-
-  -- 0 | done | 0
-  pub record Finishes (sheet : Sheet) (memory : Memory A) : Type 0 where
-    pub runnable : Runnable sheet
-    pub ending : endingOf sheet ≡ ended memory
+    beforeStart : {r : Refusal} → StartRefused A needs words starts seeds lent r → RunRefuses r
+    resultNotFinite : (sheet : Sheet) (sets : Sets) (row : RowNumber) → Stops sheet sets row → RunRefuses (notFiniteResult (row .index))

@@ -8,12 +8,16 @@ use lib.ListN.{length, replicate}
 use Rattle.number.specs.Arithmetic.{Arithmetic}
 use Rattle.number.specs.Doubles.{doubles}
 use Rattle.number.specs.Residues.{residues}
-use Rattle.sheet.specs.Refusals.{Answer, refused, given}
+use Rattle.sheet.specs.Judging.{Answer, refused, given}
 use Rattle.sheet.specs.Tree.{Tree, done, one, fork, again}
-use Rattle.sheet.specs.Reading.{Sheet, read}
-use Rattle.sets.specs.Marks.{Marked, MarkedTest, marked}
-use Rattle.table.specs.Calls.{Sizes, Checked, check, Written, write, tableRoom}
-use Rattle.run.specs.Calls.{Lent, run}
+use Rattle.sheet.specs.Sheets.{Sheet}
+use Rattle.sheet.specs.Reading.{read}
+use Rattle.sets.specs.Rounds.{marked}
+use Rattle.sets.specs.Marks.{Marked, MarkedTest}
+use Rattle.table.specs.Sizes.{Sizes, Checked, Written, tableRoom}
+use Rattle.table.specs.Calls.{check, write}
+use Rattle.run.specs.Runs.{Lent}
+use Rattle.run.specs.Calls.{run}
 
 -- start values, seeds and the 2V numbers that come out
 pub record Trial : Type 0 where

@@ -2,10 +2,9 @@
 // The statements are in specs/, the theorems in proofs/.
 ghost use Rattle.number.specs.Doubles.{doubles};
 ghost use Rattle.number.specs.Residues.{residues};
-ghost use Rattle.table.specs.Calls.{checkedSaid, writtenOf};
-ghost use Rattle.run.specs.Calls.{lentOf, ranOf};
-ghost use Rattle.claims.specs.CallsExactly.{CheckExactly, WriteExactly};
-ghost use Rattle.claims.specs.Demands.{RunMeets, AuditMeets};
+ghost use Rattle.table.specs.Sizes.{checkedSaid, writtenOf};
+ghost use Rattle.run.specs.Runs.{lentOf, ranOf};
+ghost use Rattle.claims.specs.Demands.{CheckExactly, WriteExactly, RunMeets, AuditMeets};
 
 fn check(words: &[u16]) -> table::Checked
     ensures { λ r. ⌜ CheckExactly (now (words .entry)) (checkedSaid r) ⌝ }
