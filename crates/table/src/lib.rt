@@ -96,9 +96,7 @@ pub fn plan_sheet(
 {
     match sets::mark(words, marks, came, goes) {
         sets::Marking::Refused(why) => Planned::Refused(why),
-        sets::Marking::Marked(shape, ends) => {
-            Planned::Made(plan_of(words, shape, marks, came, goes))
-        }
+        sets::Marking::Marked(shape, _) => Planned::Made(plan_of(words, shape, marks, came, goes)),
     }
 }
 
