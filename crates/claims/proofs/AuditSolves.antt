@@ -26,7 +26,7 @@ use Rattle.claims.specs.EquationTwo.{Instance, valueNo, EquationTwo}
 use Rattle.claims.specs.Demands.{AuditSolves}
 use Rattle.claims.proofs.Runs.{runs}
 use Rattle.claims.proofs.RunsKeepSizes.{runs-keep}
-use Rattle.claims.proofs.StartExactlyWhen.{accepted-to-run, Ready}
+use Rattle.claims.proofs.StartExactlyWhen.{accepted-to-run, OwnRunnable}
 use Rattle.claims.proofs.RunsAnswer.{AnswersAs, run-answers}
 use Rattle.claims.proofs.EquationTwoSolved.{equation-two-solvable}
 use Rattle.claims.proofs.EquationTwoHolds.{Sound, Given, ideal-goes, ideal-solves}
@@ -50,7 +50,7 @@ adjoint-at (role ∷ roles) adjoints (suc x) h =
     ∙ ap (λ y. cond (isIndependent (getD roles x 0)) y 0) (getD-drop 1 adjoints x 0 ∙ ap (λ i. getD adjoints i 0) (omega arith))
 
 module _ (words starts seeds : List ℕ) (lent : Lent residues) (sheet : Sheet)
-    (ready : Ready residues needsBy words starts seeds lent sheet) (below : (x : ℕ) → x < variablesOf sheet → getD seeds x 0 < modulus) (answer : Ran residues)
+    (ready : OwnRunnable residues needsBy words starts seeds lent sheet) (below : (x : ℕ) → x < variablesOf sheet → getD seeds x 0 < modulus) (answer : Ran residues)
     (contract : answer ≡ run residues words starts seeds lent) where
   abbrev values : ℕ
   values = length (lent .values)

@@ -22,7 +22,7 @@ use Rattle.claims.specs.ExactlyWhen.{Runnable}
 use Rattle.claims.specs.WholeRun.{every, runSaving, StackRoom}
 use Rattle.claims.specs.Demands.{adjointBy, AuditSolves, AnswersLike, sameResult, sameStop, RunMeets, AuditMeets}
 use Rattle.claims.specs.ThreeDemands.{SameOutcome, bothEnd, bothStop, SameAsAllSaved, SecondDemand}
-use Rattle.claims.proofs.StartExactlyWhen.{own-sets, by-own-sets, Ready, own-run, accepted-to-run}
+use Rattle.claims.proofs.StartExactlyWhen.{own-sets, by-own-sets, OwnRunnable, own-run, accepted-to-run}
 use Rattle.claims.proofs.WholeRunMatches.{noFurther, own-room, own-table-run}
 use Rattle.claims.proofs.RunsEnd.{stop-names-its-row}
 use Rattle.claims.proofs.RunsAnswer.{run-started, saved-rows-same}
@@ -44,7 +44,7 @@ module _ (A : Arithmetic) (words : List ℕ) (sheet : Sheet) (starts seeds : Lis
   unfolding resultOf
   same-result first second copied adjoints = ap₂ (λ x y. x ++ independentAdjoints A (sheet .roles) y) copied adjoints
 
-  module _ (before : Lent A) (ready : Ready A needsBy words starts seeds before sheet) (answer : Ran A)
+  module _ (before : Lent A) (ready : OwnRunnable A needsBy words starts seeds before sheet) (answer : Ran A)
       (contract : answer ≡ run A words starts seeds before) where
     abbrev ending : Step A
     ending =

@@ -31,7 +31,7 @@ use Rattle.claims.specs.ExactlyWhen.{ReadingRefuses, Read, WritingRefuse
 use Rattle.claims.specs.Demands.{Names, CheckExactly, StartsWith, WriteExactly, LeftBehind, RunExactly, adjointBy}
 use Rattle.claims.specs.ReaderExactly.{ReadExactly}
 use Rattle.claims.proofs.ReadingExactlyWhen.{reading-settled, reading-numbers}
-use Rattle.claims.proofs.StartExactlyWhen.{accepted-reads, own-sets, only-sets, by-own-sets, needed, writing-settled, writing-numbers, Ready, start-settled, started, start-numbers}
+use Rattle.claims.proofs.StartExactlyWhen.{accepted-reads, own-sets, only-sets, by-own-sets, needed, writing-settled, writing-numbers, OwnRunnable, start-settled, started, start-numbers}
 use Rattle.claims.proofs.RunsEnd.{EndsSome, stop-names-its-row, end-is-past-all, stops-there, finishes-there}
 use Rattle.claims.proofs.RunsAnswer.{own-run-ends}
 
@@ -150,10 +150,10 @@ module _ (A : Arithmetic) (needs : Sets → Sheet → Needs) (job : Sets → She
   NotStarted = StartRefused A needs words starts seeds lent
 
   abbrev ReadyFor : Sheet → Type 0
-  ReadyFor = Ready A needs words starts seeds lent
+  ReadyFor = OwnRunnable A needs words starts seeds lent
 
   -- what this asks of the job: its table is as long as the sheet's need says, and its run ends or stops
-  pub record Runs : Type 0 where
+  pub record JobRuns : Type 0 where
     pub tableFits : (sheet : Sheet) → length (tableWords (own sheet .table)) ≡ tableRoom (needed needs sheet .rows)
     pub ends : (sheet : Sheet) → ReadyFor sheet → EndsSome A (endingOf sheet)
 
@@ -188,7 +188,7 @@ module _ (A : Arithmetic) (needs : Sets → Sheet → Needs) (job : Sets → She
         finished = end-is-past-all A (own sheet) memory (is .ending);
       }
 
-  module _ (fine : Runs) where
+  module _ (fine : JobRuns) where
     module _ (sheet : Sheet) (sets : Sets) where
       same-sets : Runnable A needs words starts seeds lent sheet sets → sets ≡ setsOf sheet
       same-sets is = only-sets words sheet sets (is .lengths .stacks .writable .accepted)
@@ -343,7 +343,7 @@ module _ (A : Arithmetic) (needs : Sets → Sheet → Needs) (job : Sets → She
 -- ---- the run of a sheet's adjoint table
 
 module _ (A : Arithmetic) (words : List ℕ) (starts seeds : List (A .Carrier)) (lent : Lent A) where
-  adjoint-runs : Runs A needsBy (adjointBy A starts seeds lent) words starts seeds lent
+  adjoint-runs : JobRuns A needsBy (adjointBy A starts seeds lent) words starts seeds lent
   unfolding tableOf marked
   adjoint-runs = record { tableFits = table-length; ends = own-run-ends A words starts seeds lent }
 

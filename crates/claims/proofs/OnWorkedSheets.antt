@@ -25,7 +25,7 @@ use Rattle.claims.specs.WorkedSheets.{wordsD, wordsE}
 use Rattle.claims.specs.ThreeDemands.{SameAsAllSaved}
 use Rattle.claims.specs.Demands.{AuditSolves, DemandThree}
 use Rattle.claims.proofs.ReadingExactlyWhen.{reading-settled}
-use Rattle.claims.proofs.StartExactlyWhen.{own-sets, start-settled, Ready}
+use Rattle.claims.proofs.StartExactlyWhen.{own-sets, start-settled, OwnRunnable}
 use Rattle.claims.proofs.AuditSolves.{audit-solves}
 use Rattle.claims.proofs.DemandTwoHolds.{same-as-all-saved}
 use Rattle.claims.proofs.DemandThreeHolds.{demand-three}
@@ -91,7 +91,7 @@ E-reads = refl
 lentE : Lent residues
 lentE = record { table = replicate 77 7; values = 7 ∷ 7 ∷ []; turns = []; result = 7 ∷ 7 ∷ 7 ∷ 7 ∷ [] }
 
-E-runs : Ready residues needsBy wordsE (1 ∷ 0 ∷ []) (1 ∷ 0 ∷ []) lentE sheetE
+E-runs : OwnRunnable residues needsBy wordsE (1 ∷ 0 ∷ []) (1 ∷ 0 ∷ []) lentE sheetE
 unfolding readToRun sheetE lentE tableRows markedBy required valuesNeeded turnsNeeded
 E-runs = given-exactly (start-settled residues needsBy wordsE (1 ∷ 0 ∷ []) (1 ∷ 0 ∷ []) lentE) sheetE .0 refl
 

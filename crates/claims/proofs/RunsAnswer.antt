@@ -26,7 +26,7 @@ use Rattle.claims.specs.ThreeDemands.{SameOutcome, bothEnd, bothStop}
 use Rattle.claims.specs.WholeRun.{runSaving, StackRoom, Matches}
 use Rattle.claims.specs.Demands.{adjointBy}
 use Rattle.claims.proofs.IdealRooms.{ideal-in-any-room}
-use Rattle.claims.proofs.StartExactlyWhen.{Ready, accepted-to-run, started}
+use Rattle.claims.proofs.StartExactlyWhen.{OwnRunnable, accepted-to-run, started}
 use Rattle.claims.proofs.RunsEnd.{EndsSome}
 use Rattle.claims.proofs.WholeRunMatches.{run-matches, own-run-matches}
 
@@ -69,7 +69,7 @@ module _ (A : Arithmetic) where
   ends-some v stuck ending m = absurd m
 
   module _ (words : List ℕ) (starts seeds : List (A .Carrier)) (lent : Lent A) (sheet : Sheet)
-      (ready : Ready A needsBy words starts seeds lent sheet) where
+      (ready : OwnRunnable A needsBy words starts seeds lent sheet) where
     abbrev ending : Step A
     ending = runOf A (tableBy (setsOf sheet) sheet) (settingOf A sheet seeds (length (lent .values)) (length (lent .turns))) (startOf A sheet starts)
 
@@ -91,7 +91,7 @@ module _ (A : Arithmetic) where
     run-started x e = started A needsBy words starts seeds lent (λ own. adjointBy A starts seeds lent (setsOf own) own) sheet x ready e
 
   module _ (words : List ℕ) (starts seeds : List (A .Carrier)) (lent : Lent A) (sheet : Sheet)
-      (ready : Ready A needsBy words starts seeds lent sheet) (answer : Ran A) (contract : answer ≡ run A words starts seeds lent) where
+      (ready : OwnRunnable A needsBy words starts seeds lent sheet) (answer : Ran A) (contract : answer ≡ run A words starts seeds lent) where
     abbrev itsIdeal : Attempt (Stop A) (Ideal A)
     itsIdeal = idealRun words starts seeds lent sheet ready
 
@@ -142,7 +142,7 @@ module _ (A : Arithmetic) where
       (subst (λ i. Matches A (variablesOf sheet) i (runSaving A choice′ sheet (setsOf sheet) starts seeds values′ turns′)) (sym same) second)
 
 -- a residue never stops
-pub audit-answers-zero : (words starts seeds : List ℕ) (lent : Lent residues) (sheet : Sheet) → Ready residues needsBy words starts seeds lent sheet
+pub audit-answers-zero : (words starts seeds : List ℕ) (lent : Lent residues) (sheet : Sheet) → OwnRunnable residues needsBy words starts seeds lent sheet
     → (answer : Ran residues) → answer ≡ run residues words starts seeds lent → answer .number ≡ 0
 unfolding AnswersAs
 audit-answers-zero words starts seeds lent sheet ready answer contract =

@@ -99,8 +99,8 @@ module _ (A : Arithmetic) (needs : Sets → Sheet → Needs) (words : List ℕ) 
   abbrev Lengths : Sheet → Type 0
   Lengths sheet = LengthsRight A needs words starts seeds lent sheet (setsOf sheet)
 
-  abbrev pub Ready : Sheet → Type 0
-  Ready sheet = Runnable A needs words starts seeds lent sheet (setsOf sheet)
+  abbrev pub OwnRunnable : Sheet → Type 0
+  OwnRunnable sheet = Runnable A needs words starts seeds lent sheet (setsOf sheet)
 
   module _ (sheet : Sheet) where
     values-told : Tells (leb (needed needs sheet .values) (length (lent .values))) (needed needs sheet .values ≤ length (lent .values))
@@ -157,7 +157,7 @@ module _ (A : Arithmetic) (needs : Sets → Sheet → Needs) (words : List ℕ) 
     own-lengths : LengthsRight A needs words starts seeds lent sheet sets → Lengths sheet
     own-lengths is = subst (LengthsRight A needs words starts seeds lent sheet) (only-sets words sheet sets (is .stacks .writable .accepted)) is
 
-    pub own-run : Runnable A needs words starts seeds lent sheet sets → Ready sheet
+    pub own-run : Runnable A needs words starts seeds lent sheet sets → OwnRunnable sheet
     own-run is = subst (Runnable A needs words starts seeds lent sheet) (only-sets words sheet sets (is .lengths .stacks .writable .accepted)) is
 
   start-rule : {r : Refusal} → StartRefused A needs words starts seeds lent r → judging ≡ refused r
@@ -185,7 +185,7 @@ module _ (A : Arithmetic) (needs : Sets → Sheet → Needs) (words : List ℕ) 
       ∙ after-refused _ (admitted-each A (starts ++ seeds) 0 ∙ first-refused (A .admits) (A .zero) notFiniteGiven (starts ++ seeds) 0 i first)
       ∙ ap (λ n. refused (notFiniteGiven n)) at
 
-  start-result : (sheet : Sheet) → Ready sheet → judging ≡ given sheet
+  start-result : (sheet : Sheet) → OwnRunnable sheet → judging ≡ given sheet
   start-result sheet is =
       lengths-pass sheet (is .lengths)
       ∙ after-given _ (admitted-each A (starts ++ seeds) 0 ∙ all-pass (A .admits) (A .zero) notFiniteGiven (starts ++ seeds) 0 (is .finite))
@@ -196,11 +196,11 @@ module _ (A : Arithmetic) (needs : Sets → Sheet → Needs) (words : List ℕ) 
   admitted-judged sheet is (inl finite) = inl finite
   admitted-judged sheet is (inr (i, first)) = inr (_, givenNotFinite sheet (setsOf sheet) i is first)
 
-  pub start-settled : Settled judging (StartRefused A needs words starts seeds lent) Ready
+  pub start-settled : Settled judging (StartRefused A needs words starts seeds lent) OwnRunnable
   start-settled = record { byRule = λ r. start-rule; byResult = start-result; either = by (writing-settled needs words (lent .table) .either) }
     where
       by : ((sheet : Sheet) × Fits needs words (lent .table) sheet) ⊎ ((r : Refusal) × WritingRefuses needs words (lent .table) r)
-          → ((sheet : Sheet) × Ready sheet) ⊎ ((r : Refusal) × StartRefused A needs words starts seeds lent r)
+          → ((sheet : Sheet) × OwnRunnable sheet) ⊎ ((r : Refusal) × StartRefused A needs words starts seeds lent r)
       by (inr (r, rule)) = inr (r, whileWriting rule)
       by (inl (sheet, is)) =
           judged _ (values-told sheet) (λ few. (_, valueStackTooSmall sheet (setsOf sheet) is (omega arith))) andThen λ values.
@@ -216,11 +216,11 @@ module _ (A : Arithmetic) (needs : Sets → Sheet → Needs) (words : List ℕ) 
 
   -- ---- a run that starts
 
-  pub accepted-to-run : (sheet : Sheet) → Ready sheet → read words ≡ given sheet
+  pub accepted-to-run : (sheet : Sheet) → OwnRunnable sheet → read words ≡ given sheet
   accepted-to-run sheet is = accepted-reads words sheet (is .lengths .stacks .writable .accepted .isRead)
 
   -- it answers by how the machine ends
-  pub started : (job : Sheet → Job A) (sheet : Sheet) (ending : Step A) → Ready sheet
+  pub started : (job : Sheet → Job A) (sheet : Sheet) (ending : Step A) → OwnRunnable sheet
       → runOf A (job sheet .table) (job sheet .setting) (job sheet .start) ≡ ending
       → runBy A (needed needs) job words starts seeds lent ≡ ranTo A (job sheet) lent ending
   unfolding runBy ranOn

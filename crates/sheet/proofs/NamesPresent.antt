@@ -18,7 +18,7 @@ use Rattle.sheet.specs.Names.{SourcePresent, AssignmentPresent, TestPres
 use Rattle.sheet.specs.Sheets.{Sheet}
 use Rattle.sheet.proofs.Judgements.{leb-tells, ltb-tells}
 use Rattle.sheet.proofs.EachKind.{each-kind, _then_, end}
-use Rattle.sheet.proofs.ReadingParts.{not-given, bound, passed, same-given, Accepted, accepted}
+use Rattle.sheet.proofs.ReadingParts.{not-given, bound, passed, same-given, ReadParts, accepted}
 use Rattle.sheet.proofs.LinesTaken.{Takes, adds, opensIf, splits, endsIf, opensRepeat, endsRepeat, takes}
 use Rattle.sheet.proofs.RowsBack.{both, each-fits}
 
@@ -162,13 +162,13 @@ pub section-length : (words : List ℕ) (place count : ℕ) → suc place + coun
 section-length words place count h = simp (length-take, length-drop) (omega arith)
 
 -- an accepted sheet's roles and constants are as many as its counts say, which are in range
-pub record Counts (words : List ℕ) (sheet : Sheet) (parts : Accepted words sheet) : Type 0 where
+pub record Counts (words : List ℕ) (sheet : Sheet) (parts : ReadParts words sheet) : Type 0 where
   pub variables : length (sheet .roles) ≡ parts .v
   pub constants : length (sheet .constants) ≡ parts .k
   pub someVariable : 1 ≤ length (sheet .roles)
   pub notTooMany : length (sheet .roles) ≤ limit .variables
 
-pub counts : (words : List ℕ) (sheet : Sheet) (parts : Accepted words sheet) → Counts words sheet parts
+pub counts : (words : List ℕ) (sheet : Sheet) (parts : ReadParts words sheet) → Counts words sheet parts
 counts words sheet parts =
     let v = count-judged words 0 (limit .fewestVariables) (limit .variables) 1 (parts .v) (parts .variables) in
     let k = count-judged words (1 + parts .v) 0 (limit .constants) 1 (parts .k) (parts .constantCount) in

@@ -33,7 +33,7 @@ same-given e = cc
 
 -- ---- the whole sheet
 
-pub record Accepted (words : List ℕ) (sheet : Sheet) : Type 0 where
+pub record ReadParts (words : List ℕ) (sheet : Sheet) : Type 0 where
   pub v : ℕ
   pub k : ℕ
   pub n : ℕ
@@ -47,7 +47,7 @@ pub record Accepted (words : List ℕ) (sheet : Sheet) : Type 0 where
   pub ends : length words ≤ suc (1 + v + 1 + k) + n * limit .rowWords
   pub short : longestRun (sheet .body) ≤ limit .longestRun
 
-pub accepted : (words : List ℕ) (sheet : Sheet) → read words ≡ given sheet → Accepted words sheet
+pub accepted : (words : List ℕ) (sheet : Sheet) → read words ≡ given sheet → ReadParts words sheet
 unfolding read
 accepted words sheet e =
     let c₁ = bound (countAt words 0 (limit .fewestVariables) (limit .variables) 1) _ sheet e in
@@ -62,7 +62,7 @@ accepted words sheet e =
     let c₆ = bound (unless (leb (length words) (first + n * limit .rowWords)) (wordsLeft (first + n * limit .rowWords))) _ sheet (c₅ .2) in
     let c₇ = bound (unless (leb (longestRun (c₅ .0)) (limit .longestRun)) tooLong) _ sheet (c₆ .2) in
     let is = same-given (c₇ .2) in
-    subst (Accepted words) is
+    subst (ReadParts words) is
     (record {
       v = v;
       k = k;
