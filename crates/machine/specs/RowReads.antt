@@ -7,7 +7,7 @@ use lib.Dec.{ltb}
 use Rattle.number.specs.Arithmetic.{Arithmetic}
 use Rattle.sheet.specs.Tree.{basic, ifLine, elseLine, endIf, repeat, endRepeat}
 use Rattle.sheet.specs.Rows.{_≔_, Source, copy, fixed, sum, difference, product, negation}
-use Rattle.table.specs.TableRows.{TableRow, TableLine, Action, assign, save, takeBack, saveTurn, clear, turnRound, Operation, saving, itself, turning, takingBack, holding, clearing, scalingForA, addingToA, scalingForB, addingToB, Origin, ofRow, ofTurningRound}
+use Rattle.table.specs.TableRows.{TableRow, TableLine, Action, assign, save, takeBack, saveTurn, clear, turnRound, Operation, saving, itself, turning, takingBack, holding, clearing, scalingForA, addingToA, scalingForB, addingToB, ratingA, ratingB, rating, Origin, ofRow, ofTurningRound}
 use Rattle.machine.specs.Actions.{Attempt, through, halted, stuck, Memory, Setting}
 use Rattle.machine.specs.Machine.{State, Step, goesOn, ended, stops, sticks, stateAfter}
 
@@ -23,6 +23,9 @@ isDerivative scalingForA = true
 isDerivative addingToA = true
 isDerivative scalingForB = true
 isDerivative addingToB = true
+isDerivative ratingA = true
+isDerivative ratingB = true
+isDerivative rating = true
 
 module _ (A : Arithmetic) where
   pub record Entry : Type 0 where

@@ -4,25 +4,25 @@ use mathlib.Core.Path.{_≡_, ap, subst}
 use mathlib.Core.List.{List}
 use Rattle.sheet.specs.Judging.{refused, numberIn, placeIn}
 use Rattle.sheet.specs.Refusals.{Refusal, numberOf, placeOf}
+use Rattle.sheet.specs.Sheets.{Sheet}
 use Rattle.sheet.specs.Reading.{read}
 use Rattle.sheet.specs.Answers.{refusalOf, shapeOf}
 use Rattle.sheet.specs.declared.No.{No}
 use Rattle.table.specs.declared.Plan.{Plan}
 use Rattle.table.specs.declared.Planned.{Planned}
 use Rattle.table.specs.declared.Planned.the-variants as planned
-use Rattle.table.specs.Sizes.{Checked, noSizes}
+use Rattle.table.specs.Sizes.{Needs, Checked, noSizes}
 use Rattle.table.specs.Calls.{sizesIn, check}
-use Rattle.table.specs.inner.Plans.{PlanMade, PlanSays}
+use Rattle.table.specs.inner.Plans.{PlanMadeFor, PlanSaysFor, PlanMade}
 
--- ---- by the case of the plan
+-- ---- by the case of a plan, whatever it is for
 
-pub when-refused : (words marks came goes : List ℕ) {r : Planned} (why : No) → r ≡ planned.Refused why → PlanSays words marks came goes r
-    → read words ≡ refused (refusalOf why)
-when-refused words marks came goes why is says = subst (PlanSays words marks came goes) is says
+module _ (needs : Sheet → Needs) (words marks came goes : List ℕ) {r : Planned} where
+  pub when-refused : (why : No) → r ≡ planned.Refused why → PlanSaysFor needs words marks came goes r → read words ≡ refused (refusalOf why)
+  when-refused why is says = subst (PlanSaysFor needs words marks came goes) is says
 
-pub when-made : (words marks came goes : List ℕ) {r : Planned} (plan : Plan) → r ≡ planned.Made plan → PlanSays words marks came goes r
-    → PlanMade words plan marks came goes
-when-made words marks came goes plan is says = subst (PlanSays words marks came goes) is says
+  pub when-made : (plan : Plan) → r ≡ planned.Made plan → PlanSaysFor needs words marks came goes r → PlanMadeFor needs words plan marks came goes
+  when-made plan is says = subst (PlanSaysFor needs words marks came goes) is says
 
 -- ---- check
 

@@ -13,11 +13,11 @@ use Rattle.sets.specs.Marks.{Marked, markBy, markedBy}
 use Rattle.sets.specs.Rounds.{setsOf, marked}
 use Rattle.table.specs.declared.Plan.{Plan}
 use Rattle.table.specs.RowBounds.{mostTableRows}
-use Rattle.table.specs.Sizes.{tableRows, valuesNeeded, turnsNeeded}
+use Rattle.table.specs.Sizes.{Needs, tableRows, valuesNeeded, turnsNeeded}
 use Rattle.table.specs.inner.MarkedRows.{RowsReadable, countAll}
 use Rattle.table.specs.declared.needs.Need.{Need}
 use Rattle.table.specs.inner.Needs.{needing, nothing, Comes}
-use Rattle.table.specs.inner.Plans.{SheetNoted, PlanMade}
+use Rattle.table.specs.inner.Plans.{SheetNoted, PlanMadeFor, PlanMade}
 use Rattle.table.proofs.CountTree.{counted-is-table-rows}
 use Rattle.table.proofs.NeedsTree.{body-comes}
 use Rattle.table.proofs.SheetLaid.{Lies, sheet-lies, table-rows-within}
@@ -49,8 +49,8 @@ module _ {words : List ℕ} {sheet : Sheet} {shape : Shape} (lies : Lies words s
         body-comes words (shape .«first_row») marks came goes (marksOf sheet) (sheet .body) (shape .rows) (lies .says) noted (lies .short)
         (sheet-deep words sheet (lies .is))
 
--- a plan that was made says where its sheet lies
-pub planned-lies : {words : List ℕ} {plan : Plan} {marks came goes : List ℕ} (made : PlanMade words plan marks came goes)
+-- a plan that was made, whatever it is for, says where its sheet lies
+pub planned-lies : {needs : Sheet → Needs} {words : List ℕ} {plan : Plan} {marks came goes : List ℕ} (made : PlanMadeFor needs words plan marks came goes)
     → Lies words (made .sheet) (plan .shape)
 planned-lies {words} made = subst (Lies words (made .sheet)) (sym (made .planned .shape)) (sheet-lies words (made .sheet) (made .accepted))
 

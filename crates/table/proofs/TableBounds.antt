@@ -75,7 +75,7 @@ module _ (weight : ℕ) (count : Table → ℕ) (each : EachRow weight count) wh
       at-most-more {n = weight + (weight + 0)} (mostForward * weight) (omega arith)
       (at-most-if (m .saved) (m .row) _ _ (at-most-if true (m .row) _ _ at-most-none))
 
-row-counted : EachRow 1 rows
+pub row-counted : EachRow 1 rows
 unfolding rows
 row-counted row rest = refl
 

@@ -9,7 +9,7 @@ use Rattle.sheet.specs.Sheets.{Sheet}
 use Rattle.sheet.specs.Reading.{read}
 use Rattle.sheet.specs.Tree.{longestRun}
 use Rattle.sets.specs.Rounds.{marked}
-use Rattle.table.specs.TableRows.{tableWords}
+use Rattle.table.specs.TableRows.{Table, tableWords}
 use Rattle.table.specs.Sizes.{Needs, tableRows, valuesNeeded, turnsNeeded, Sizes, noSizes, Checked, tableRoom, Written}
 use Rattle.table.specs.Computed.{tableOf, rowsNeeded, valuesFor, turnsFor, needsOf}
 
@@ -44,14 +44,19 @@ unfoldable pub overwritten : {X : Type 0} → (front buffer : List X) → List X
 overwritten front buffer = front ++ drop (length front) buffer
 
 -- "Refusals 1 to 11 change no buffer."
-unfoldable pub tableIn : Answer Sheet → (buffer : List ℕ) → List ℕ
-unfolding tableOf tableWords overwritten
-tableIn (refused r) buffer = buffer
-tableIn (given sheet) buffer = overwritten (tableWords (tableOf sheet)) buffer
+unfoldable pub tableIn : (table : Sheet → Table) → Answer Sheet → (buffer : List ℕ) → List ℕ
+unfolding tableWords overwritten
+tableIn table (refused r) buffer = buffer
+tableIn table (given sheet) buffer = overwritten (tableWords (table sheet)) buffer
+
+-- what a sheet needs and which table is written of it are said by who calls
+unfoldable pub writeBy : (needs : Sheet → Needs) → (table : Sheet → Table) → List ℕ → (buffer : List ℕ) → Written
+unfolding numberIn placeIn readFor tableIn
+writeBy needs table words buffer =
+    let answer = readFor needs words (length buffer) in
+    record { number = numberIn answer; place = placeIn answer; table = tableIn table answer buffer }
 
 -- "Writing a table uses 1 to 8"
 unfoldable pub write : List ℕ → (buffer : List ℕ) → Written
-unfolding numberIn placeIn readFor marked tableRows tableIn
-write words buffer =
-    let answer = readFor needsOf words (length buffer) in
-    record { number = numberIn answer; place = placeIn answer; table = tableIn answer buffer }
+unfolding writeBy tableOf marked tableRows
+write words buffer = writeBy needsOf tableOf words buffer

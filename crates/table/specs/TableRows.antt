@@ -1,4 +1,4 @@
--- The rows of an adjoint table: the sheet's kinds and six more, the variables that they name, and where each row comes from.
+-- The rows of a table, adjoint or tangent: the sheet's kinds and six more, the variables that they name, and where each row comes from.
 use Prim.Native.Nat.{ℕ, _+_, _*_}
 use mathlib.Core.Bool.{Bool, cond}
 use mathlib.Core.List.{List, [], _∷_, map}
@@ -45,6 +45,10 @@ pub data Operation : Type 0 where
   addingToA : Operation
   scalingForB : Operation
   addingToB : Operation
+  -- in a tangent table, before the assignment: u := b × ȧ; t := a × ḃ; ḋ := ..
+  ratingA : Operation
+  ratingB : Operation
+  rating : Operation
 
 -- "A stop is compared by the sheet row and the operation it comes from": row 17 comes from no sheet row
 pub data Origin : Type 0 where

@@ -1,5 +1,6 @@
 -- `table::check` meets its contract, by the case of the plan.
 use borrow.Author.Needs.{needs}
+use Rattle.table.specs.Computed.{needsOf}
 use Rattle.table.proofs.CallLaws.{when-refused, when-made, check-refused, check-made}
 use Rattle.table.proofs.check.Statement.{statement}
 use Rattle.table.proofs.check.Tie as tie
@@ -24,13 +25,13 @@ returns c =
     let called = c .before .before .before .before .before in
     let words = called .before .before .before .before .before .args .words .now in
     let why = c .before .before .before .why in
-    check-refused words _ _ _ (when-refused words _ _ _ _ (why .given .1) (called .plan-sheet .ensures .0)) (c .before .number-of .ensures) (c .place-of .ensures)
+    check-refused words _ _ _ (when-refused needsOf words _ _ _ _ (why .given .1) (called .plan-sheet .ensures .0)) (c .before .number-of .ensures) (c .place-of .ensures)
 
 returns-2 : tie.Need-returns-2
 returns-2 c =
     let called = c .before .before .before .before in
     let words = called .before .before .before .before .before .args .words .now in
-    check-made words (when-made words _ _ _ _ (c .before .before .plan .given .1) (called .plan-sheet .ensures .0))
+    check-made words (when-made needsOf words _ _ _ _ (c .before .before .plan .given .1) (called .plan-sheet .ensures .0))
 
 pub check-spec : {M : Type 1} → statement M
 check-spec =
