@@ -7,9 +7,8 @@ use lib.ListN.{getD}
 use native.Mathlib.Omega.{arith}
 use Rattle.sheet.specs.Tree.{Tree, done, one, fork, again, basic, ifLine, elseLine, endIf, repeat, endRepeat, flat, rows, RowNumber}
 use Rattle.sheet.specs.Rows.{Assignment, Test, SheetLine, Row, sheetRowOf, rowOf, rowOfTest, treeRows}
-use Rattle.sheet.specs.inner.RowLines.{lineOfRow, numberedRow}
+use Rattle.sheet.specs.inner.RowLines.{numberedRow}
 use Rattle.sheet.specs.Sheets.{rowsAt}
-use Rattle.sheet.proofs.RowsBack.{line-back}
 use Rattle.sheet.proofs.RowsByNumber.{StandsAt, tree-stands, stands-after}
 use Rattle.sets.specs.Marks.{Marked, numbered}
 use Rattle.table.specs.TableRows.{Table, tableRowOf, rowOfAction, rowOfTableTest, whether, saveTurn, turning}
@@ -17,7 +16,8 @@ use Rattle.table.specs.Adjoint.{put, forwardPart}
 use Rattle.table.specs.inner.MarkedRows.{rowWith, rowsIn, forwardOfLine, Noted}
 use Rattle.table.proofs.AssignmentRows.{rows-of-put, rows-of-done, none-before}
 use Rattle.table.proofs.MarkedAssignment.{marked-forward}
-use Rattle.writer.specs.inner.RowsWritten.{forwardRows}
+use Rattle.writer.specs.inner.RowsWritten.{rowsAlong, forwardRows}
+use Rattle.writer.proofs.PassOver.{along-step}
 use Rattle.writer.proofs.TableTree.{fork-before, again-before}
 
 turn-before : (row : RowNumber) (first : Bool) (after : List Row)
@@ -25,16 +25,9 @@ turn-before : (row : RowNumber) (first : Bool) (after : List Row)
 turn-before row first after = rw (rows-of-put row turning (saveTurn first) done, rows-of-done)
 
 module _ (words : List ℕ) (first : ℕ) (marks came goes : List ℕ) (mark : ℕ → Assignment → Marked) where
-  forward-turn : (p n : ℕ) → forwardRows words first marks p (suc n)
-      ≡ forwardOfLine (getD marks p 0) (lineOfRow (numberedRow words first p)) ++ forwardRows words first marks (suc p) n
-  unfolding forwardRows
-  forward-turn p n = refl
-
   forward-step : (l : SheetLine) (p n c : ℕ) → c ≡ suc n → numberedRow words first p ≡ sheetRowOf l
       → forwardRows words first marks p c ≡ forwardOfLine (getD marks p 0) l ++ forwardRows words first marks (suc p) n
-  forward-step l p n c e stands =
-      ap (forwardRows words first marks p) e ∙ forward-turn p n
-      ∙ ap (λ line. forwardOfLine (getD marks p 0) line ++ forwardRows words first marks (suc p) n) (ap lineOfRow stands ∙ line-back l)
+  forward-step = along-step forwardOfLine words first marks
 
   -- a tree's rows, then those of `rest` and `after`
   forward-tree : (t : Tree Assignment Test) (ls : List SheetLine) (rest : Table) (after : List Row) (p n c e : ℕ)
@@ -93,7 +86,7 @@ module _ (words : List ℕ) (first : ℕ) (marks came goes : List ℕ) (mark : �
       ∙ sym (again-before m (forwardPart (numbered mark a (suc p)) done) K after)
 
   forward-end : (e : ℕ) → forwardRows words first marks e 0 ≡ rowsIn done ++ []
-  unfolding forwardRows
+  unfolding rowsAlong
   forward-end e = sym (none-before [])
 
   -- all rows

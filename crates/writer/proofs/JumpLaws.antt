@@ -92,11 +92,11 @@ pub record Ending (what : Branching) (rs : List Row) : Type 0 where
   pub notes : (p : ℕ) (s : Noting) → notedOver rs p s ≡ notedBy what (p + length rs - 1) s
 
 -- nothing, if none of them is
-flat-ending : (t : Table) → deep t ≤ 0 → 1 ≤ length (rowsIn t) → Ending branching.Passes (rowsIn t)
+pub flat-ending : (t : Table) → deep t ≤ 0 → 1 ≤ length (rowsIn t) → Ending branching.Passes (rowsIn t)
 unfolding notedBy
 flat-ending t h some = record { some = some; notes = flat-passes t h }
 
-last-ending : (r : Row) → Ending (branchingOf (r .kind)) (r ∷ [])
+pub last-ending : (r : Row) → Ending (branchingOf (r .kind)) (r ∷ [])
 unfolding notedOver
 last-ending r = record { some = omega arith; notes = λ p s. let here : p + 1 - 1 ≡ p = omega arith in rw here }
 
@@ -148,12 +148,16 @@ module _ (mark : ℕ) where
   backward-ending v turns endRepeat = last-ending _
 
 -- by what the code has found of the row
+pub ends-by : {r : Row} {p : Part} → SaysPart r p → {what : Branching} (branchingFor : Part → Branching) (rowsFor : SheetLine → List Row)
+    → ((l : SheetLine) → Ending (branchingFor (partOf l)) (rowsFor l)) → what ≡ branchingFor p → Ending what (rowsFor (lineOfRow r))
+ends-by {r} said branchingFor rowsFor ending e = rw (e, said .is) (ending (lineOfRow r))
+
 module _ {r : Row} {p : Part} (said : SaysPart r p) {what : Branching} (mark : ℕ) where
   pub forward-ends : what ≡ forwardBranching p → Ending what (forwardOfLine mark (lineOfRow r))
-  forward-ends e = rw (e, said .is) (forward-ending mark (lineOfRow r))
+  forward-ends = ends-by said forwardBranching (forwardOfLine mark) (forward-ending mark)
 
   pub backward-ends : (v turns : ℕ) → what ≡ backwardBranching p → Ending what (backwardOfLine v mark turns (lineOfRow r))
-  backward-ends v turns e = rw (e, said .is) (backward-ending mark v turns (lineOfRow r))
+  backward-ends v turns = ends-by said backwardBranching (backwardOfLine v mark turns) (backward-ending mark v turns)
 
 -- ---- a loop that writes rows: where the rest leads from here is where all of them lead from the start
 pub record Jumping (all : List Row) (place : ℕ) (start : Noting) (rest : List Row) (reached : ℕ) (s : Noting) : Type 0 where

@@ -1,25 +1,19 @@
--- The whole table's words in the buffer: what the writer leaves is what `write` promises.
-use Prim.Native.Nat.{ℕ, _+_, _≤_}
+-- The rows that the writer puts are the adjoint table's.
+use Prim.Native.Nat.{ℕ}
 use mathlib.Core.Path.{_≡_, sym, ap, _∙_}
 use mathlib.Core.Bool.{true, false}
-use mathlib.Core.List.{List, _∷_, _++_, append-assoc}
-use lib.ListN.{length, set, drop}
-use lib.Seq.{sets-eq}
-use native.Mathlib.Omega.{arith}
+use mathlib.Core.List.{_∷_, _++_, append-assoc}
 use Rattle.sheet.specs.Tree.{Tree, done, one, fork, again, rows}
 use Rattle.sheet.specs.Rows.{Assignment, Test, treeRows}
 use Rattle.sheet.specs.Sheets.{rowsAt}
-use Rattle.sheet.proofs.RowsCounted.{lines-counted}
 use Rattle.sheet.proofs.RowsByNumber.{rows-of-tree}
 use Rattle.sets.specs.Marks.{Marked, numbered}
-use Rattle.table.specs.TableRows.{Table, TableRow, linesOf, wordsOf, tableWords, rowOfAction, whether, turnRound, ofTurningRound, saveTurn, turning}
+use Rattle.table.specs.TableRows.{Table, TableRow, rowOfAction, whether, turnRound, ofTurningRound, saveTurn, turning}
 use Rattle.table.specs.Adjoint.{Body, put, forwardPart, backwardPart, adjointTable}
-use Rattle.table.specs.Calls.{overwritten}
 use Rattle.table.specs.inner.MarkedRows.{rowWith, rowsIn, Noted}
 use Rattle.table.proofs.AssignmentRows.{rows-of-done}
-use Rattle.table.proofs.TableLength.{words-counted}
 use Rattle.table.proofs.MarkedAssignment.{forward-row}
-use Rattle.writer.specs.inner.RowsWritten.{RowRoom, Wrote, Handed, wholeRows}
+use Rattle.writer.specs.inner.RowsWritten.{Handed, wholeRows}
 use Rattle.writer.proofs.TableTree.{rows-of-one, rows-of-fork, rows-of-again}
 use Rattle.writer.proofs.ForwardTree.{forward-is-forward-part}
 use Rattle.writer.proofs.BackwardTree.{backward-is-backward-part}
@@ -59,14 +53,3 @@ whole-is-table given mark t says noted =
       backward-is-backward-part given mark t says counted noted,
     )
     (sym (adjoint-rows (given .variables) (numbered mark t 0)))
-
--- the count and the rows, written from word 0 on, are the table over the buffer
-pub buffer-overwritten : (buffer after : List ℕ) (count next : ℕ) (table : Table) → count ≡ rows table → RowRoom buffer 1 (rowsIn table)
-    → Wrote (set buffer 0 count) 1 (rowsIn table) after next → after ≡ overwritten (tableWords table) buffer
-unfolding overwritten tableWords rowsIn linesOf
-buffer-overwritten buffer after count next table counted room wrote =
-    let ws = wordsOf (rowsIn table) in
-    let n : length (linesOf table) ≡ count = lines-counted table ∙ sym counted in
-    let fits : 0 + length (count ∷ ws) ≤ length buffer = omega (arith, room .fits, words-counted (rowsIn table)) in
-    let zero-first : 0 + length (count ∷ ws) ≡ length (count ∷ ws) = omega arith in
-    rw n (wrote .words ∙ sets-eq (count ∷ ws) buffer 0 fits ∙ ap (λ k. (count ∷ ws) ++ drop k buffer) zero-first)

@@ -3,9 +3,10 @@ use mathlib.Core.Path.{sym, _∙_}
 use borrow.Author.Needs.{needs}
 use borrow.Author.Tests.{not-true, not-false, leb-true}
 use Rattle.sheet.specs.Refusals.{numberOf}
+use Rattle.table.specs.Computed.{needsOf}
 use Rattle.table.specs.inner.Plans.{PlanMade}
 use Rattle.table.proofs.CallLaws.{when-refused, when-made}
-use Rattle.writer.proofs.CallLaws.{write-refused, write-small, write-made}
+use Rattle.writer.proofs.CallLaws.{written-refused, written-small, written-made, write-by}
 use Rattle.writer.proofs.write.Statement.{statement}
 use Rattle.writer.proofs.write.Tie as tie
 
@@ -13,7 +14,7 @@ use Rattle.writer.proofs.write.Tie as tie
 plan-made : (c : tie.After-plan) → let called = c .before .before in
     PlanMade (called .before .before .before .before .before .before .args .words .now) (c .plan .given .0 .0) (called .plan-sheet .last .1 .0)
     (called .plan-sheet .last .1 .1 .0) (called .plan-sheet .last .1 .1 .1 .0)
-plan-made c = when-made _ _ _ _ _ (c .plan .given .1) (c .before .before .plan-sheet .ensures .0)
+plan-made c = when-made needsOf _ _ _ _ _ (c .plan .given .1) (c .before .before .plan-sheet .ensures .0)
 
 plan-sheet-requires : tie.Need-plan-sheet-requires
 plan-sheet-requires c κs = search needs
@@ -37,7 +38,7 @@ returns : tie.Need-returns
 unfolding numberOf
 returns c =
     let tested = c .before in
-    write-small _ _ (plan-made (tested .before .before)) (sym (tested .has-room .ensures) ∙ not-true _ (c .if1 .taken))
+    write-by _ _ (written-small _ _ _ _ (plan-made (tested .before .before)) (sym (tested .has-room .ensures) ∙ not-true _ (c .if1 .taken)))
 
 write-planned-requires : tie.Need-write-planned-requires
 write-planned-requires c κs =
@@ -51,7 +52,7 @@ returns-2 c =
     let args = called .before .before .before .before .before .before .args in
     let words = args .words .now in
     let why = c .before .before .before .why in
-    write-refused words (args .table .now) _ _ _ (when-refused words _ _ _ _ (why .given .1) (called .plan-sheet .ensures .0)) (c .before .number-of .ensures) (c .place-of .ensures)
+    write-by _ _ (written-refused _ _ words (args .table .now) _ _ _ (when-refused needsOf words _ _ _ _ (why .given .1) (called .plan-sheet .ensures .0)) (c .before .number-of .ensures) (c .place-of .ensures))
 
 same-length : tie.Need-same-length
 same-length c = search needs
@@ -61,7 +62,7 @@ returns-3 c =
     let wrote = c .before .before in
     let tested = wrote .before .before .before .before .before .before in
     let fits = sym (tested .before .has-room .ensures) ∙ not-false _ (tested .if1 .left) in
-    write-made _ _ (plan-made (tested .before .before .before)) _ fits (λ sheet e. wrote .write-planned .ensures sheet e .words)
+    write-by _ _ (written-made _ _ _ _ (plan-made (tested .before .before .before)) _ fits (λ sheet e. wrote .write-planned .ensures sheet e .words))
 
 pub write-spec : {M : Type 1} → statement M
 write-spec =

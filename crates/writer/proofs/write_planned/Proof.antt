@@ -4,7 +4,8 @@ use native.Mathlib.Omega.{arith}
 use borrow.Author.Needs.{needs}
 use Rattle.sheet.proofs.ReadingParts.{same-given}
 use Rattle.table.proofs.PlanLaws.{readable, planned-lies, planned-few}
-use Rattle.writer.proofs.PlanWritten.{walkable, room-right, rows-numbered, table-noted}
+use Rattle.writer.proofs.PlanWritten.{walkable, whole-right, counts-rows}
+use Rattle.writer.proofs.TableWritten.{room-right, rows-numbered, table-noted}
 use Rattle.writer.proofs.write_planned.Statement.{statement}
 use Rattle.writer.proofs.write_planned.Tie as tie
 
@@ -13,10 +14,12 @@ write-table-requires c κs =
     let start = c .before .before .before .before .before .before .before in
     let made = start .pre .0 in
     let lies = planned-lies made in
-    let few = lies .fewRows in (
-      room-right lies _ _ _ (made .planned .noted) _ _ (made .planned .rows) (start .pre .1),
+    let few = lies .fewRows in
+    let right = whole-right lies _ _ _ (made .planned .noted) in
+    let counted = counts-rows made in (
+      room-right _ right _ counted _ (start .pre .1),
       (
-        rows-numbered lies _ _ _ (made .planned .noted) _ (made .planned .rows) (planned-few made),
+        rows-numbered _ right _ counted (planned-few made),
         (readable lies _ (omega arith), (walkable lies _ _ _ (made .planned .noted) (omega arith) (omega arith), planned-few made)),
       ),
     )
@@ -30,7 +33,7 @@ returns c =
     let start = wrote .before .before .before .before .before .before .before .before in
     let made = start .pre .0 in
     let noted =
-    table-noted (planned-lies made) _ _ _ (made .planned .noted) _ (made .planned .rows) (start .pre .1) (wrote .write-table .ensures) in
+    table-noted _ (whole-right (planned-lies made) _ _ _ (made .planned .noted)) _ (counts-rows made) (start .pre .1) (wrote .write-table .ensures) in
     λ sheet e. rw (sym (same-given (sym (made .accepted) ∙ e))) noted
 
 pub write-planned-spec : {M : Type 1} → statement M

@@ -7,11 +7,9 @@ use lib.ListN.{length, getD, set}
 use lib.Dec.{eqb}
 use Rattle.sheet.specs.Bounds.{limit}
 use Rattle.sheet.specs.Rows.{Row}
-use Rattle.sheet.specs.Sheets.{Sheet}
 use Rattle.sheet.specs.declared.kinds.Part.{Part}
 use Rattle.sheet.specs.declared.kinds.Part.the-variants as part
 use Rattle.table.specs.TableRows.{Table, tableWords}
-use Rattle.table.specs.Computed.{tableOf}
 use Rattle.table.specs.RowBounds.{mostTableRows}
 use Rattle.table.specs.Calls.{overwritten}
 use Rattle.table.specs.inner.MarkedRows.{rowsIn}
@@ -89,7 +87,7 @@ pub record WroteNoted (before : List ℕ) (place : ℕ) (rs : List Row) (after :
 abbrev pub JumpsNoted : Table → (before after : List ℕ) → Type 0
 JumpsNoted table before after = after ≡ notedOver (rowsIn table) 0 (noting 0 before) .beyond
 
--- a sheet's table over a buffer, with its jumps
-pub record TableNoted (sheet : Sheet) (before after beyond beyond′ : List ℕ) : Type 0 where
-  pub words : after ≡ overwritten (tableWords (tableOf sheet)) before
-  pub jumps : JumpsNoted (tableOf sheet) beyond beyond′
+-- a table over a buffer, with its jumps
+pub record TableNoted (table : Table) (before after beyond beyond′ : List ℕ) : Type 0 where
+  pub words : after ≡ overwritten (tableWords table) before
+  pub jumps : JumpsNoted table beyond beyond′

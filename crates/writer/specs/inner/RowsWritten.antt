@@ -7,7 +7,7 @@ use lib.ListN.{length, getD}
 use lib.Seq.{sets}
 use Rattle.sheet.specs.Sheets.{rowAt}
 use Rattle.sheet.specs.Bounds.{limit}
-use Rattle.sheet.specs.Rows.{Row}
+use Rattle.sheet.specs.Rows.{Row, SheetLine}
 use Rattle.sheet.specs.inner.RowLines.{lineOfRow, numberedRow}
 use Rattle.sheet.specs.inner.Kinds.{partOf}
 use Rattle.sheet.specs.declared.Shape.{Shape}
@@ -27,14 +27,20 @@ pub record Wrote (before : List ℕ) (place : ℕ) (rs : List Row) (after : List
   pub words : after ≡ sets before place (wordsOf rs)
   pub place-after : reached ≡ place + limit .rowWords * length rs
 
+-- ---- in one pass over the sheet's rows, in order
+
+-- the rows that so many sheet rows from row p on give, each by its mark and its line
+unfoldable pub rowsAlong : (ofLine : (mark : ℕ) → SheetLine → List Row) (words : List ℕ) (first : ℕ) (marks : List ℕ) (p count : ℕ) → List Row
+unfolding lineOfRow rowAt
+rowsAlong ofLine words first marks p zero = []
+rowsAlong ofLine words first marks p (suc n) =
+    ofLine (getD marks p 0) (lineOfRow (numberedRow words first p)) ++ rowsAlong ofLine words first marks (suc p) n
+
 -- ---- the forward part
 
--- the forward part's rows, for so many rows from row p on, and for all of them
-unfoldable pub forwardRows : (words : List ℕ) (first : ℕ) (marks : List ℕ) (p count : ℕ) → List Row
-unfolding forwardOfLine lineOfRow rowAt
-forwardRows words first marks p zero = []
-forwardRows words first marks p (suc n) =
-    forwardOfLine (getD marks p 0) (lineOfRow (numberedRow words first p)) ++ forwardRows words first marks (suc p) n
+-- its rows, for so many rows from row p on, and for all of them
+abbrev pub forwardRows : (words : List ℕ) (first : ℕ) (marks : List ℕ) (p count : ℕ) → List Row
+forwardRows = rowsAlong forwardOfLine
 
 abbrev pub forwardAll : (words : List ℕ) → Shape → (marks : List ℕ) → List Row
 forwardAll words shape marks = forwardRows words (shape .«first_row») marks 0 (shape .rows)
@@ -144,6 +150,6 @@ module _ (given : Handed) where
 
 -- the forward part, row 17 and the backward part
 unfoldable pub wholeRows : Handed → List Row
-unfolding forwardRows backwardRows
+unfolding rowsAlong forwardOfLine backwardRows
 wholeRows given =
     forwardRows (given .words) (given .first) (given .marks) 0 (given .rows) ++ (rowWith 17 0 0 0 ∷ backwardAll given)

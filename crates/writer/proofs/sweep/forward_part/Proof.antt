@@ -17,7 +17,7 @@ use Rattle.writer.specs.inner.RowsWritten.{forwardRows, forwardAll}
 use Rattle.writer.specs.inner.JumpsNoted.{noting}
 use Rattle.writer.proofs.WritingLaws.{Underway, underway-start, underway-room, underway-next, underway-end, underway-length, room-first}
 use Rattle.writer.proofs.JumpLaws.{Jumping, jumping-start, forward-ends, row-ends, jumping-next, jumping-end}
-use Rattle.writer.proofs.ForwardOver.{forward-next, forward-none}
+use Rattle.writer.proofs.PassOver.{along-next, along-none}
 use Rattle.writer.proofs.sweep.forward_part.Statement.{statement}
 use Rattle.writer.proofs.sweep.forward_part.Tie as tie
 
@@ -59,7 +59,7 @@ left : (c : tie.After-row-of Inv-loop μ-loop) → let x = start (c .before) .ar
     rest p (x .shape .rows - p) ≡ forwardOfLine (getD (x .marks .now) p 0) (lineOfRow (rowSaid (c .row-of .result))) ++ rest (p + 1) (x .shape .rows - (p + 1))
 left c =
     let x = start (c .before) .args in
-    forward-next (x .words .now) (x .shape .«first_row») (x .marks .now) _ (x .shape .rows) (c .before .loop-test .taken) (c .row-of .ensures)
+    along-next forwardOfLine (x .words .now) (x .shape .«first_row») (x .marks .now) _ (x .shape .rows) (c .before .loop-test .taken) (c .row-of .ensures)
 
 forms-requires : tie.Need-forms-requires Inv-loop μ-loop
 forms-requires c κs = search needs
@@ -132,7 +132,7 @@ same-length c = underway-length (c .before .loop .inv .1)
 returns : tie.Need-returns Inv-loop μ-loop
 returns c =
     let x = c .before .before .before .before .before .before .args in
-    let none = forward-none (x .words .now) (x .shape .«first_row») (x .marks .now) _ (x .shape .rows) (c .loop-test .left) in
+    let none = along-none forwardOfLine (x .words .now) (x .shape .«first_row») (x .marks .now) _ (x .shape .rows) (c .loop-test .left) in
     record { wrote = underway-end (c .before .loop .inv .1) none; noted = jumping-end (c .before .loop .inv .2) none }
 
 pub forward-part-spec : {M : Type 1} → statement M
