@@ -18,7 +18,7 @@ use Rattle.table.specs.TableRows.{Action, assign, save, takeBack, saveTurn, cle
 use Rattle.machine.specs.Actions.{through, halted, _>>=_, fromOutcome, look, Memory, Setting, evaluated, acted, stored, withStore}
 use Rattle.machine.specs.RowReads.{originalAt, readsOf}
 use Rattle.machine.proofs.AttemptLaws.{Ready, gives, stops, from-outcome-ready}
-use Rattle.claims.proofs.Stores.{same-default, at-known, at-first-part, at-second-part, set-second-part}
+use Rattle.run.proofs.Stores.{same-default, at-known, at-first-part, at-second-part, set-second-part}
 
 -- ---- rows that work on the adjoints
 

@@ -24,7 +24,7 @@ use Rattle.claims.specs.IdealSweep.{Progress, onward, performed, turned,
 use Rattle.claims.specs.WholeRun.{onto, savedValues}
 use Rattle.claims.proofs.Runs.{was-performed, Runs, stay, row, left, right, last, more, runs}
 use Rattle.claims.proofs.RunsKeepSizes.{performed-keeps, runs-keep}
-use Rattle.claims.proofs.Originals.{evaluated-originals, compared-originals, replaced-original, replaced-alone, looked-up}
+use Rattle.run.proofs.Originals.{evaluated-originals, compared-originals, replaced-original, replaced-alone, looked-up}
 
 -- ---- attempts in turn
 

@@ -24,7 +24,7 @@ use Rattle.machine.proofs.PlaceLaws.{place-there}
 use Rattle.claims.specs.IdealSweep.{derivedBy}
 use Rattle.claims.proofs.DerivedInTheLarge.{derived-in-the-large}
 use Rattle.claims.proofs.LeanGain.{variedGain, leanGain, cleared, Grown}
-use Rattle.claims.proofs.Stores.{at-first-part, at-second-part, set-second-part}
+use Rattle.run.proofs.Stores.{at-first-part, at-second-part, set-second-part}
 
 -- a list of residues, one of them replaced
 set-below : (α : List ℕ) (i y : ℕ) → i < length α → y < modulus → ((x : ℕ) → getD α x 0 < modulus) → (x : ℕ) → getD (set α i y) x 0 < modulus

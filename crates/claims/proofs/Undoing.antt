@@ -24,11 +24,11 @@ use Rattle.machine.specs.RowReads.{Entry}
 use Rattle.machine.proofs.PlaceLaws.{place-there}
 use Rattle.claims.specs.IdealSweep.{Progress, onward}
 use Rattle.claims.specs.WholeRun.{savedValues}
-use Rattle.claims.proofs.Stores.{at-set-same, at-set-other}
+use Rattle.run.proofs.Stores.{at-set-same, at-set-other}
 use Rattle.claims.proofs.Accounts.{Account, account, derived, stopping, noting}
 use Rattle.claims.proofs.DerivativeRows.{Agree, AdjointSize}
 use Rattle.claims.proofs.DerivativesAlike.{Derives, derives, breaks, derivatives-alike}
-use Rattle.claims.proofs.Originals.{replaced-original}
+use Rattle.run.proofs.Originals.{replaced-original}
 use Rattle.claims.proofs.Forward.{memoryWith}
 
 -- ---- agreement across an assignment

@@ -2,7 +2,7 @@
 use Prim.Native.Nat.{ℕ}
 use mathlib.Core.Path.{_≡_, sym, ap, _∙_}
 use mathlib.Core.List.{List, _++_}
-use lib.ListN.{length, replicate}
+use lib.ListN.{length}
 use lib.Dec.{eqb}
 use borrow.Author.Tests.{leb-true, eqb-true}
 use Rattle.number.specs.Arithmetic.{Arithmetic}
@@ -14,20 +14,17 @@ use Rattle.sheet.specs.Answers.{shapeOf}
 use Rattle.sheet.specs.declared.Shape.{Shape}
 use Rattle.sheet.proofs.Judgements.{bind-assoc}
 use Rattle.sheet.proofs.ReadingParts.{bound, passed}
-use Rattle.table.specs.RowBounds.{mostTableRows}
-use Rattle.table.specs.Computed.{needsOf}
+use Rattle.table.specs.Sizes.{Needs}
 use Rattle.table.specs.Calls.{readFor}
-use Rattle.table.specs.inner.Plans.{PlanMade}
+use Rattle.table.specs.inner.Plans.{PlanMadeFor}
 use Rattle.table.specs.declared.Reply as answered
 use Rattle.table.specs.declared.Plan.{Plan}
-use Rattle.writer.specs.inner.JumpsNoted.{TableNoted}
-use Rattle.run.specs.Runs.{Lent, lentOf, ranOf}
-use Rattle.run.specs.Calls.{allAdmitted, readToRun, ranOn, runBy, run}
+use Rattle.run.specs.Runs.{Lent, lentOf, ranOf, Job}
+use Rattle.run.specs.Calls.{allAdmitted, readToRun, ranOn, runBy}
 use Rattle.run.specs.declared.Rooms.{Rooms}
 use Rattle.run.specs.declared.Fit.{Fit}
 use Rattle.run.specs.inner.CallSteps.{tableFits, stacksFit, roomsFit, fitSaid, readWithRoom, Answers, NoRoom, HasRoom}
 use Rattle.run.specs.inner.CallAnswers.{TableInPlace, RanTo}
-use Rattle.run.proofs.SectionLaws.{written-planned}
 
 -- what a judgement comes to, by the code's answer
 pub said : {judgement : Answer (Unit {0})} {fit answer : Fit} → fitSaid fit ≡ judgement → fit ≡ answer → judgement ≡ fitSaid answer
@@ -35,23 +32,24 @@ said {judgement} {fit} {answer} is told = sym is ∙ ap fitSaid told
 
 -- ---- 1 to 10, by a plan
 
-module _ {words : List ℕ} (rooms : Rooms) where
-  pub unread : {why : Refusal} {answer : answered.Reply} → read words ≡ refused why → Answers answer why → NoRoom words rooms answer
+module _ {needs : Sheet → Needs} {words : List ℕ} (rooms : Rooms) where
+  pub unread : {why : Refusal} {answer : answered.Reply} → read words ≡ refused why → Answers answer why → NoRoom needs words rooms answer
   unfolding readWithRoom readFor
   unread {why} e answers = record { why = why; is = rw e; answers = answers }
 
-  module _ {plan : Plan} {marks came goes : List ℕ} (made : PlanMade words plan marks came goes) where
-    judged : readWithRoom words rooms ≡ (roomsFit plan rooms >>= λ _. given (made .sheet))
+  module _ {plan : Plan} {marks came goes : List ℕ} (made : PlanMadeFor needs words plan marks came goes) where
+    judged : readWithRoom needs words rooms ≡ (roomsFit plan rooms >>= λ _. given (made .sheet))
     unfolding readWithRoom readFor shapeOf
     judged =
         let plans = made .planned in
         let variables = ap (λ (s : Shape). s .variables) (plans .shape) in
         rw (made .accepted, plans .rows, plans .values, plans .turns, variables) (simp bind-assoc)
 
-    pub rooms-refuse : {why : Refusal} {answer : answered.Reply} → roomsFit plan rooms ≡ refused why → Answers answer why → NoRoom words rooms answer
+    pub rooms-refuse : {why : Refusal} {answer : answered.Reply} → roomsFit plan rooms ≡ refused why → Answers answer why
+        → NoRoom needs words rooms answer
     rooms-refuse {why} e answers = record { why = why; is = judged ∙ rw e; answers = answers }
 
-    pub rooms-fit : roomsFit plan rooms ≡ given tt → HasRoom words rooms marks came goes plan
+    pub rooms-fit : roomsFit plan rooms ≡ given tt → HasRoom needs words rooms marks came goes plan
     rooms-fit fit =
         let v = plan .shape .variables in
         let table = bound (tableFits (plan .rows) (rooms .table)) _ tt fit in
@@ -69,41 +67,39 @@ module _ {words : List ℕ} (rooms : Rooms) where
 
 -- ---- a call
 
-module _ (A : Arithmetic) (words : List ℕ) (starts seeds : List (A .Carrier)) (lent : Lent A) where
-  abbrev pub roomsOf : Rooms
-  roomsOf =
-      record {
-        table = length (lent .table);
-        values = length (lent .values);
-        turns = length (lent .turns);
-        starts = length starts;
-        seeds = length seeds;
-        result = length (lent .result);
-      }
+abbrev pub roomsOf : (A : Arithmetic) → (starts seeds : List (A .Carrier)) → Lent A → Rooms
+roomsOf A starts seeds lent =
+    record {
+      table = length (lent .table);
+      values = length (lent .values);
+      turns = length (lent .turns);
+      starts = length starts;
+      seeds = length seeds;
+      result = length (lent .result);
+    }
 
+module _ (A : Arithmetic) (needs : Sheet → Needs) (words : List ℕ) (starts seeds : List (A .Carrier)) (lent : Lent A) where
   -- 11 is judged last
-  numbers-last : readToRun A needsOf words starts seeds lent
-      ≡ (readWithRoom words roomsOf >>= λ sheet. allAdmitted A (starts ++ seeds) 0 >>= λ _. given sheet)
+  numbers-last : readToRun A needs words starts seeds lent
+      ≡ (readWithRoom needs words (roomsOf A starts seeds lent) >>= λ sheet. allAdmitted A (starts ++ seeds) 0 >>= λ _. given sheet)
   unfolding readToRun readWithRoom
   numbers-last = simp bind-assoc
 
-  pub refused-run : {answer : answered.Reply} → NoRoom words roomsOf answer → ranOf A answer lent ≡ run A words starts seeds lent
-  unfolding run runBy ranOn
-  refused-run refusal = rw (numbers-last, refusal .is, refusal .answers .number, refusal .answers .place)
+  module _ (job : Sheet → Job A) where
+    pub refused-run : {answer : answered.Reply} → NoRoom needs words (roomsOf A starts seeds lent) answer → ranOf A answer lent ≡ runBy A needs job words starts seeds lent
+    unfolding runBy ranOn
+    refused-run refusal = rw (numbers-last, refusal .is, refusal .answers .number, refusal .answers .place)
 
-  module _ {marks came goes : List ℕ} {plan : Plan} (room : HasRoom words roomsOf marks came goes plan) where
-    pub numbers-refuse : {why : Refusal} {answer : answered.Reply} → allAdmitted A (starts ++ seeds) 0 ≡ refused why → Answers answer why
-        → ranOf A answer lent ≡ run A words starts seeds lent
-    unfolding run runBy ranOn
-    numbers-refuse e answers = rw (numbers-last, room .is, e, answers .number, answers .place)
+    module _ {marks came goes : List ℕ} {plan : Plan} (room : HasRoom needs words (roomsOf A starts seeds lent) marks came goes plan) where
+      pub numbers-refuse : {why : Refusal} {answer : answered.Reply} → allAdmitted A (starts ++ seeds) 0 ≡ refused why → Answers answer why
+          → ranOf A answer lent ≡ runBy A needs job words starts seeds lent
+      unfolding runBy ranOn
+      numbers-refuse e answers = rw (numbers-last, room .is, e, answers .number, answers .place)
 
-    pub accepted-run : allAdmitted A (starts ++ seeds) 0 ≡ given tt → {table beyond : List ℕ}
-        → ((sheet : Sheet) → read words ≡ given sheet → TableNoted sheet (lent .table) table (replicate mostTableRows 0) beyond)
-        → {answer : answered.Reply} {values : List (A .Carrier)} {turns : List ℕ} {result : List (A .Carrier)}
-        → ((sheet : Sheet) (buffer : List ℕ) → TableInPlace words plan table beyond sheet buffer
-        → RanTo A sheet buffer starts seeds (lent .values) (lent .turns) (lent .result) answer values turns result)
-        → ranOf A answer (lentOf A table values turns result) ≡ run A words starts seeds lent
-    unfolding run runBy ranOn
-    accepted-run admitted writes runs =
-        let written = written-planned room writes in
-        rw (written .written, numbers-last, room .is, admitted) (runs (room .made .sheet) (lent .table) written)
+      pub accepted-run : allAdmitted A (starts ++ seeds) 0 ≡ given tt
+          → {table beyond : List ℕ} → TableInPlace (job (room .made .sheet) .table) words plan table beyond (room .made .sheet) (lent .table)
+          → {answer : answered.Reply} {values : List (A .Carrier)} {turns : List ℕ} {result : List (A .Carrier)}
+          → RanTo A (job (room .made .sheet)) lent answer values turns result
+          → ranOf A answer (lentOf A table values turns result) ≡ runBy A needs job words starts seeds lent
+      unfolding runBy ranOn
+      accepted-run admitted place ran = rw (place .written, numbers-last, room .is, admitted) ran

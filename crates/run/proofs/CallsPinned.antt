@@ -1,4 +1,4 @@
--- Any two results that the contracts of run_double and run_audit permit coincide: answer, place and every lent word.
+-- Any two results that the contract of a run's call permits coincide: answer, place and every lent word; so of run_double and run_audit.
 use Prim.Native.Nat.{ℕ}
 use mathlib.Core.Path.{_≡_, sym, ap, _∙_}
 use mathlib.Core.List.{List}
@@ -16,9 +16,12 @@ module _ (A : Arithmetic) where
   leftBy : Ran A → Left
   leftBy ran = record { answer = record { number = ran .number; place = ran .place }; lent = ran .lent }
 
+  pub one-outcome : (ran : Ran A) (left left′ : Left) → ranOf A (left .answer) (left .lent) ≡ ran → ranOf A (left′ .answer) (left′ .lent) ≡ ran → left ≡ left′
+  unfolding leftBy
+  one-outcome ran left left′ e e′ = ap leftBy (e ∙ sym e′)
+
   pub one-run : (words : List ℕ) (starts seeds : List (A .Carrier)) (lent : Lent A) (left left′ : Left)
       → ranOf A (left .answer) (left .lent) ≡ run A words starts seeds lent
       → ranOf A (left′ .answer) (left′ .lent) ≡ run A words starts seeds lent
       → left ≡ left′
-  unfolding leftBy
-  one-run words starts seeds lent left left′ e e′ = ap leftBy (e ∙ sym e′)
+  one-run words starts seeds lent = one-outcome (run A words starts seeds lent)

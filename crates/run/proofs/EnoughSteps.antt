@@ -1,4 +1,4 @@
--- How many steps a run of a table takes at most, in terms of W, and that more of them change nothing.
+-- More steps than a table's run takes change nothing; and how many the run of an adjoint table takes at most, in terms of W.
 use Prim.Native.Nat.{ℕ, suc, _+_, _*_, _-_, _≤_}
 use mathlib.Core.Path.{_≡_, refl, ap, _∙_}
 use mathlib.Core.Bool.{Bool, true, false}
@@ -6,7 +6,6 @@ use mathlib.Core.List.{List}
 use native.Mathlib.Nat.{mul-le-mul-left, mul-left-comm}
 use native.Mathlib.Omega.{arith}
 use Rattle.number.specs.Arithmetic.{Arithmetic}
-use Rattle.sheet.specs.Bounds.{limit}
 use Rattle.sheet.specs.Judging.{given}
 use Rattle.sheet.specs.Tree.{done, one, fork, again, longestRun}
 use Rattle.sheet.specs.Sheets.{Sheet, variablesOf}
@@ -19,15 +18,16 @@ use Rattle.table.specs.Computed.{tableOf}
 use Rattle.table.specs.Adjoint.{Body, put, forwardPart, backwardOf, backwardPart, adjointTable}
 use Rattle.table.specs.RowBounds.{mostBackward}
 use Rattle.table.proofs.TableBounds.{EachRow, backward-row, forward-row, marked-run}
-use Rattle.machine.specs.Actions.{Setting}
+use Rattle.machine.specs.Actions.{Memory, Setting}
 use Rattle.machine.specs.Machine.{stepsOf, stateAfter}
-use Rattle.run.specs.Runs.{startOf, runOf}
+use Rattle.machine.specs.inner.RunsRows.{firstState}
+use Rattle.run.specs.Runs.{runOf}
 use Rattle.run.specs.inner.TableRuns.{mostStepsForward, mostStepsEach, enoughSteps}
 use Rattle.run.proofs.MachineFollows.{more-steps-same, steps-suffice}
 
 -- ---- steps
 
-row-stepped : EachRow 1 stepsOf
+pub row-stepped : EachRow 1 stepsOf
 unfolding stepsOf
 row-stepped row rest = refl
 
@@ -62,9 +62,9 @@ steps-within-run v t =
     let turn : Table = one (record { origin = ofTurningRound; action = turnRound }) (backwardPart v t done) in
     omega (arith, forward-steps t turn, backward-steps v t done)
 
-sheet-steps-within : (words : List ℕ) (sheet : Sheet) → read words ≡ given sheet → stepsOf (tableOf sheet) ≤ mostStepsEach * limit .longestRun + 1
+pub adjoint-steps : (words : List ℕ) (sheet : Sheet) → read words ≡ given sheet → suc (stepsOf (tableOf sheet)) ≤ enoughSteps
 unfolding tableOf marked markedBy
-sheet-steps-within words sheet e =
+adjoint-steps words sheet e =
     omega (
       arith,
       steps-within-run (variablesOf sheet) (marked sheet),
@@ -74,14 +74,11 @@ sheet-steps-within words sheet e =
 
 -- ---- enough
 
-pub accepted-steps-same : (A : Arithmetic) (setting : Setting A) (words : List ℕ) (sheet : Sheet) → read words ≡ given sheet
-    → (starts : List (A .Carrier)) (steps : ℕ) → enoughSteps ≤ steps
-    → stateAfter A steps setting (linesOf (tableOf sheet)) (startOf A sheet starts) ≡ runOf A (tableOf sheet) setting (startOf A sheet starts)
-unfolding runOf startOf
-accepted-steps-same A setting words sheet e starts steps h =
-    let table = tableOf sheet in
-    let start = startOf A sheet starts in
+pub enough-steps-same : (A : Arithmetic) (table : Table) (setting : Setting A) (start : Memory A) (steps : ℕ) → suc (stepsOf table) ≤ steps
+    → stateAfter A steps setting (linesOf table) (firstState A start) ≡ runOf A table setting (firstState A start)
+unfolding runOf
+enough-steps-same A table setting start steps h =
     let most = suc (stepsOf table) in
-    let all : steps ≡ most + (steps - most) = omega (arith, sheet-steps-within words sheet e) in
-    ap (λ n. stateAfter A n setting (linesOf table) start) all
-    ∙ more-steps-same A setting (linesOf table) most (steps - most) start (steps-suffice A table setting (start .memory))
+    let all : steps ≡ most + (steps - most) = omega arith in
+    ap (λ n. stateAfter A n setting (linesOf table) (firstState A start)) all
+    ∙ more-steps-same A setting (linesOf table) most (steps - most) (firstState A start) (steps-suffice A table setting start)

@@ -1,21 +1,21 @@
--- A loop that lays a list into a buffer from its first place on: zeros, start values, a result's parts.
+-- A loop that lays a list into a buffer from its first place on: zeros, start values, what a run starts from and its result in two halves.
 use Prim.Native.Nat.{ℕ, _+_, _-_, _≤_, _<_}
 use mathlib.Core.Path.{_≡_, refl, sym, ap, _∙_}
-use mathlib.Core.Bool.{cond}
-use mathlib.Core.List.{List, [], append-nil}
+use mathlib.Core.Bool.{Bool, cond}
+use mathlib.Core.List.{List, [], _++_, append-nil, append-assoc}
 use native.Mathlib.Nat.{zero-add}
 use native.Mathlib.Numerals.{add-one}
 use native.Mathlib.Omega.{arith}
-use lib.ListN.{length, getD, take, drop, set, replicate, length-set, length-drop, length-replicate, getD-replicate, drop-of-length-le}
-use lib.Seq.{paste, paste-zero, paste-suc, take-length, take-at, drop-at}
+use lib.ListN.{length, getD, take, drop, set, replicate, length-set, length-drop, length-append, length-replicate, getD-replicate, drop-of-length-le}
+use lib.Seq.{paste, paste-zero, paste-suc, take-length, take-at, drop-at, drop-drop}
 use borrow.Rule.Slice.PartAt.{part-to-end}
 use borrow.Rule.Slice.PartMut.{putMid, postOf}
 use Rattle.number.specs.Arithmetic.{Arithmetic}
-use Rattle.sheet.specs.Rows.{isIndependent}
 use Rattle.table.specs.Calls.{overwritten}
+use Rattle.machine.specs.Actions.{counting}
 use Rattle.machine.proofs.RoleLaws.{counting-length, counting-at}
-use Rattle.run.specs.Runs.{independentAdjoints, resultFrom}
-use Rattle.run.specs.inner.CallSteps.{ResultFits}
+use Rattle.run.specs.declared.Counted.{Counted}
+use Rattle.run.specs.inner.CallSteps.{countsOf, halvesOf, HalvesFit, ResultFits}
 
 module _ {X : Type 0} (front before : List X) where
   -- i places are laid
@@ -72,55 +72,68 @@ module _ {X : Type 0} (zero : X) (before : List X) where
       ∙ rw (drop-of-length-le before {i = length zeros} (omega arith)) (append-nil zeros)
 
 module _ (A : Arithmetic) where
-  module _ (roles : List ℕ) (adjoints before : List (A .Carrier)) where
-    abbrev pub PuttingAdjoints : ℕ → List (A .Carrier) → Type 0
-    PuttingAdjoints i now = Filling (independentAdjoints A roles adjoints) before i now
+  module _ (counts : ℕ → Bool) (roles : List ℕ) (numbers before : List (A .Carrier)) where
+    abbrev pub Putting : ℕ → List (A .Carrier) → Type 0
+    Putting i now = Filling (counting A counts roles numbers) before i now
 
-    put-length : length (independentAdjoints A roles adjoints) ≡ length roles
-    put-length = counting-length A isIndependent roles adjoints
+    put-length : length (counting A counts roles numbers) ≡ length roles
+    put-length = counting-length A counts roles numbers
 
-    pub putting-starts : length roles ≤ length before → PuttingAdjoints 0 before
-    putting-starts room = filling-starts (independentAdjoints A roles adjoints) before (rw put-length room)
+    pub putting-starts : length roles ≤ length before → Putting 0 before
+    putting-starts room = filling-starts (counting A counts roles numbers) before (rw put-length room)
 
-    pub putting-goes-on : (i : ℕ) (now : List (A .Carrier)) (x z : A .Carrier)
-        → x ≡ cond (isIndependent (getD roles i 0)) (getD adjoints i z) (A .zero)
+    pub putting-goes-on : (i : ℕ) (now : List (A .Carrier)) {counted : Bool} (x z : A .Carrier)
+        → counted ≡ counts (getD roles i 0)
+        → x ≡ cond counted (getD numbers i z) (A .zero)
         → i < length roles
-        → i < length adjoints
-        → PuttingAdjoints i now
-        → PuttingAdjoints (i + 1) (set now i x)
-    putting-goes-on i now x z is h there f =
-        filling-goes-on (independentAdjoints A roles adjoints) before i now x z
-        (is ∙ sym (counting-at A isIndependent roles adjoints i z h there))
+        → i < length numbers
+        → Putting i now
+        → Putting (i + 1) (set now i x)
+    putting-goes-on i now x z told is h there f =
+        filling-goes-on (counting A counts roles numbers) before i now x z
+        (is ∙ ap (λ b. cond b (getD numbers i z) (A .zero)) told ∙ sym (counting-at A counts roles numbers i z h there))
         (rw put-length h) f
 
-    pub putting-ends : (i : ℕ) (now : List (A .Carrier)) → length roles ≤ i → PuttingAdjoints i now
-        → now ≡ overwritten (independentAdjoints A roles adjoints) before
-    putting-ends i now h f = filling-ends (independentAdjoints A roles adjoints) before i now (rw put-length h) f
+    pub putting-ends : (i : ℕ) (now : List (A .Carrier)) → length roles ≤ i → Putting i now
+        → now ≡ overwritten (counting A counts roles numbers) before
+    putting-ends i now h f = filling-ends (counting A counts roles numbers) before i now (rw put-length h) f
 
-  -- ---- a result in its two halves
+  -- ---- two halves
 
-  module _ (roles : List ℕ) (copied store result : List (A .Carrier)) (fits : ResultFits roles copied store result) where
-    -- the first half laid, and the second half's place with the adjoints laid into it
-    pub result-written : (first second : List (A .Carrier)) → first ≡ overwritten copied result
-        → second
-        ≡ overwritten (independentAdjoints A roles (take (length store - length roles) (drop (length roles) store)))
-        (take (length first - length roles) (drop (length roles) first))
-        → putMid (length roles) (length first - length roles) first second ≡ resultFrom A roles copied store
-    unfolding overwritten
-    result-written first second is then =
+  module _ (role : Counted) (roles : List ℕ) (first second into : List (A .Carrier)) (fits : HalvesFit roles first second into) where
+    -- the first half laid, and the second half's place with the numbers laid into it
+    pub halves-laid : (now tail : List (A .Carrier)) → now ≡ overwritten first into
+        → tail ≡ overwritten (counting A (countsOf role) roles second) (take (length now - length roles) (drop (length roles) now))
+        → putMid (length roles) (length now - length roles) now tail ≡ overwritten (halvesOf A first role roles second) into
+    unfolding overwritten halvesOf
+    halves-laid now tail is then =
         let v = length roles in
-        let own = fits .copiedFits in
-        let adjoints = independentAdjoints A roles (drop v store) in
-        let counted : length adjoints ≡ v = put-length roles (drop v store) store in
-        let long : length result ≡ v + v = fits .resultFits ∙ omega arith in
-        let after : drop v first ≡ drop v result =
-        ap (drop v) is ∙ drop-at copied (drop (length copied) result) v own ∙ ap (λ n. drop n result) own in
-        let half : length (drop v result) ≤ v = omega (arith, length-drop v result) in
-        let none : drop v (drop v result) ≡ [] = drop-of-length-le (drop v result) half in
-        let whole : second ≡ adjoints =
-        then
-        ∙ rw (part-to-end store v, part-to-end first v, after, counted, none) (append-nil adjoints) in
-        let beyond : postOf v (length first - v) first ≡ [] =
-        drop-of-length-le (drop v first) {i = length first - v} (omega (arith, length-drop v first)) in
-        let before : take v first ≡ copied = ap (take v) is ∙ take-at copied (drop (length copied) result) v own in
-        rw (whole, beyond, before, append-nil adjoints)
+        let own = fits .firstFits in
+        let numbers = counting A (countsOf role) roles second in
+        let counted : length numbers ≡ v = counting-length A (countsOf role) roles second in
+        let after : drop v now ≡ drop v into =
+        ap (drop v) is ∙ drop-at first (drop (length first) into) v own ∙ ap (λ n. drop n into) own in
+        let whole : tail ≡ numbers ++ drop v (drop v into) = then ∙ rw (part-to-end now v, after, counted) in
+        let beyond : postOf v (length now - v) now ≡ [] =
+        drop-of-length-le (drop v now) {i = length now - v} (omega (arith, length-drop v now)) in
+        let before : take v now ≡ first = ap (take v) is ∙ take-at first (drop (length first) into) v own in
+        let both : length (first ++ numbers) ≡ v + v = length-append first numbers ∙ omega (arith, own, counted) in
+        rw (beyond, before, whole, both, append-nil (numbers ++ drop v (drop v into)), drop-drop v v into)
+        (sym (append-assoc first numbers (drop (v + v) into)))
+
+-- what is as long as its buffer leaves none of it
+pub all-overwritten : {X : Type 0} (front before : List X) → length before ≤ length front → overwritten front before ≡ front
+unfolding overwritten
+all-overwritten front before h = rw (drop-of-length-le before {i = length front} h) (append-nil front)
+
+-- a result's halves take the whole of its buffer
+pub halves-fit : {X : Type 0} {roles : List ℕ} {first second result : List X} → ResultFits roles first second result → HalvesFit roles first second result
+halves-fit fits = record { firstFits = fits .firstFits; secondFits = fits .secondFits; room = omega (arith, fits .resultFits) }
+
+pub result-laid : (A : Arithmetic) (role : Counted) {roles : List ℕ} {first second result : List (A .Carrier)} → ResultFits roles first second result
+    → overwritten (halvesOf A first role roles second) result ≡ halvesOf A first role roles second
+unfolding halvesOf
+result-laid A role {roles} {first} {second} {result} fits =
+    let numbers = counting A (countsOf role) roles second in
+    all-overwritten (first ++ numbers) result
+    (omega (arith, fits .resultFits, fits .firstFits, length-append first numbers, counting-length A (countsOf role) roles second))

@@ -1,4 +1,4 @@
--- As many repeats are open at every step of a run as stand open around its row, so no more than the sheet's blocks nest.
+-- As many repeats are open at every step of a run as stand open around its row, so no more than the table's blocks nest.
 use Prim.Native.Nat.{ℕ, zero, suc, pred, _+_, _≤_}
 use mathlib.Core.Path.{_≡_, refl, sym, ap, subst, _∙_}
 use mathlib.Core.Bool.{Bool, true, false}
@@ -8,23 +8,16 @@ use lib.ListN.{length, drop}
 use native.Mathlib.Omega.{arith}
 use Rattle.number.specs.Arithmetic.{Arithmetic}
 use Rattle.sheet.specs.Bounds.{limit}
-use Rattle.sheet.specs.Judging.{given}
 use Rattle.sheet.specs.Tree.{done, one, fork, again, rows, flat, basic, ifLine, elseLine, endIf, repeat, endRepeat, RowNumber}
-use Rattle.sheet.specs.Sheets.{Sheet, variablesOf}
-use Rattle.sheet.specs.Reading.{read}
-use Rattle.sheet.proofs.Depth.{deep, sheet-deep}
-use Rattle.sets.specs.Rounds.{setsOf, marked}
-use Rattle.sets.specs.Marks.{markBy, markedBy}
+use Rattle.sheet.proofs.Depth.{deep}
 use Rattle.table.specs.TableRows.{Table, TableLine, TableTest, linesOf}
-use Rattle.table.specs.Computed.{tableOf}
-use Rattle.table.proofs.TableBounds.{table-deep, marked-deep}
 use Rattle.machine.specs.Actions.{Attempt, through, halted, stuck, Memory, Setting, Stop, stoppingAt, Verdict, acted, tested}
 use Rattle.machine.specs.Machine.{itsElse, itsEnd, oneMore, seek, Repeat, State, Step, goesOn, ended, stops, sticks}
 use Rattle.machine.specs.Machine.{jump, afterAction, branchTo, afterTest, afterTurn, stepAt, step, ifItGoesOn, stateAfter}
 use Rattle.machine.specs.inner.RowsHanded.{Shallow}
+use Rattle.machine.specs.inner.RunsRows.{firstState}
 use Rattle.machine.proofs.LinesStand.{Branch, Stands, stands-at, FromEach, from-each-next, from-each-end}
 use Rattle.machine.proofs.LinesPassed.{past-line, past-tree, seek-else, seek-end}
-use Rattle.run.specs.Runs.{startOf}
 
 -- ---- how many repeats stand open before these lines: each is ended by one of them
 
@@ -183,23 +176,11 @@ module _ (lines : List TableLine) where
 -- ---- a whole table
 
 module _ (A : Arithmetic) (setting : Setting A) where
-  table-shallow : (t : Table) (memory : Memory A) → deep t ≤ limit .depth
-      → Shallow A setting (linesOf t) (record { at = record { index = 0 }; repeats = []; memory = memory })
+  pub table-shallow : (t : Table) (memory : Memory A) → deep t ≤ limit .depth
+      → Shallow A setting (linesOf t) (firstState A memory)
   unfolding OpenAfter openAt Starts linesOf
   table-shallow t memory h n state e =
       let start : Open (linesOf t) A (record { at = record { index = 0 }; repeats = []; memory = memory }) = record { many = sym (open-flat t []); starts = tt } in
       let o = subst (OpenAfter (linesOf t) A) e (steps-open (linesOf t) A setting (λ p. stands-at t p _ refl) n _ start) in
       let few = open-deep (limit .depth) t [] (from-each-end (AtMostOpen (limit .depth)) (omega arith)) (omega arith) (state .at .index) in
       omega (arith, o .many)
-
-  pub sheet-shallow : (words : List ℕ) (sheet : Sheet) → read words ≡ given sheet → (starts : List (A .Carrier))
-      → Shallow A setting (linesOf (tableOf sheet)) (startOf A sheet starts)
-  unfolding startOf tableOf marked markedBy
-  sheet-shallow words sheet e starts =
-      table-shallow (tableOf sheet) (startOf A sheet starts .memory)
-      (omega (
-        arith,
-        table-deep (variablesOf sheet) (marked sheet),
-        marked-deep (markBy (setsOf sheet)) (sheet .body) 0,
-        sheet-deep words sheet e,
-      ))

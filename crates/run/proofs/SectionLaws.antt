@@ -17,19 +17,17 @@ use Rattle.sheet.proofs.RowsCounted.{lines-counted}
 use Rattle.sheet.proofs.ReadingParts.{accepted}
 use Rattle.sheet.proofs.NamesPresent.{counts, count-judged}
 use Rattle.table.specs.RowBounds.{tableVariables, mostTableRows}
-use Rattle.table.specs.TableRows.{linesOf}
-use Rattle.table.specs.Computed.{tableOf}
-use Rattle.table.specs.Sizes.{tableRows}
+use Rattle.table.specs.TableRows.{Table, linesOf}
+use Rattle.table.specs.Sizes.{Needs}
 use Rattle.table.specs.declared.Plan.{Plan}
-use Rattle.table.proofs.PlanLaws.{planned-few}
+use Rattle.table.specs.inner.Plans.{PlanMadeFor}
 use Rattle.writer.specs.inner.JumpsNoted.{TableNoted}
 use Rattle.machine.specs.inner.RowsHanded.{Holds, Indexed}
-use Rattle.run.specs.declared.Rooms.{Rooms}
 use Rattle.run.specs.inner.CallSteps.{HasRoom}
 use Rattle.run.specs.inner.CallAnswers.{TableInPlace, SheetRoom, Ready, RunRoom}
 use Rattle.run.proofs.JumpsRight.{jumps-right}
 use Rattle.run.proofs.TableHeld.{table-holds}
-use Rattle.run.proofs.TableNames.{table-indexed}
+use Rattle.run.proofs.KnownNames.{KnownIn, known-indexed}
 
 -- the first of so many zeros are zeros
 take-zeros : {X : Type 0} (n m : ℕ) (zero : X) → n ≤ m → take n (replicate m zero) ≡ replicate n zero
@@ -38,15 +36,15 @@ take-zeros n m zero h =
     ap (λ k. take n (replicate k zero)) split ∙ ap (take n) (sym (replicate-append-replicate n (m - n) zero))
     ∙ take-at (replicate n zero) (replicate (m - n) zero) n (length-replicate n zero)
 
-record Sections (words : List ℕ) (shape : Shape) (sheet : Sheet) : Type 0 where
-  few : shape .variables ≤ limit .variables
-  fewConstants : shape .constants ≤ limit .constants
-  first : shape .«first_constant» ≡ 2 + shape .variables
-  constantsWithin : 2 + shape .variables + shape .constants ≤ length words
-  rolesAre : take (shape .variables) (drop 1 words) ≡ sheet .roles
-  constantsAre : take (shape .constants) (drop (2 + shape .variables) words) ≡ sheet .constants
+pub record Sections (words : List ℕ) (shape : Shape) (sheet : Sheet) : Type 0 where
+  pub few : shape .variables ≤ limit .variables
+  pub fewConstants : shape .constants ≤ limit .constants
+  pub first : shape .«first_constant» ≡ 2 + shape .variables
+  pub constantsWithin : 2 + shape .variables + shape .constants ≤ length words
+  pub rolesAre : take (shape .variables) (drop 1 words) ≡ sheet .roles
+  pub constantsAre : take (shape .constants) (drop (2 + shape .variables) words) ≡ sheet .constants
 
-sections : (words : List ℕ) (shape : Shape) (sheet : Sheet) → read words ≡ given sheet → shape ≡ shapeOf sheet → Sections words shape sheet
+pub sections : (words : List ℕ) (shape : Shape) (sheet : Sheet) → read words ≡ given sheet → shape ≡ shapeOf sheet → Sections words shape sheet
 unfolding shapeOf
 sections words shape sheet read is =
     let parts = accepted words sheet read in
@@ -65,11 +63,11 @@ sections words shape sheet read is =
     }
 
 -- what the plan's lengths leave room for
-pub sheet-room : {X : Type 0} {words : List ℕ} {t n m : ℕ} {marks came goes : List ℕ} {plan : Plan} (starts seeds result : List X)
-    → HasRoom words
+pub sheet-room : {X : Type 0} {needs : Sheet → Needs} {words : List ℕ} {t n m : ℕ} {marks came goes : List ℕ} {plan : Plan} (starts seeds result : List X)
+    → HasRoom needs words
     (record { table = t; values = n; turns = m; starts = length starts; seeds = length seeds; result = length result }) marks came goes plan
     → SheetRoom words plan starts seeds result
-sheet-room {words} {plan} starts seeds result room =
+sheet-room {words = words} {plan = plan} starts seeds result room =
     let made = room .made in
     let parts = sections words (plan .shape) (made .sheet) (made .accepted) (made .planned .shape) in
     record {
@@ -77,7 +75,6 @@ sheet-room {words} {plan} starts seeds result room =
       fewConstants = parts .fewConstants;
       first = parts .first;
       within = parts .constantsWithin;
-      fewRows = planned-few made;
       startsFit = room .startsFit;
       seedsFit = room .seedsFit;
       resultFits = room .resultFits;
@@ -134,18 +131,19 @@ module _ (words : List ℕ) (plan : Plan) where
       ∙ length-take-le (shape .constants) (drop first words) (omega (arith, length-drop first words, room .first)) in
       rw (store, constants) indexed
 
-  pub written-indexed : {table beyond : List ℕ} {sheet : Sheet} {buffer : List ℕ} → TableInPlace words plan table beyond sheet buffer
+  pub place-indexed : {its : Table} {table beyond : List ℕ} {sheet : Sheet} {buffer : List ℕ}
+      → KnownIn (length (sheet .roles)) (length (sheet .constants)) its → TableInPlace its words plan table beyond sheet buffer
       → Indexed table (plan .rows) (tableVariables (shape .variables)) (shape .constants)
-  unfolding tableRows linesOf tableOf shapeOf
-  written-indexed {table} {sheet = sheet} {buffer} written =
-      let holds : Holds table (linesOf (tableOf sheet)) = rw (written .written) (table-holds (tableOf sheet) buffer) in
-      let counted : length (linesOf (tableOf sheet)) ≡ plan .rows = lines-counted (tableOf sheet) ∙ sym (written .rows) in
-      rw (sym counted, written .shape) (table-indexed words sheet (written .accepted) table holds)
+  unfolding linesOf shapeOf
+  place-indexed {its} {table} {sheet = sheet} {buffer} known written =
+      let holds : Holds table (linesOf its) = rw (written .written) (table-holds its buffer) in
+      let counted : length (linesOf its) ≡ plan .rows = lines-counted its ∙ sym (written .rows) in
+      rw (sym counted, written .shape) (known-indexed (length (sheet .roles)) (length (sheet .constants)) its known table holds)
 
-  pub ready-to-run : {table beyond : List ℕ} {sheet : Sheet} {buffer : List ℕ} → TableInPlace words plan table beyond sheet buffer
-      → Ready sheet rolesPart constantsPart table (plan .rows) beyond
-  unfolding tableRows linesOf tableOf
-  ready-to-run {table} {sheet = sheet} {buffer} written =
+  pub ready-to-run : {its : Table} {table beyond : List ℕ} {sheet : Sheet} {buffer : List ℕ} → TableInPlace its words plan table beyond sheet buffer
+      → Ready its sheet rolesPart constantsPart table (plan .rows) beyond
+  unfolding linesOf
+  ready-to-run {its} {table} {sheet = sheet} {buffer} written =
       let parts = sections words shape sheet (written .accepted) (written .shape) in
       let first = shape .«first_constant» in
       let roles : 1 + shape .variables - 1 ≡ shape .variables = omega arith in
@@ -156,30 +154,22 @@ module _ (words : List ℕ) (plan : Plan) where
         rolesAre = ap (λ n. take n (drop 1 words)) roles ∙ parts .rolesAre;
         constantsAre =
             ap (λ n. take n (drop first words)) constants ∙ ap (λ n. take (shape .constants) (drop n words)) (parts .first) ∙ parts .constantsAre;
-        holds = rw (written .written) (table-holds (tableOf sheet) buffer);
-        counted = lines-counted (tableOf sheet) ∙ sym (written .rows);
+        holds = rw (written .written) (table-holds its buffer);
+        counted = lines-counted its ∙ sym (written .rows);
         jumps = written .jumps;
       }
 
--- of a planned sheet whose table has been written over a buffer, and its jumps over zeros
-module _ {words : List ℕ} {rooms : Rooms} {marks came goes : List ℕ} {plan : Plan} (room : HasRoom words rooms marks came goes plan)
-    {buffer table beyond : List ℕ}
-    (writes : (sheet : Sheet) → read words ≡ given sheet → TableNoted sheet buffer table (replicate mostTableRows 0) beyond) where
-  pub written-planned : TableInPlace words plan table beyond (room .made .sheet) buffer
-  unfolding tableRows tableOf
-  written-planned =
-      let made = room .made in
-      let noted = writes (made .sheet) (made .accepted) in
-      let zeros : List ℕ = replicate mostTableRows 0 in
-      let few : rows (tableOf (made .sheet)) ≤ length zeros =
-      omega (arith, planned-few made, made .planned .rows, length-replicate {A = ℕ} mostTableRows 0) in
-      record {
-        accepted = made .accepted;
-        shape = made .planned .shape;
-        rows = made .planned .rows;
-        written = noted .words;
-        jumps = jumps-right (tableOf (made .sheet)) zeros beyond few (noted .jumps);
-      }
-
-  pub room-indexed : Indexed table (plan .rows) (tableVariables (plan .shape .variables)) (plan .shape .constants)
-  room-indexed = written-indexed words plan written-planned
+-- a table of a planned sheet that has been written over a buffer, and its jumps over zeros
+pub table-in-place : {needs : Sheet → Needs} {words : List ℕ} {plan : Plan} {marks came goes : List ℕ} (made : PlanMadeFor needs words plan marks came goes)
+    (its : Table) → needs (made .sheet) .rows ≡ rows its → rows its ≤ mostTableRows
+    → {buffer table beyond : List ℕ} → TableNoted its buffer table (replicate mostTableRows 0) beyond
+    → TableInPlace its words plan table beyond (made .sheet) buffer
+table-in-place made its counted few {beyond = beyond} noted =
+    let zeros : List ℕ = replicate mostTableRows 0 in
+    record {
+      accepted = made .accepted;
+      shape = made .planned .shape;
+      rows = made .planned .rows ∙ counted;
+      written = noted .words;
+      jumps = jumps-right its zeros beyond (omega (arith, few, length-replicate {A = ℕ} mostTableRows 0)) (noted .jumps);
+    }

@@ -1,18 +1,19 @@
-// What a call does to whole buffers before and after its run: zeros over a stack, the start values in, the result out.
+// What a call does to whole buffers before and after its run: zeros over a stack, what the run starts from in, the result out.
 ghost use mathlib.Core.Path.{_≡_};
 ghost use Prim.Native.Nat.{_≤_};
 ghost use mathlib.Core.Bool.{cond};
 ghost use lib.ListN.{length, replicate};
 ghost use Rattle.number.specs.Doubles.{doubles};
 ghost use Rattle.number.specs.Residues.{residues};
-ghost use Rattle.sheet.specs.Rows.{isIndependent};
 ghost use Rattle.table.specs.Calls.{overwritten};
-ghost use Rattle.run.specs.Runs.{independentAdjoints, resultFrom};
-ghost use Rattle.run.specs.inner.CallSteps.{ResultFits};
+ghost use Rattle.machine.specs.Actions.{counting};
+ghost use Rattle.run.specs.inner.CallSteps.{countsOf, HalvesFit, halvesOf};
+use super::Counted;
 use number::double;
+use sheet::is_dependent;
 use sheet::is_independent;
 
-// The originals, their adjoints, t and u.
+// The originals, their adjoints or rates, t and u.
 pub const STORE: usize = 2 * sheet::MAX_VARIABLES + 2;
 
 // As many steps as suffice for any sheet: for each that W counts one more than a row's rows, as an "if" block takes; row 17 and the end.
@@ -70,59 +71,73 @@ pub fn copy_residues(from: &[u32], into: &mut [u32])
     }
 }
 
-fn double_or_zero(role: u16, adjoint: f64) -> f64
-    ensures { λ r. ⌜ r ≡ cond (isIndependent role) adjoint (doubles .zero) ⌝ }
+fn counts(counted: Counted, role: u16) -> bool
+    ensures { λ r. ⌜ r ≡ countsOf counted role ⌝ }
 {
-    if is_independent(role) {
-        adjoint
-    } else {
-        double::zero()
+    match counted {
+        Counted::Independents => is_independent(role),
+        Counted::Dependents => is_dependent(role),
     }
 }
 
-fn residue_or_zero(role: u16, adjoint: u32) -> u32
-    ensures { λ r. ⌜ r ≡ cond (isIndependent role) adjoint (residues .zero) ⌝ }
+fn double_or_zero(counts: bool, number: f64) -> f64
+    ensures { λ r. ⌜ r ≡ cond counts number (doubles .zero) ⌝ }
 {
-    if is_independent(role) { adjoint } else { 0 }
+    if counts { number } else { double::zero() }
 }
 
-fn put_double_adjoints(roles: &[u16], adjoints: &[f64], into: &mut [f64])
-    requires { ⌜ length (now roles) ≤ length (now adjoints) ⌝ ∗ ⌜ length (now roles) ≤ length (now into) ⌝ }
-    ensures { λ r. ⌜ now (into .exit) ≡ overwritten (independentAdjoints doubles (now (roles .entry)) (now (adjoints .entry))) (now (into .entry)) ⌝ }
+fn residue_or_zero(counts: bool, number: u32) -> u32
+    ensures { λ r. ⌜ r ≡ cond counts number (residues .zero) ⌝ }
+{
+    if counts { number } else { 0 }
+}
+
+// The numbers where the role counts, zeros elsewhere.
+pub fn put_doubles(counted: Counted, roles: &[u16], numbers: &[f64], into: &mut [f64])
+    requires { ⌜ length (now roles) ≤ length (now numbers) ⌝ ∗ ⌜ length (now roles) ≤ length (now into) ⌝ }
+    ensures { λ r. ⌜ now (into .exit) ≡ overwritten (counting doubles (countsOf counted) (now (roles .entry)) (now (numbers .entry))) (now (into .entry)) ⌝ }
 {
     let mut i: usize = 0;
     while i < roles.len() {
-        into[i] = double_or_zero(roles[i], adjoints[i]);
+        into[i] = double_or_zero(counts(counted, roles[i]), numbers[i]);
         i += 1;
     }
 }
 
-fn put_residue_adjoints(roles: &[u16], adjoints: &[u32], into: &mut [u32])
-    requires { ⌜ length (now roles) ≤ length (now adjoints) ⌝ ∗ ⌜ length (now roles) ≤ length (now into) ⌝ }
-    ensures { λ r. ⌜ now (into .exit) ≡ overwritten (independentAdjoints residues (now (roles .entry)) (now (adjoints .entry))) (now (into .entry)) ⌝ }
+pub fn put_residues(counted: Counted, roles: &[u16], numbers: &[u32], into: &mut [u32])
+    requires { ⌜ length (now roles) ≤ length (now numbers) ⌝ ∗ ⌜ length (now roles) ≤ length (now into) ⌝ }
+    ensures { λ r. ⌜ now (into .exit) ≡ overwritten (counting residues (countsOf counted) (now (roles .entry)) (now (numbers .entry))) (now (into .entry)) ⌝ }
 {
     let mut i: usize = 0;
     while i < roles.len() {
-        into[i] = residue_or_zero(roles[i], adjoints[i]);
+        into[i] = residue_or_zero(counts(counted, roles[i]), numbers[i]);
         i += 1;
     }
 }
 
-// The result of a run that has finished: what row 17 copied, then each independent's adjoint.
-pub fn write_doubles(roles: &[u16], copied: &[f64], store: &[f64], result: &mut [f64])
-    requires { ⌜ ResultFits (now roles) (now copied) (now store) (now result) ⌝ }
-    ensures { λ r. ⌜ now (result .exit) ≡ resultFrom doubles (now (roles .entry)) (now (copied .entry)) (now (store .entry)) ⌝ }
+// A number for each variable, then a second one for each, where its role counts.
+pub fn lay_doubles(first: &[f64], counted: Counted, roles: &[u16], second: &[f64], into: &mut [f64])
+    requires { ⌜ HalvesFit (now roles) (now first) (now second) (now into) ⌝ }
+    ensures { λ r. ⌜ now (into .exit)
+        ≡ overwritten (halvesOf doubles (now (first .entry)) counted (now (roles .entry)) (now (second .entry))) (now (into .entry)) ⌝ }
 {
     let variables = roles.len();
-    copy_doubles(copied, result);
-    put_double_adjoints(roles, &store[variables..], &mut result[variables..]);
+    copy_doubles(first, into);
+    put_doubles(counted, roles, second, &mut into[variables..]);
 }
 
-pub fn write_residues(roles: &[u16], copied: &[u32], store: &[u32], result: &mut [u32])
-    requires { ⌜ ResultFits (now roles) (now copied) (now store) (now result) ⌝ }
-    ensures { λ r. ⌜ now (result .exit) ≡ resultFrom residues (now (roles .entry)) (now (copied .entry)) (now (store .entry)) ⌝ }
+pub fn lay_residues(
+    first: &[u32],
+    counted: Counted,
+    roles: &[u16],
+    second: &[u32],
+    into: &mut [u32],
+)
+    requires { ⌜ HalvesFit (now roles) (now first) (now second) (now into) ⌝ }
+    ensures { λ r. ⌜ now (into .exit)
+        ≡ overwritten (halvesOf residues (now (first .entry)) counted (now (roles .entry)) (now (second .entry))) (now (into .entry)) ⌝ }
 {
     let variables = roles.len();
-    copy_residues(copied, result);
-    put_residue_adjoints(roles, &store[variables..], &mut result[variables..]);
+    copy_residues(first, into);
+    put_residues(counted, roles, second, &mut into[variables..]);
 }

@@ -6,13 +6,15 @@ ghost use lib.ListN.{length};
 ghost use Rattle.number.specs.Residues.{residues};
 ghost use Rattle.sheet.specs.Sheets.{Sheet};
 ghost use Rattle.table.specs.RowBounds.{tableVariables};
+ghost use Rattle.table.specs.Computed.{tableOf};
 ghost use Rattle.machine.specs.inner.RowsHanded.{Indexed};
 ghost use Rattle.machine.specs.inner.Buffers.{cellsOf};
 ghost use Rattle.run.specs.Runs.{lentOf, ranOf};
 ghost use Rattle.run.specs.Calls.{run};
-ghost use Rattle.run.specs.inner.CallSteps.{ResultFits, resultAt};
+ghost use Rattle.run.specs.inner.CallSteps.{ResultFits, resultAt, halvesOf};
 ghost use Rattle.run.specs.inner.TableRuns.{RunsTable};
-ghost use Rattle.run.specs.inner.CallAnswers.{StacksCleared, RunRoom, Ready, SheetRoom, TableInPlace, RanTo};
+ghost use Rattle.run.specs.inner.CallAnswers.{StacksCleared, RunRoom, Ready, SheetRoom, TableInPlace, AdjointRanTo};
+use super::Counted;
 use super::Judged;
 use super::Rooms;
 use super::buffers;
@@ -32,14 +34,21 @@ fn clear_stacks(values: &mut [u32], turns: &mut [u16])
     buffers::clear_turns(turns);
 }
 
-// A run that has finished has a result; any other leaves it as it was.
-fn write_result(end: Ended, roles: &[u16], copied: &[u32], store: &[u32], result: &mut [u32])
-    requires { ⌜ ResultFits (now roles) (now copied) (now store) (now result) ⌝ }
+// A run that has finished has a result, in two halves; any other leaves it as it was.
+pub fn write_result(
+    end: Ended,
+    first: &[u32],
+    counted: Counted,
+    roles: &[u16],
+    second: &[u32],
+    result: &mut [u32],
+)
+    requires { ⌜ ResultFits (now roles) (now first) (now second) (now result) ⌝ }
     ensures { λ r. ⌜ now (result .exit)
-        ≡ resultAt residues end (now (roles .entry)) (now (copied .entry)) (now (store .entry)) (now (result .entry)) ⌝ }
+        ≡ resultAt end (halvesOf residues (now (first .entry)) counted (now (roles .entry)) (now (second .entry))) (now (result .entry)) ⌝ }
 {
     match end {
-        Ended::Finished => buffers::write_residues(roles, copied, store, result),
+        Ended::Finished => buffers::lay_residues(first, counted, roles, second, result),
         Ended::Stopped(_) => {}
         Ended::Stuck => {}
         Ended::Unfinished => {}
@@ -47,7 +56,7 @@ fn write_result(end: Ended, roles: &[u16], copied: &[u32], store: &[u32], result
 }
 
 // A table's run between empty stacks, from what its store holds: how it ended. What a run starts from and what its result is are the caller's.
-fn run_table(
+pub fn run_table(
     roles: &[u16],
     constants: &[u16],
     table: &[u16],
@@ -103,8 +112,8 @@ fn run_in(
 ) -> Reply
     requires { ⌜ Indexed (now table) rows (length (now store)) (length (now constants)) ⌝ ∗ ⌜ RunRoom residues (now roles) (now starts) (now seeds) (now store) (now copied) (now result) ⌝ }
     ensures { λ r. ⌜ ((sheet : Sheet) (buffer : List ℕ)
-        → Ready sheet (now (roles .entry)) (now (constants .entry)) (now (table .entry)) rows (now (beyond .entry))
-        → RanTo residues sheet buffer (now (starts .entry)) (now (seeds .entry)) (now (values .entry)) (now (turns .entry)) (now (result .entry))
+        → Ready (tableOf sheet) sheet (now (roles .entry)) (now (constants .entry)) (now (table .entry)) rows (now (beyond .entry))
+        → AdjointRanTo residues sheet buffer (now (starts .entry)) (now (seeds .entry)) (now (values .entry)) (now (turns .entry)) (now (result .entry))
         r (now (values .exit)) (now (turns .exit)) (now (result .exit))) ⌝ }
 {
     buffers::copy_residues(starts, store);
@@ -120,7 +129,15 @@ fn run_in(
         turns,
         copied,
     );
-    write_result(end, roles, copied, store, result);
+    let variables = roles.len();
+    write_result(
+        end,
+        copied,
+        Counted::Independents,
+        roles,
+        &store[variables..],
+        result,
+    );
     refusals::answer_end(end)
 }
 
@@ -137,8 +154,8 @@ fn run_written(
     result: &mut [u32],
 ) -> Reply
     requires { ⌜ Indexed (now table) (plan .rows) (tableVariables (plan .shape .variables)) (plan .shape .constants) ⌝ ∗ ⌜ SheetRoom (now words) plan (now starts) (now seeds) (now result) ⌝ }
-    ensures { λ r. ⌜ ((sheet : Sheet) (buffer : List ℕ) → TableInPlace (now (words .entry)) plan (now (table .entry)) (now (beyond .entry)) sheet buffer
-        → RanTo residues sheet buffer (now (starts .entry)) (now (seeds .entry)) (now (values .entry)) (now (turns .entry)) (now (result .entry))
+    ensures { λ r. ⌜ ((sheet : Sheet) (buffer : List ℕ) → TableInPlace (tableOf sheet) (now (words .entry)) plan (now (table .entry)) (now (beyond .entry)) sheet buffer
+        → AdjointRanTo residues sheet buffer (now (starts .entry)) (now (seeds .entry)) (now (values .entry)) (now (turns .entry)) (now (result .entry))
         r (now (values .exit)) (now (turns .exit)) (now (result .exit))) ⌝ }
 {
     let shape = plan.shape;
@@ -191,7 +208,8 @@ pub fn run_audit(
         seeds: seeds.len(),
         result: result.len(),
     };
-    match refusals::judge(words, rooms, &mut marks, &mut came, &mut goes) {
+    let planned = table::plan_sheet(words, &mut marks, &mut came, &mut goes);
+    match refusals::judge(planned, rooms) {
         Judged::No(answer) => answer,
         Judged::HasRoom(plan) => {
             let mut beyond = [0u16; MAX_TABLE_ROWS];

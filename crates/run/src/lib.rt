@@ -1,9 +1,9 @@
-// The calls that run a sheet, in both arithmetics, held against `run` (specs/Calls.antt): refusals first, then the table, the machine's run of it
-// (the crate machine), and the result.
-mod buffers;
-mod calls_audit;
-mod calls_double;
-mod refusals;
+// The calls that run a sheet's adjoint table, in both arithmetics, held against `run` (specs/Calls.antt): refusals first, then the table, the
+// machine's run of it (the crate machine), and the result. What is no part of the adjoint alone is there for the runs of other tables.
+pub mod buffers;
+pub mod calls_audit;
+pub mod calls_double;
+pub mod refusals;
 
 pub use calls_audit::run_audit;
 pub use calls_double::run_double;
@@ -12,7 +12,7 @@ use table::Plan;
 use table::Reply;
 
 // The lengths of what a run is lent.
-struct Rooms {
+pub struct Rooms {
     pub table: usize,
     pub values: usize,
     pub turns: usize,
@@ -22,7 +22,7 @@ struct Rooms {
 }
 
 // What refuses a planned sheet's run, refusals 8 to 11. A start value or seed that isn't finite has its place.
-enum Unfit {
+pub enum Unfit {
     SmallTable,
     SmallValueStack,
     SmallTurnStack,
@@ -32,13 +32,19 @@ enum Unfit {
     NotFinite(usize),
 }
 
-enum Fit {
+pub enum Fit {
     No(Unfit),
     Fits,
 }
 
 // What refusals 1 to 10 come to: the first one's answer, or the plan of a sheet that has room.
-enum Judged {
+pub enum Judged {
     No(Reply),
     HasRoom(Plan),
+}
+
+// The roles at which numbers are read or put; the others' are 0.
+pub enum Counted {
+    Independents,
+    Dependents,
 }

@@ -1,9 +1,12 @@
 // Refusals 1 to 11, judged one after another, and the numbers 9 to 12.
 ghost use mathlib.Core.Path.{_≡_};
-ghost use mathlib.Core.List.{_++_};
-ghost use Prim.Native.Nat.{_+_, _^_, _<_};
+ghost use mathlib.Core.List.{List, _++_};
+ghost use Prim.Native.Nat.{ℕ, _+_, _^_, _<_};
 ghost use lib.ListN.{length};
 ghost use Rattle.number.specs.Doubles.{doubles};
+ghost use Rattle.sheet.specs.Sheets.{Sheet};
+ghost use Rattle.table.specs.Sizes.{Needs};
+ghost use Rattle.table.specs.inner.Plans.{PlanSaysFor};
 ghost use Rattle.run.specs.Calls.{allAdmitted};
 ghost use Rattle.run.specs.inner.CallSteps.{fitSaid, unfitRefusal, tableFits, stacksFit, lengthsFit, roomsFit, Answers, JudgedAs, answerAt};
 use super::Fit;
@@ -12,7 +15,6 @@ use super::Rooms;
 use super::Unfit;
 use machine::Ended;
 use number::double;
-use sheet::MAX_ROWS;
 use table::Plan;
 use table::Planned;
 use table::Reply;
@@ -53,7 +55,7 @@ fn stacks_fit(values: usize, value_room: usize, turns: usize, turn_room: usize) 
 }
 
 // 10
-fn lengths_fit(variables: usize, starts: usize, seeds: usize, result: usize) -> Fit
+pub fn lengths_fit(variables: usize, starts: usize, seeds: usize, result: usize) -> Fit
     ensures { λ r. ⌜ fitSaid r ≡ lengthsFit variables starts seeds result ⌝ }
 {
     if starts != variables {
@@ -144,17 +146,12 @@ pub fn answer_no(why: Unfit) -> Reply
     }
 }
 
-// 1 to 10: the sheet is planned, and what is lent is held against its plan.
-pub fn judge(
-    words: &[u16],
-    rooms: Rooms,
-    marks: &mut [u8; MAX_ROWS],
-    came: &mut [u16; MAX_ROWS],
-    goes: &mut [u16; MAX_ROWS],
-) -> Judged
-    ensures { λ r. ⌜ JudgedAs (now (words .entry)) rooms (now (marks .exit)) (now (came .exit)) (now (goes .exit)) r ⌝ }
+// 1 to 10: what is lent is held against the sheet's plan, whatever its table needs.
+pub fn judge(planned: Planned, rooms: Rooms) -> Judged
+    ensures { λ r. ⌜ ((needs : Sheet → Needs) (words marks came goes : List ℕ) → PlanSaysFor needs words marks came goes planned
+        → JudgedAs needs words rooms marks came goes r) ⌝ }
 {
-    match table::plan_sheet(words, marks, came, goes) {
+    match planned {
         Planned::Refused(why) => Judged::No(Reply {
             number: sheet::number_of(why),
             place: sheet::place_of(why),

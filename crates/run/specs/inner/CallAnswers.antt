@@ -6,51 +6,48 @@ use lib.ListN.{length, replicate}
 use Rattle.number.specs.Arithmetic.{Arithmetic}
 use Rattle.sheet.specs.Bounds.{limit}
 use Rattle.sheet.specs.Judging.{given}
-use Rattle.sheet.specs.Sheets.{Sheet, variablesOf}
+use Rattle.sheet.specs.Sheets.{Sheet}
 use Rattle.sheet.specs.Reading.{read}
 use Rattle.sheet.specs.Answers.{shapeOf}
-use Rattle.sets.specs.Rounds.{marked}
-use Rattle.table.specs.RowBounds.{tableVariables, mostTableRows}
-use Rattle.table.specs.TableRows.{linesOf, tableWords}
-use Rattle.table.specs.Computed.{tableOf}
-use Rattle.table.specs.Sizes.{tableRows}
+use Rattle.sheet.specs.Tree.{rows as rowsOf}
+use Rattle.table.specs.RowBounds.{tableVariables}
+use Rattle.table.specs.TableRows.{Table, linesOf, tableWords}
 use Rattle.table.specs.Calls.{overwritten}
 use Rattle.table.specs.declared.Reply.{Reply}
 use Rattle.table.specs.declared.Plan.{Plan}
 use Rattle.machine.specs.inner.RowsHanded.{Holds, Jumps}
-use Rattle.run.specs.Runs.{lentOf, ranOf}
+use Rattle.run.specs.Runs.{Lent, lentOf, ranOf, Job}
 use Rattle.run.specs.Calls.{ranBy, adjointJob}
 
 -- ---- a sheet whose table has been written
 
--- the sheet that was planned, its table over a buffer, and the table's jumps
-pub record TableInPlace (words : List ℕ) (plan : Plan) (table beyond : List ℕ) (sheet : Sheet) (buffer : List ℕ) : Type 0 where
+-- the sheet that was planned, this table of it over a buffer, and the table's jumps
+pub record TableInPlace (its : Table) (words : List ℕ) (plan : Plan) (table beyond : List ℕ) (sheet : Sheet) (buffer : List ℕ) : Type 0 where
   pub accepted : read words ≡ given sheet
   pub shape : plan .shape ≡ shapeOf sheet
-  pub rows : plan .rows ≡ tableRows (variablesOf sheet) (marked sheet)
-  pub written : table ≡ overwritten (tableWords (tableOf sheet)) buffer
-  pub jumps : Jumps (linesOf (tableOf sheet)) beyond
+  pub rows : plan .rows ≡ rowsOf its
+  pub written : table ≡ overwritten (tableWords its) buffer
+  pub jumps : Jumps (linesOf its) beyond
 
--- the sections and lists of a planned sheet are as long as its plan says, and it has no more rows than any sheet
+-- the sections and lists of a planned sheet are as long as its plan says
 pub record SheetRoom {X : Type 0} (words : List ℕ) (plan : Plan) (starts seeds result : List X) : Type 0 where
   pub few : plan .shape .variables ≤ limit .variables
   pub fewConstants : plan .shape .constants ≤ limit .constants
   pub first : plan .shape .«first_constant» ≡ 2 + plan .shape .variables
   pub within : 2 + plan .shape .variables + plan .shape .constants ≤ length words
-  pub fewRows : plan .rows ≤ mostTableRows
   pub startsFit : length starts ≡ plan .shape .variables
   pub seedsFit : length seeds ≡ plan .shape .variables
   pub resultFits : length result ≡ 2 * plan .shape .variables
 
--- an accepted sheet's sections, and its table's rows in a buffer with their jumps
-pub record Ready (sheet : Sheet) (roles constants table : List ℕ) (rows : ℕ) (beyond : List ℕ) : Type 0 where
+-- an accepted sheet's sections, and the rows of this table of it in a buffer with their jumps
+pub record Ready (its : Table) (sheet : Sheet) (roles constants table : List ℕ) (rows : ℕ) (beyond : List ℕ) : Type 0 where
   pub words : List ℕ
   pub accepted : read words ≡ given sheet
   pub rolesAre : roles ≡ sheet .roles
   pub constantsAre : constants ≡ sheet .constants
-  pub holds : Holds table (linesOf (tableOf sheet))
-  pub counted : length (linesOf (tableOf sheet)) ≡ rows
-  pub jumps : Jumps (linesOf (tableOf sheet)) beyond
+  pub holds : Holds table (linesOf its)
+  pub counted : length (linesOf its) ≡ rows
+  pub jumps : Jumps (linesOf its) beyond
 
 module _ (A : Arithmetic) where
   -- lists of the lengths that the roles ask, zeros for the variables of a table, and room for the values that row 17 copies out
@@ -67,10 +64,15 @@ module _ (A : Arithmetic) where
     pub valuesAre : valuesAfter ≡ replicate (length values) (A .zero)
     pub turnsAre : turnsAfter ≡ replicate (length turns) 0
 
-  -- what is answered and left is what the run of the sheet's table, written over a buffer, comes to
-  abbrev pub RanTo : Sheet → (buffer : List ℕ) → (starts seeds before : List (A .Carrier)) → (turnsBefore : List ℕ)
+  -- what is answered and left is what the job's run comes to, its table written over the one lent
+  abbrev pub RanTo : Job A → Lent A → (answer : Reply) → (after : List (A .Carrier)) → (turnsAfter : List ℕ) → (resultAfter : List (A .Carrier)) → Type 0
+  RanTo job lent answer after turnsAfter resultAfter =
+      ranOf A answer (lentOf A (overwritten (tableWords (job .table)) (lent .table)) after turnsAfter resultAfter) ≡ ranBy A job lent
+
+  -- of a sheet's own adjoint table
+  abbrev pub AdjointRanTo : Sheet → (buffer : List ℕ) → (starts seeds before : List (A .Carrier)) → (turnsBefore : List ℕ)
       → (resultBefore : List (A .Carrier)) → (answer : Reply)
       → (after : List (A .Carrier)) → (turnsAfter : List ℕ) → (resultAfter : List (A .Carrier)) → Type 0
-  RanTo sheet buffer starts seeds before turnsBefore resultBefore answer after turnsAfter resultAfter =
-      ranOf A answer (lentOf A (overwritten (tableWords (tableOf sheet)) buffer) after turnsAfter resultAfter)
-      ≡ ranBy A (adjointJob A starts seeds (lentOf A buffer before turnsBefore resultBefore) sheet) (lentOf A buffer before turnsBefore resultBefore)
+  AdjointRanTo sheet buffer starts seeds before turnsBefore resultBefore =
+      let lent = lentOf A buffer before turnsBefore resultBefore in
+      RanTo (adjointJob A starts seeds lent sheet) lent

@@ -1,7 +1,8 @@
 -- The steps of a call: refusals 1 to 11 one by one, an answer's number and place, and what is laid into and read out of whole buffers.
 use Prim.Native.Nat.{ℕ, _*_, _≤_}
 use mathlib.Core.Path.{_≡_}
-use mathlib.Core.List.{List}
+use mathlib.Core.Bool.{Bool}
+use mathlib.Core.List.{List, _++_}
 use lib.ListN.{length}
 use lib.Dec.{leb, eqb}
 use Rattle.number.specs.Arithmetic.{Arithmetic}
@@ -9,23 +10,24 @@ use Rattle.number.specs.Doubles.{doubles}
 use Rattle.sheet.specs.Judging.{Answer, refused, given, _>>=_, unless}
 use Rattle.sheet.specs.Refusals.{Refusal, numberOf, placeOf}
 use Rattle.sheet.specs.Refusals.{smallTable, smallValueStack, smallTurnStack, wrongStarts, wrongSeeds, wrongResult, notFiniteGiven, notFiniteResult}
+use Rattle.sheet.specs.Rows.{isIndependent, isDependent}
 use Rattle.sheet.specs.Sheets.{Sheet, variablesOf}
-use Rattle.sets.specs.Rounds.{marked}
-use Rattle.table.specs.Computed.{valuesFor, turnsFor, needsOf}
-use Rattle.table.specs.Sizes.{valuesNeeded, turnsNeeded, tableRoom}
+use Rattle.table.specs.Sizes.{Needs, tableRoom}
 use Rattle.table.specs.Calls.{readFor}
-use Rattle.table.specs.inner.Plans.{PlanMade}
+use Rattle.table.specs.inner.Plans.{PlanMadeFor}
 use Rattle.table.specs.declared.Reply as answered
 use Rattle.table.specs.declared.Plan.{Plan}
+use Rattle.machine.specs.Actions.{counting}
 use Rattle.machine.specs.declared.Ended.{Ended}
 use Rattle.machine.specs.declared.Ended.the-variants as ended
-use Rattle.run.specs.Runs.{resultFrom}
 use Rattle.run.specs.Calls.{stuckNumber}
 use Rattle.run.specs.declared.Rooms.{Rooms}
 use Rattle.run.specs.declared.Judged.{Judged}
 use Rattle.run.specs.declared.Judged.the-variants as judged
 use Rattle.run.specs.declared.Unfit.{Unfit}
 use Rattle.run.specs.declared.Unfit.the-variants as unfit
+use Rattle.run.specs.declared.Counted.{Counted}
+use Rattle.run.specs.declared.Counted.the-variants as counted
 use Rattle.run.specs.declared.Fit.{Fit}
 use Rattle.run.specs.declared.Fit.the-variants as fit
 
@@ -55,12 +57,12 @@ roomsFit plan rooms = do
   _ ← stacksFit (plan .values) (rooms .values) (plan .turns) (rooms .turns)
   lengthsFit (plan .shape .variables) (rooms .starts) (rooms .seeds) (rooms .result)
 
--- 1 to 10, of the words themselves
-unfoldable pub readWithRoom : (words : List ℕ) → Rooms → Answer Sheet
-unfolding readFor marked valuesNeeded turnsNeeded
-readWithRoom words rooms = do
-  sheet ← readFor needsOf words (rooms .table)
-  _ ← stacksFit (valuesFor sheet) (rooms .values) (turnsFor sheet) (rooms .turns)
+-- 1 to 10, of the words themselves, where a sheet needs so much
+unfoldable pub readWithRoom : (needs : Sheet → Needs) → (words : List ℕ) → Rooms → Answer Sheet
+unfolding readFor
+readWithRoom needs words rooms = do
+  sheet ← readFor needs words (rooms .table)
+  _ ← stacksFit (needs sheet .values) (rooms .values) (needs sheet .turns) (rooms .turns)
   _ ← lengthsFit (variablesOf sheet) (rooms .starts) (rooms .seeds) (rooms .result)
   given sheet
 
@@ -84,23 +86,23 @@ pub record Answers (answer : answered.Reply) (why : Refusal) : Type 0 where
   pub place : answer .place ≡ placeOf why
 
 -- refused by one of 1 to 10, and answered so
-pub record NoRoom (words : List ℕ) (rooms : Rooms) (answer : answered.Reply) : Type 0 where
+pub record NoRoom (needs : Sheet → Needs) (words : List ℕ) (rooms : Rooms) (answer : answered.Reply) : Type 0 where
   pub why : Refusal
-  pub is : readWithRoom words rooms ≡ refused why
+  pub is : readWithRoom needs words rooms ≡ refused why
   pub answers : Answers answer why
 
 -- refused by none of them, and planned: the lengths are those that the plan asks
-pub record HasRoom (words : List ℕ) (rooms : Rooms) (marks came goes : List ℕ) (plan : Plan) : Type 0 where
-  pub made : PlanMade words plan marks came goes
-  pub is : readWithRoom words rooms ≡ given (made .sheet)
+pub record HasRoom (needs : Sheet → Needs) (words : List ℕ) (rooms : Rooms) (marks came goes : List ℕ) (plan : Plan) : Type 0 where
+  pub made : PlanMadeFor needs words plan marks came goes
+  pub is : readWithRoom needs words rooms ≡ given (made .sheet)
   pub tableFits : tableRoom (plan .rows) ≤ rooms .table
   pub startsFit : rooms .starts ≡ plan .shape .variables
   pub seedsFit : rooms .seeds ≡ plan .shape .variables
   pub resultFits : rooms .result ≡ 2 * plan .shape .variables
 
-abbrev pub JudgedAs : (words : List ℕ) → Rooms → (marks came goes : List ℕ) → Judged → Type 0
-JudgedAs words rooms marks came goes (judged.No answer) = NoRoom words rooms answer
-JudgedAs words rooms marks came goes (judged.HasRoom plan) = HasRoom words rooms marks came goes plan
+abbrev pub JudgedAs : (needs : Sheet → Needs) (words : List ℕ) → Rooms → (marks came goes : List ℕ) → Judged → Type 0
+JudgedAs needs words rooms marks came goes (judged.No answer) = NoRoom needs words rooms answer
+JudgedAs needs words rooms marks came goes (judged.HasRoom plan) = HasRoom needs words rooms marks came goes plan
 
 -- ---- a run's end
 
@@ -114,18 +116,31 @@ answerAt (ended.Stopped row) =
 answerAt ended.Stuck = record { number = stuckNumber doubles; place = 0 }
 answerAt ended.Unfinished = record { number = stuckNumber doubles; place = 0 }
 
+-- what a run leaves of the result: it is written where the run has finished
+unfoldable pub resultAt : {X : Type 0} → Ended → (finished before : List X) → List X
+resultAt ended.Finished finished before = finished
+resultAt (ended.Stopped row) finished before = before
+resultAt ended.Stuck finished before = before
+resultAt ended.Unfinished finished before = before
+
 -- ---- buffers
 
-module _ {X : Type 0} where
-  pub record ResultFits (roles : List ℕ) (copied store result : List X) : Type 0 where
-    pub copiedFits : length copied ≡ length roles
-    pub storeFits : 2 * length roles ≤ length store
-    pub resultFits : length result ≡ 2 * length roles
+abbrev pub countsOf : Counted → ℕ → Bool
+countsOf counted.Independents = isIndependent
+countsOf counted.Dependents = isDependent
 
-module _ (A : Arithmetic) where
-  -- what a run leaves of the result: it is written where the run has finished
-  unfoldable pub resultAt : Ended → (roles : List ℕ) → (copied store result : List (A .Carrier)) → List (A .Carrier)
-  resultAt ended.Finished roles copied store result = resultFrom A roles copied store
-  resultAt (ended.Stopped row) roles copied store result = result
-  resultAt ended.Stuck roles copied store result = result
-  resultAt ended.Unfinished roles copied store result = result
+-- a number for each variable, then a second one for each, 0 where its role doesn't count
+unfoldable pub halvesOf : (A : Arithmetic) → (first : List (A .Carrier)) → Counted → (roles : List ℕ) → (second : List (A .Carrier)) → List (A .Carrier)
+unfolding counting
+halvesOf A first role roles second = first ++ counting A (countsOf role) roles second
+
+module _ {X : Type 0} where
+  pub record HalvesFit (roles : List ℕ) (first second into : List X) : Type 0 where
+    pub firstFits : length first ≡ length roles
+    pub secondFits : length roles ≤ length second
+    pub room : 2 * length roles ≤ length into
+
+  pub record ResultFits (roles : List ℕ) (first second result : List X) : Type 0 where
+    pub firstFits : length first ≡ length roles
+    pub secondFits : length roles ≤ length second
+    pub resultFits : length result ≡ 2 * length roles

@@ -1,13 +1,17 @@
 -- `run::calls_audit::run_audit` meets its contract.
 use mathlib.Core.Path.{subst}
 use Rattle.number.specs.Residues.{residues}
+use Rattle.table.specs.Computed.{needsOf}
 use Rattle.run.specs.inner.CallSteps.{JudgedAs}
 use Rattle.run.proofs.AdmittedLaws.{residues-admitted}
-use Rattle.run.proofs.SectionLaws.{sheet-room, room-indexed}
-use Rattle.run.proofs.CallsJudged.{refused-run, accepted-run}
+use Rattle.run.proofs.SectionLaws.{sheet-room}
+use Rattle.run.proofs.AdjointCalls.{adjoint-indexed, adjoint-refused, adjoint-ran}
 use borrow.Author.Needs.{needs}
 use Rattle.run.proofs.calls_audit.run_audit.Statement.{statement}
 use Rattle.run.proofs.calls_audit.run_audit.Tie as tie
+
+plan-sheet-requires : tie.Need-plan-sheet-requires
+plan-sheet-requires c κs = search needs
 
 judge-requires : tie.Need-judge-requires
 judge-requires c κs = search needs
@@ -21,19 +25,23 @@ enum-known-plan c = search needs
 write-planned-requires : tie.Need-write-planned-requires
 write-planned-requires c κs =
     let planned = c .before .before .before .before .before .before in
-    let room = subst (JudgedAs _ _ _ _ _) (planned .plan .given .1) (planned .before .before .judge .ensures) in
+    let judged = planned .before .before in
+    let room = subst (JudgedAs needsOf _ _ _ _ _) (planned .plan .given .1) (judged .judge .ensures needsOf _ _ _ _ (judged .before .plan-sheet .ensures .0)) in
     (room .made, room .tableFits)
 
 run-written-requires : tie.Need-run-written-requires
 run-written-requires c κs =
     let wrote = c .before .before .before .before .before .before .before in
     let planned = wrote .before .before .before .before .before .before .before in
-    let room = subst (JudgedAs _ _ _ _ _) (planned .plan .given .1) (planned .before .before .judge .ensures) in
-    (room-indexed room (wrote .write-planned .ensures), sheet-room _ _ _ room)
+    let judged = planned .before .before in
+    let room = subst (JudgedAs needsOf _ _ _ _ _) (planned .plan .given .1) (judged .judge .ensures needsOf _ _ _ _ (judged .before .plan-sheet .ensures .0)) in
+    (adjoint-indexed (room .made) (wrote .write-planned .ensures), sheet-room _ _ _ room)
 
 returns : tie.Need-returns
 returns c =
-    refused-run residues _ _ _ _ (subst (JudgedAs _ _ _ _ _) (c .before .answer .given .1) (c .before .before .before .judge .ensures))
+    let judged = c .before .before .before in
+    adjoint-refused residues _ _ _ _
+    (subst (JudgedAs needsOf _ _ _ _ _) (c .before .answer .given .1) (judged .judge .ensures needsOf _ _ _ _ (judged .before .plan-sheet .ensures .0)))
 
 same-length : tie.Need-same-length
 same-length c = search needs
@@ -52,13 +60,15 @@ returns-2 c =
     let ran = c .before .before .before .before .before .before in
     let wrote = ran .before .before .before .before .before .before .before .before in
     let planned = wrote .before .before .before .before .before .before .before in
-    accepted-run residues _ _ _ _ (subst (JudgedAs _ _ _ _ _) (planned .plan .given .1) (planned .before .before .judge .ensures))
-    (residues-admitted _ _) (wrote .write-planned .ensures) (ran .run-written .ensures)
+    let judged = planned .before .before in
+    let room = subst (JudgedAs needsOf _ _ _ _ _) (planned .plan .given .1) (judged .judge .ensures needsOf _ _ _ _ (judged .before .plan-sheet .ensures .0)) in
+    adjoint-ran residues _ _ _ _ room (residues-admitted _ _) (wrote .write-planned .ensures) (ran .run-written .ensures)
 
 pub run-audit-spec : {M : Type 1} → statement M
 run-audit-spec =
     tie.close
     (tie.spec
+    plan-sheet-requires
     judge-requires
     enum-known-answer
     enum-known-plan

@@ -1,5 +1,8 @@
 -- `run::calls_audit::write_result` meets its contract.
+use mathlib.Core.Path.{_∙_}
+use Rattle.number.specs.Residues.{residues}
 use Rattle.run.specs.inner.CallSteps.{resultAt}
+use Rattle.run.proofs.FillingLaws.{halves-fit, result-laid}
 use borrow.Author.Needs.{needs}
 use Rattle.run.proofs.calls_audit.write_result.Statement.{statement}
 use Rattle.run.proofs.calls_audit.write_result.Tie as tie
@@ -7,8 +10,8 @@ use Rattle.run.proofs.calls_audit.write_result.Tie as tie
 enum-told : tie.Need-enum-told
 enum-told c = search needs
 
-write-residues-requires : tie.Need-write-residues-requires
-write-residues-requires c κs = search needs
+lay-residues-requires : tie.Need-lay-residues-requires
+lay-residues-requires c κs = halves-fit (c .before .before .before .before .before .before .before .pre)
 
 enum-told-2 : tie.Need-enum-told-2
 enum-told-2 c = search needs
@@ -24,7 +27,10 @@ same-length c = search needs
 
 returns : tie.Need-returns
 unfolding resultAt
-returns c = rw (c .before .before .before .before .enum-told .given .1) (c .before .before .write-residues .ensures)
+returns c =
+    let laid = c .before .before in
+    let told = laid .before .before in
+    rw (told .enum-told .given .1) (laid .lay-residues .ensures ∙ result-laid residues _ (told .before .before .before .before .before .before .pre))
 
 returns-2 : tie.Need-returns-2
 unfolding resultAt
@@ -43,7 +49,7 @@ write-result-spec =
     tie.close
     (tie.spec
     enum-told
-    write-residues-requires
+    lay-residues-requires
     enum-told-2
     enum-told-3
     enum-told-4

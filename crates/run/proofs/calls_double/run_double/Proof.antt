@@ -1,12 +1,17 @@
 -- `run::calls_double::run_double` meets its contract.
 use mathlib.Core.Path.{subst}
 use Rattle.number.specs.Doubles.{doubles}
+use Rattle.table.specs.Computed.{needsOf}
 use Rattle.run.specs.inner.CallSteps.{JudgedAs}
-use Rattle.run.proofs.SectionLaws.{sheet-room, room-indexed}
-use Rattle.run.proofs.CallsJudged.{said, refused-run, numbers-refuse, accepted-run}
+use Rattle.run.proofs.SectionLaws.{sheet-room}
+use Rattle.run.proofs.CallsJudged.{said}
+use Rattle.run.proofs.AdjointCalls.{adjoint-indexed, adjoint-refused, adjoint-numbers-refused, adjoint-ran}
 use borrow.Author.Needs.{needs}
 use Rattle.run.proofs.calls_double.run_double.Statement.{statement}
 use Rattle.run.proofs.calls_double.run_double.Tie as tie
+
+plan-sheet-requires : tie.Need-plan-sheet-requires
+plan-sheet-requires c κs = search needs
 
 judge-requires : tie.Need-judge-requires
 judge-requires c κs = search needs
@@ -28,10 +33,11 @@ answer-no-requires c κs = search needs
 
 returns : tie.Need-returns
 returns c =
-    let judged = c .before .before .before .before in
-    let planned = judged .before .before in
-    numbers-refuse doubles _ _ _ _ (subst (JudgedAs _ _ _ _ _) (planned .plan .given .1) (planned .before .before .judge .ensures))
-    (said (judged .all-finite .ensures) (c .before .before .why .given .1)) (c .answer-no .ensures)
+    let tested = c .before .before .before .before in
+    let planned = tested .before .before in
+    let judged = planned .before .before in
+    let room = subst (JudgedAs needsOf _ _ _ _ _) (planned .plan .given .1) (judged .judge .ensures needsOf _ _ _ _ (judged .before .plan-sheet .ensures .0)) in
+    adjoint-numbers-refused doubles _ _ _ _ room (said (tested .all-finite .ensures) (c .before .before .why .given .1)) (c .answer-no .ensures)
 
 enum-told : tie.Need-enum-told
 enum-told c = search needs
@@ -39,19 +45,23 @@ enum-told c = search needs
 write-planned-requires : tie.Need-write-planned-requires
 write-planned-requires c κs =
     let planned = c .before .before .before .before .before .before .before .before .before in
-    let room = subst (JudgedAs _ _ _ _ _) (planned .plan .given .1) (planned .before .before .judge .ensures) in
+    let judged = planned .before .before in
+    let room = subst (JudgedAs needsOf _ _ _ _ _) (planned .plan .given .1) (judged .judge .ensures needsOf _ _ _ _ (judged .before .plan-sheet .ensures .0)) in
     (room .made, room .tableFits)
 
 run-written-requires : tie.Need-run-written-requires
 run-written-requires c κs =
     let wrote = c .before .before .before .before .before .before .before in
     let planned = wrote .before .before .before .before .before .before .before .before .before .before in
-    let room = subst (JudgedAs _ _ _ _ _) (planned .plan .given .1) (planned .before .before .judge .ensures) in
-    (room-indexed room (wrote .write-planned .ensures), sheet-room _ _ _ room)
+    let judged = planned .before .before in
+    let room = subst (JudgedAs needsOf _ _ _ _ _) (planned .plan .given .1) (judged .judge .ensures needsOf _ _ _ _ (judged .before .plan-sheet .ensures .0)) in
+    (adjoint-indexed (room .made) (wrote .write-planned .ensures), sheet-room _ _ _ room)
 
 returns-2 : tie.Need-returns-2
 returns-2 c =
-    refused-run doubles _ _ _ _ (subst (JudgedAs _ _ _ _ _) (c .before .answer .given .1) (c .before .before .before .judge .ensures))
+    let judged = c .before .before .before in
+    adjoint-refused doubles _ _ _ _
+    (subst (JudgedAs needsOf _ _ _ _ _) (c .before .answer .given .1) (judged .judge .ensures needsOf _ _ _ _ (judged .before .plan-sheet .ensures .0)))
 
 same-length : tie.Need-same-length
 same-length c = search needs
@@ -70,15 +80,18 @@ returns-3 c =
     let ran = c .before .before .before .before .before .before in
     let wrote = ran .before .before .before .before .before .before .before .before in
     let told = wrote .before .before .before .before .before .before in
-    let judged = told .before .before in
-    let planned = judged .before .before in
-    accepted-run doubles _ _ _ _ (subst (JudgedAs _ _ _ _ _) (planned .plan .given .1) (planned .before .before .judge .ensures))
-    (said (judged .all-finite .ensures) (told .enum-told .given .1)) (wrote .write-planned .ensures) (ran .run-written .ensures)
+    let tested = told .before .before in
+    let planned = tested .before .before in
+    let judged = planned .before .before in
+    let room = subst (JudgedAs needsOf _ _ _ _ _) (planned .plan .given .1) (judged .judge .ensures needsOf _ _ _ _ (judged .before .plan-sheet .ensures .0)) in
+    adjoint-ran doubles _ _ _ _ room (said (tested .all-finite .ensures) (told .enum-told .given .1)) (wrote .write-planned .ensures)
+    (ran .run-written .ensures)
 
 pub run-double-spec : {M : Type 1} → statement M
 run-double-spec =
     tie.close
     (tie.spec
+    plan-sheet-requires
     judge-requires
     enum-known-answer
     enum-known-plan

@@ -1,5 +1,8 @@
 -- `run::calls_double::write_result` meets its contract.
+use mathlib.Core.Path.{_∙_}
+use Rattle.number.specs.Doubles.{doubles}
 use Rattle.run.specs.inner.CallSteps.{resultAt}
+use Rattle.run.proofs.FillingLaws.{halves-fit, result-laid}
 use borrow.Author.Needs.{needs}
 use Rattle.run.proofs.calls_double.write_result.Statement.{statement}
 use Rattle.run.proofs.calls_double.write_result.Tie as tie
@@ -7,8 +10,8 @@ use Rattle.run.proofs.calls_double.write_result.Tie as tie
 enum-told : tie.Need-enum-told
 enum-told c = search needs
 
-write-doubles-requires : tie.Need-write-doubles-requires
-write-doubles-requires c κs = search needs
+lay-doubles-requires : tie.Need-lay-doubles-requires
+lay-doubles-requires c κs = halves-fit (c .before .before .before .before .before .before .before .pre)
 
 enum-told-2 : tie.Need-enum-told-2
 enum-told-2 c = search needs
@@ -24,7 +27,10 @@ same-length c = search needs
 
 returns : tie.Need-returns
 unfolding resultAt
-returns c = rw (c .before .before .before .before .enum-told .given .1) (c .before .before .write-doubles .ensures)
+returns c =
+    let laid = c .before .before in
+    let told = laid .before .before in
+    rw (told .enum-told .given .1) (laid .lay-doubles .ensures ∙ result-laid doubles _ (told .before .before .before .before .before .before .pre))
 
 returns-2 : tie.Need-returns-2
 unfolding resultAt
@@ -43,7 +49,7 @@ write-result-spec =
     tie.close
     (tie.spec
     enum-told
-    write-doubles-requires
+    lay-doubles-requires
     enum-told-2
     enum-told-3
     enum-told-4

@@ -12,7 +12,7 @@ use Rattle.sheet.specs.Rows.{Source, copy, fixed, sum, difference, product, neg
 use Rattle.sheet.specs.Names.{SourcePresent, TestPresent}
 use Rattle.machine.specs.Actions.{through, replaced, evaluated, compared}
 use Rattle.machine.proofs.PlaceLaws.{place-there}
-use Rattle.claims.proofs.Stores.{at-first-part}
+use Rattle.run.proofs.Stores.{at-first-part}
 
 module _ (A : Arithmetic) where
   module _ (v k : ℕ) (store tail : List (A .Carrier)) (n : length store ≡ v) where
