@@ -13,6 +13,8 @@ use Rattle.run.specs.Calls.{run}
 use Rattle.claims.specs.Demands.{CheckExactly, WriteExactly, RunExactly, adjointBy}
 use Rattle.claims.specs.ThreeDemands.{FirstDemand}
 use Rattle.claims.proofs.ExactlyWhenHolds.{check-exactly, write-exactly, run-exactly}
+use Rattle.claims.proofs.TangentsHold.{tangent-write-call, tangent-call}
+use Rattle.claims.proofs.PlainHolds.{plain-call}
 
 -- the contract of `check`
 pub check-call : (words : List ℕ) (answer : Checked) → checkedSaid answer ≡ check words → CheckExactly words (checkedSaid answer)
@@ -31,4 +33,12 @@ run-call A words starts seeds before after answer contract =
     subst (RunExactly A needsBy (adjointBy A starts seeds before) words starts seeds before) (sym contract) (run-exactly A words starts seeds before)
 
 pub demand-one : FirstDemand
-demand-one A = record { checks = check-call; writes = write-call; runs = run-call A }
+demand-one A =
+    record {
+      checks = check-call;
+      writes = write-call;
+      runs = run-call A;
+      writesTangents = tangent-write-call;
+      runsTangents = tangent-call A;
+      carries = plain-call A;
+    }

@@ -17,18 +17,18 @@ use Rattle.sheet.proofs.RefusalsApart.{same-refusal, from-1-to-12}
 use Rattle.sheet.proofs.Settled.{refused-exactly, given-exactly, named-exactly, done-exactly, numbers-within}
 use Rattle.sets.specs.Marks.{Sets}
 use Rattle.sets.specs.Rounds.{setsOf, marked}
-use Rattle.table.specs.TableRows.{tableWords}
+use Rattle.table.specs.TableRows.{Table, tableWords}
 use Rattle.table.specs.Adjoint.{tableBy}
 use Rattle.table.specs.Sizes.{Needs, needsBy, Checked, noSizes, sizesBy, Written, tableRoom}
-use Rattle.table.specs.Computed.{tableOf, needsOf}
-use Rattle.table.specs.Calls.{sizesIn, check, readFor, overwritten, tableIn, write}
+use Rattle.table.specs.Computed.{tableOf}
+use Rattle.table.specs.Calls.{sizesIn, check, readFor, overwritten, tableIn, writeBy, write}
 use Rattle.table.proofs.TableLength.{table-length}
 use Rattle.machine.specs.Actions.{Memory, Stop}
 use Rattle.machine.specs.Machine.{Step, goesOn, ended, stops, sticks}
 use Rattle.run.specs.Runs.{Lent, Ran, Job, runOf}
 use Rattle.run.specs.Calls.{lentAfter, ranTo, ranOn, runBy, run}
 use Rattle.claims.specs.ExactlyWhen.{ReadingRefuses, Read, WritingRefuses, Writable, Runnable, StartRefused, RunRefuses, Stops, beforeStart, resultNotFinite, Finishes}
-use Rattle.claims.specs.Demands.{Names, CheckExactly, StartsWith, WriteExactly, LeftBehind, RunExactly, adjointBy}
+use Rattle.claims.specs.Demands.{Names, CheckExactly, StartsWith, WritesExactly, WriteExactly, LeftBehind, RunExactly, adjointBy}
 use Rattle.claims.specs.ReaderExactly.{ReadExactly}
 use Rattle.claims.proofs.ReadingExactlyWhen.{reading-settled, reading-numbers}
 use Rattle.claims.proofs.StartExactlyWhen.{accepted-reads, own-sets, only-sets, by-own-sets, needed, writing-settled, writing-numbers, OwnRunnable, start-settled, started, start-numbers}
@@ -85,53 +85,64 @@ overwritten-starts table buffer room =
       sameLength = simp (length-append, length-drop) (omega arith);
     }
 
-module _ (words buffer : List ℕ) where
+module _ (needs : Sets → Sheet → Needs) (table : Sets → Sheet → Table)
+    (long : (sheet : Sheet) → length (tableWords (table (setsOf sheet) sheet)) ≡ tableRoom (needed needs sheet .rows)) (words buffer : List ℕ) where
   abbrev Fits : Sheet → Type 0
-  Fits sheet = Writable needsBy words buffer sheet (setsOf sheet)
+  Fits sheet = Writable needs words buffer sheet (setsOf sheet)
+
+  abbrev ownTable : Sheet → Table
+  ownTable sheet = table (setsOf sheet) sheet
+
+  abbrev writtenNow : Written
+  writtenNow = writeBy (needed needs) ownTable words buffer
 
   abbrev writtenBy : Answer Sheet → Written
-  writtenBy answer = record { number = numberIn answer; place = placeIn answer; table = tableIn answer buffer }
+  writtenBy answer = record { number = numberIn answer; place = placeIn answer; table = tableIn ownTable answer buffer }
 
-  write-answers : (answer : Answer Sheet) → readFor needsOf words (length buffer) ≡ answer → write words buffer ≡ writtenBy answer
-  unfolding write
+  write-answers : (answer : Answer Sheet) → readFor (needed needs) words (length buffer) ≡ answer → writtenNow ≡ writtenBy answer
+  unfolding writeBy
   write-answers answer e = ap writtenBy e
 
-  kept-when-refused : 1 ≤ write words buffer .number → write words buffer .table ≡ buffer
+  kept-when-refused : 1 ≤ writtenNow .number → writtenNow .table ≡ buffer
   unfolding numberIn tableIn
-  kept-when-refused some = by (writing-settled needsBy words buffer .either)
+  kept-when-refused some = by (writing-settled needs words buffer .either)
     where
-      by : ((sheet : Sheet) × Fits sheet) ⊎ ((r : Refusal) × WritingRefuses needsBy words buffer r) → write words buffer .table ≡ buffer
-      by (inl (sheet, is)) = absurd (omega (arith, ap (λ w. w .number) (write-answers _ (writing-settled needsBy words buffer .byResult sheet is))))
-      by (inr (r, rule)) = ap (λ w. w .table) (write-answers _ (writing-settled needsBy words buffer .byRule r rule))
+      by : ((sheet : Sheet) × Fits sheet) ⊎ ((r : Refusal) × WritingRefuses needs words buffer r) → writtenNow .table ≡ buffer
+      by (inl (sheet, is)) = absurd (omega (arith, ap (λ w. w .number) (write-answers _ (writing-settled needs words buffer .byResult sheet is))))
+      by (inr (r, rule)) = ap (λ w. w .table) (write-answers _ (writing-settled needs words buffer .byRule r rule))
 
   -- with a sheet's own sets
   own-table : (sheet : Sheet) → Fits sheet
-      → (write words buffer .place ≡ 0) × StartsWith (tableWords (tableOf sheet)) buffer (write words buffer .table)
-  unfolding placeIn tableIn marked
+      → (writtenNow .place ≡ 0) × StartsWith (tableWords (ownTable sheet)) buffer (writtenNow .table)
+  unfolding placeIn tableIn
   own-table sheet is =
-      let e = write-answers _ (writing-settled needsBy words buffer .byResult sheet is) in
-      let starts = overwritten-starts (tableWords (tableOf sheet)) buffer (omega (arith, table-length sheet, is .tableFits)) in
-      (ap (λ w. w .place) e, subst (StartsWith (tableWords (tableOf sheet)) buffer) (sym (ap (λ w. w .table) e)) starts)
+      let e = write-answers _ (writing-settled needs words buffer .byResult sheet is) in
+      let starts = overwritten-starts (tableWords (ownTable sheet)) buffer (omega (arith, long sheet, is .tableFits)) in
+      (ap (λ w. w .place) e, subst (StartsWith (tableWords (ownTable sheet)) buffer) (sym (ap (λ w. w .table) e)) starts)
 
-  pub write-exactly : WriteExactly words buffer (write words buffer)
-  unfolding write
-  write-exactly =
+  pub writes-exactly : WritesExactly needs table words buffer writtenNow
+  unfolding writeBy
+  writes-exactly =
       record {
-        refuses = named-exactly (writing-settled needsBy words buffer);
+        refuses = named-exactly (writing-settled needs words buffer);
         done = (
-          λ none. let found = done-exactly (writing-settled needsBy words buffer) .0 none in (found .0, setsOf (found .0), found .1),
-          λ found. done-exactly (writing-settled needsBy words buffer) .1 (found .0, own (found .0) (found .1) (found .2)),
+          λ none. let found = done-exactly (writing-settled needs words buffer) .0 none in (found .0, setsOf (found .0), found .1),
+          λ found. done-exactly (writing-settled needs words buffer) .1 (found .0, own (found .0) (found .1) (found .2)),
         );
-        numbers = numbers-within (writing-settled needsBy words buffer) 8 (λ r. writing-numbers);
+        numbers = numbers-within (writing-settled needs words buffer) 8 (λ r. writing-numbers);
         whenRefused = kept-when-refused;
         whenDone = λ sheet sets is.
-            by-own-sets words sheet
-            (λ s. (write words buffer .place ≡ 0) × StartsWith (tableWords (tableBy s sheet)) buffer (write words buffer .table))
+            by-own-sets words sheet (λ s. (writtenNow .place ≡ 0) × StartsWith (tableWords (table s sheet)) buffer (writtenNow .table))
             (own-table sheet (own sheet sets is)) sets (is .accepted);
       }
     where
-      own : (sheet : Sheet) (sets : Sets) → Writable needsBy words buffer sheet sets → Fits sheet
-      own sheet sets is = subst (Writable needsBy words buffer sheet) (only-sets words sheet sets (is .accepted)) is
+      own : (sheet : Sheet) (sets : Sets) → Writable needs words buffer sheet sets → Fits sheet
+      own sheet sets is = subst (Writable needs words buffer sheet) (only-sets words sheet sets (is .accepted)) is
+
+-- the adjoint table
+pub write-exactly : (words buffer : List ℕ) → WriteExactly words buffer (write words buffer)
+unfolding write tableOf marked
+write-exactly words buffer = writes-exactly needsBy tableBy table-length words buffer
 
 -- ---- a run
 

@@ -15,13 +15,11 @@ pub mod ReaderExactlyWhen
 -- demand 3: the replay
 pub mod Runs
 pub mod RunsKeepSizes
-pub mod Stores
 pub mod MachineLogs
 pub mod DerivedInTheLarge
 pub mod Accounts
 pub mod DerivativeRows
 pub mod DerivativesAlike
-pub mod Originals
 pub mod ExecutionReady
 pub mod Forward
 pub mod ForwardLog
@@ -52,3 +50,7 @@ pub mod AuditSolves
 pub mod DemandTwoHolds
 -- the theorems on 01's sheets E and D
 pub mod OnWorkedSheets
+-- 02's tangents and the plain engine
+pub mod TangentExecutes
+pub mod TangentsHold
+pub mod PlainHolds

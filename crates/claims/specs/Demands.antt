@@ -49,14 +49,18 @@ pub record StartsWith (table before after : List ℕ) : Type 0 where
   pub keeps : drop (length table) after ≡ drop (length table) before
   pub sameLength : length after ≡ length before
 
-pub record WriteExactly (words before : List ℕ) (answer : Written) : Type 0 where
-  pub refuses : (r : Refusal) → Names (answer .number) (answer .place) r ↔ WritingRefuses needsBy words before r
-  pub done : (answer .number ≡ 0) ↔ ((sheet : Sheet) × (sets : Sets) × Writable needsBy words before sheet sets)
+-- What a sheet needs and which table is written of it are handed in.
+pub record WritesExactly (needs : Sets → Sheet → Needs) (written : Sets → Sheet → Table) (words before : List ℕ) (answer : Written) : Type 0 where
+  pub refuses : (r : Refusal) → Names (answer .number) (answer .place) r ↔ WritingRefuses needs words before r
+  pub done : (answer .number ≡ 0) ↔ ((sheet : Sheet) × (sets : Sets) × Writable needs words before sheet sets)
   pub numbers : answer .number ≤ 8
   pub whenRefused : 1 ≤ answer .number → answer .table ≡ before
-  -- "the adjoint table is exactly the one 01's rules give"
-  pub whenDone : (sheet : Sheet) (sets : Sets) → Writable needsBy words before sheet sets
-      → (answer .place ≡ 0) × StartsWith (tableWords (tableBy sets sheet)) before (answer .table)
+  pub whenDone : (sheet : Sheet) (sets : Sets) → Writable needs words before sheet sets
+      → (answer .place ≡ 0) × StartsWith (tableWords (written sets sheet)) before (answer .table)
+
+-- "the adjoint table is exactly the one 01's rules give"
+abbrev pub WriteExactly : (words before : List ℕ) → Written → Type 0
+WriteExactly = WritesExactly needsBy tableBy
 
 -- a run: "a run takes a sheet, never a bare table, and uses all". What a sheet needs and which job is run of it are handed in.
 -- "On 0 and 12 the table buffer starts with the table and keeps its other words, and both stacks are all zeros over their lent length."

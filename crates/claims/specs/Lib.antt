@@ -5,6 +5,7 @@ pub mod IdealSweep
 pub mod EquationTwo
 pub mod WholeRun
 pub mod Demands
+pub mod Tangents
 pub mod ThreeDemands
 pub mod ReaderExactly
 pub mod WorkedSheets

@@ -18,9 +18,13 @@ use Rattle.machine.specs.Actions.{Memory, Stop}
 use Rattle.machine.specs.Machine.{Step, ended, stops}
 use Rattle.run.specs.Runs.{Lent, ranOf, settingOf, startOf, runOf}
 use Rattle.run.specs.Calls.{run}
+use Rattle.tangent.specs.Calls.{writeTangent, runTangent}
+use Rattle.plain.specs.Carries.{carryOf}
+use Rattle.plain.specs.Calls.{plain}
 use Rattle.claims.specs.ExactlyWhen.{Read, Accepted, Writable, Runnable}
 use Rattle.claims.specs.Demands.{CheckExactly, StartsWith, WriteExactly, RunExactly, adjointBy, AuditSolves, AnswersLike, DemandThree}
 use Rattle.claims.specs.WholeRun.{every, runSaving, StackRoom}
+use Rattle.claims.specs.Tangents.{TangentWriteExactly, TangentMeets, PlainMeets}
 
 -- ---- demand 1
 
@@ -33,6 +37,13 @@ pub record DemandOne (A : Arithmetic) : Type 0 where
   pub runs : (words : List ℕ) (starts seeds : List (A .Carrier)) (before after : Lent A) (answer : Reply)
       → ranOf A answer after ≡ run A words starts seeds before
       → RunExactly A needsBy (adjointBy A starts seeds before) words starts seeds before (ranOf A answer after)
+  -- 02 §1
+  pub writesTangents : (words before after : List ℕ) (answer : Reply) → writtenOf answer after ≡ writeTangent words before
+      → TangentWriteExactly words before (writtenOf answer after)
+  pub runsTangents : (words : List ℕ) (starts rates : List (A .Carrier)) (before after : Lent A) (answer : Reply)
+      → ranOf A answer after ≡ runTangent A words starts rates before → TangentMeets A words starts rates before (ranOf A answer after)
+  pub carries : (words : List ℕ) (starts rates before after : List (A .Carrier)) (answer : Reply)
+      → carryOf A answer after ≡ plain A words starts rates before → PlainMeets A words starts rates before (carryOf A answer after)
 
 abbrev pub FirstDemand : Type 1
 FirstDemand = (A : Arithmetic) → DemandOne A

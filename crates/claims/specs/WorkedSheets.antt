@@ -1,5 +1,5 @@
 -- "Sheets worked by hand": the starred ones as one table, what is stated of each, and what the definitions find. Where 01 leaves out one of
--- W, R, S and T, it is the one that its rules give.
+-- W, R, S and T, it is the one that its rules give. Tangents are 02's.
 use Prim.Native.Nat.{ℕ}
 use mathlib.Core.Bool.{Bool, true, false}
 use mathlib.Core.List.{List, [], _∷_, _++_, map}
@@ -16,13 +16,24 @@ use Rattle.sets.specs.Rounds.{marked}
 use Rattle.sets.specs.Marks.{Marked, MarkedTest}
 use Rattle.table.specs.Sizes.{Sizes, Checked, Written, tableRoom}
 use Rattle.table.specs.Calls.{check, write}
-use Rattle.run.specs.Runs.{Lent}
+use Rattle.run.specs.Runs.{Lent, Ran}
 use Rattle.run.specs.Calls.{run}
+use Rattle.tangent.specs.TangentRuns.{withoutStacks}
+use Rattle.tangent.specs.Calls.{writeTangent, runTangent}
+use Rattle.plain.specs.Carries.{Carry}
+use Rattle.plain.specs.Calls.{plain}
 
 -- start values, seeds and the 2V numbers that come out
 pub record Trial : Type 0 where
   pub starts : List ℕ
   pub seeds : List ℕ
+  pub result : List ℕ
+
+-- the tangent table's words, start values, starting rates and the 2V numbers that come out, of the table's run and of the plain engine
+pub record TangentTrial : Type 0 where
+  pub table : List ℕ
+  pub starts : List ℕ
+  pub rates : List ℕ
   pub result : List ℕ
 
 pub record Worked : Type 0 where
@@ -35,6 +46,7 @@ pub record Worked : Type 0 where
   -- runs that come out the same in both arithmetics, and runs in audit
   pub trials : List Trial
   pub audits : List Trial
+  pub tangents : List TangentTrial
 
 -- of these two more is proved than the table says
 abbrev pub wordsD : List ℕ
@@ -64,6 +76,14 @@ starred =
           ∷ [];
       trials = record { starts = 3 ∷ 4 ∷ 0 ∷ []; seeds = 0 ∷ 0 ∷ 1 ∷ []; result = 3 ∷ 4 ∷ 12 ∷ 4 ∷ 3 ∷ 0 ∷ [] } ∷ [];
       audits = [];
+      tangents =
+          record {
+            table = 4 ∷ 5 ∷ 7 ∷ 1 ∷ 3 ∷ 5 ∷ 6 ∷ 0 ∷ 4 ∷ 3 ∷ 5 ∷ 7 ∷ 6 ∷ 5 ∷ 2 ∷ 0 ∷ 1 ∷ [];
+            starts = 3 ∷ 4 ∷ 0 ∷ [];
+            rates = 1 ∷ 10 ∷ 0 ∷ [];
+            result = 3 ∷ 4 ∷ 12 ∷ 0 ∷ 0 ∷ 34 ∷ [];
+          }
+          ∷ [];
     }
     -- B, and G, which is B in audit
     ∷ record {
@@ -73,6 +93,14 @@ starred =
       table = [];
       trials = record { starts = 3 ∷ []; seeds = 1 ∷ []; result = 9 ∷ 6 ∷ [] } ∷ [];
       audits = record { starts = 65536 ∷ []; seeds = 1 ∷ []; result = 0 ∷ 131072 ∷ [] } ∷ [];
+      tangents =
+          record {
+            table = 4 ∷ 5 ∷ 3 ∷ 0 ∷ 1 ∷ 5 ∷ 2 ∷ 0 ∷ 1 ∷ 3 ∷ 1 ∷ 3 ∷ 2 ∷ 5 ∷ 0 ∷ 0 ∷ 0 ∷ [];
+            starts = 3 ∷ [];
+            rates = 1 ∷ [];
+            result = 9 ∷ 6 ∷ [];
+          }
+          ∷ [];
     }
     -- C: B inside repeat 3
     ∷ record {
@@ -82,6 +110,14 @@ starred =
       table = [];
       trials = record { starts = 2 ∷ []; seeds = 1 ∷ []; result = 256 ∷ 1024 ∷ [] } ∷ [];
       audits = [];
+      tangents =
+          record {
+            table = 6 ∷ 10 ∷ 0 ∷ 3 ∷ 0 ∷ 5 ∷ 3 ∷ 0 ∷ 1 ∷ 5 ∷ 2 ∷ 0 ∷ 1 ∷ 3 ∷ 1 ∷ 3 ∷ 2 ∷ 5 ∷ 0 ∷ 0 ∷ 0 ∷ 11 ∷ 0 ∷ 0 ∷ 0 ∷ [];
+            starts = 2 ∷ [];
+            rates = 1 ∷ [];
+            result = 256 ∷ 1024 ∷ [];
+          }
+          ∷ [];
     }
     -- D, the clamp
     ∷ record {
@@ -95,6 +131,14 @@ starred =
           ∷ record { starts = 2 ∷ 2 ∷ []; seeds = 1 ∷ 0 ∷ []; result = 2 ∷ 2 ∷ 1 ∷ 0 ∷ [] }
           ∷ [];
       audits = [];
+      tangents =
+          record {
+            table = 5 ∷ 7 ∷ 0 ∷ 1 ∷ 0 ∷ 16 ∷ 2 ∷ 0 ∷ 0 ∷ 1 ∷ 0 ∷ 1 ∷ 0 ∷ 8 ∷ 0 ∷ 0 ∷ 0 ∷ 9 ∷ 0 ∷ 0 ∷ 0 ∷ [];
+            starts = 5 ∷ 2 ∷ [];
+            rates = 1 ∷ 0 ∷ [];
+            result = 2 ∷ 2 ∷ 0 ∷ 0 ∷ [];
+          }
+          ∷ [];
     }
     -- E
     ∷ record {
@@ -104,6 +148,24 @@ starred =
       table = [];
       trials = record { starts = 1 ∷ 0 ∷ []; seeds = 1 ∷ 0 ∷ []; result = 6 ∷ 4 ∷ 15 ∷ 0 ∷ [] } ∷ [];
       audits = [];
+      tangents =
+          record {
+            table =
+                8
+                ∷ 10 ∷ 0 ∷ 2 ∷ 0
+                ∷ 5 ∷ 5 ∷ 0 ∷ 2
+                ∷ 5 ∷ 4 ∷ 0 ∷ 2
+                ∷ 3 ∷ 3 ∷ 5 ∷ 4
+                ∷ 5 ∷ 1 ∷ 0 ∷ 0
+                ∷ 3 ∷ 2 ∷ 2 ∷ 3
+                ∷ 3 ∷ 0 ∷ 0 ∷ 1
+                ∷ 11 ∷ 0 ∷ 0 ∷ 0
+                ∷ [];
+            starts = 1 ∷ 0 ∷ [];
+            rates = 1 ∷ 0 ∷ [];
+            result = 6 ∷ 4 ∷ 15 ∷ 0 ∷ [];
+          }
+          ∷ [];
     }
     -- F
     ∷ record {
@@ -113,6 +175,7 @@ starred =
       table = (1 ∷ 17 ∷ 0 ∷ 0 ∷ 0 ∷ []) ∷ [];
       trials = record { starts = 7 ∷ []; seeds = 5 ∷ []; result = 7 ∷ 5 ∷ [] } ∷ [];
       audits = [];
+      tangents = [];
     }
     -- H
     ∷ record {
@@ -122,6 +185,7 @@ starred =
       table = [];
       trials = [];
       audits = [];
+      tangents = [];
     }
     -- I: E's two rows the other way about
     ∷ record {
@@ -131,6 +195,7 @@ starred =
       table = [];
       trials = record { starts = 1 ∷ 0 ∷ []; seeds = 1 ∷ 0 ∷ []; result = 2 ∷ 4 ∷ 3 ∷ 0 ∷ [] } ∷ [];
       audits = [];
+      tangents = [];
     }
     ∷ []
 
@@ -150,6 +215,10 @@ pub record Findings : Type 0 where
   pub table : List Written
   pub doubleRuns : List (Run doubles)
   pub auditRuns : List (Run residues)
+  pub tangentTables : List Written
+  pub tangentDoubles : List (Run doubles)
+  pub tangentAudits : List (Run residues)
+  pub plainRuns : List (Carry doubles)
 
 -- the buffers lent: exactly as long as 01 asks for, and no word of them 0
 abbrev pub seven : (A : Arithmetic) → ℕ → List (A .Carrier)
@@ -179,6 +248,9 @@ runStated A sizes trial =
       result = numbers A (trial .result);
     }
 
+abbrev pub tangentStated : (A : Arithmetic) → TangentTrial → Run A
+tangentStated A trial = record { number = 0; place = 0; values = []; turns = []; result = numbers A (trial .result) }
+
 unfoldable pub stated : Worked → Findings
 stated w =
     record {
@@ -187,6 +259,10 @@ stated w =
       table = map (λ words. record { number = 0; place = 0; table = words }) (w .table);
       doubleRuns = map (runStated doubles (w .sizes)) (w .trials);
       auditRuns = map (runStated residues (w .sizes)) (w .trials ++ w .audits);
+      tangentTables = map (λ trial. record { number = 0; place = 0; table = trial .table }) (w .tangents);
+      tangentDoubles = map (tangentStated doubles) (w .tangents);
+      tangentAudits = map (tangentStated residues) (w .tangents);
+      plainRuns = map (λ trial. record { number = 0; place = 0; result = numbers doubles (trial .result) }) (w .tangents);
     }
 
 -- ---- as the definitions have it
@@ -206,10 +282,8 @@ unfolding marked recordedRows
 recordedFound (refused r) = []
 recordedFound (given sheet) = recordedRows (marked sheet)
 
-unfoldable pub runFound : (A : Arithmetic) → List ℕ → Sizes → Trial → Run A
-unfolding run
-runFound A words sizes trial =
-    let answer = run A words (numbers A (trial .starts)) (numbers A (trial .seeds)) (lentFor A sizes trial) in
+abbrev pub runBack : (A : Arithmetic) → Ran A → Run A
+runBack A answer =
     record {
       number = answer .number;
       place = answer .place;
@@ -218,8 +292,23 @@ runFound A words sizes trial =
       result = answer .lent .result;
     }
 
+unfoldable pub runFound : (A : Arithmetic) → List ℕ → Sizes → Trial → Run A
+unfolding run
+runFound A words sizes trial = runBack A (run A words (numbers A (trial .starts)) (numbers A (trial .seeds)) (lentFor A sizes trial))
+
+unfoldable pub tangentFound : (A : Arithmetic) → List ℕ → TangentTrial → Run A
+unfolding runTangent
+tangentFound A words trial =
+    runBack A
+    (runTangent A words (numbers A (trial .starts)) (numbers A (trial .rates))
+    (withoutStacks A (replicate (length (trial .table)) 7) (seven A (length (trial .result)))))
+
+unfoldable pub plainFound : List ℕ → TangentTrial → Carry doubles
+unfolding plain
+plainFound words trial = plain doubles words (numbers doubles (trial .starts)) (numbers doubles (trial .rates)) (seven doubles (length (trial .result)))
+
 unfoldable pub found : Worked → Findings
-unfolding check read recordedFound write runFound
+unfolding check read recordedFound write runFound writeTangent tangentFound plainFound
 found w =
     record {
       check = check (w .words);
@@ -227,4 +316,8 @@ found w =
       table = map (λ words. write (w .words) (replicate (length words) 7)) (w .table);
       doubleRuns = map (runFound doubles (w .words) (w .sizes)) (w .trials);
       auditRuns = map (runFound residues (w .words) (w .sizes)) (w .trials ++ w .audits);
+      tangentTables = map (λ trial. writeTangent (w .words) (replicate (length (trial .table)) 7)) (w .tangents);
+      tangentDoubles = map (tangentFound doubles (w .words)) (w .tangents);
+      tangentAudits = map (tangentFound residues (w .words)) (w .tangents);
+      plainRuns = map (plainFound (w .words)) (w .tangents);
     }
