@@ -1,4 +1,6 @@
 // A run in doubles, on their bits.
+use super::verbs::Direction;
+use super::verbs::Engine;
 use table::Reply;
 use text::fields::MAX_FIELDS;
 use text::heads::Asked;
@@ -26,10 +28,55 @@ fn give_doubles(doubles: &[f64; PLACES], numbers: &mut [u64; PLACES]) {
     }
 }
 
+// A tangent has no use for the stacks.
+fn run_table(
+    words: &[u16],
+    direction: Direction,
+    table: &mut [u16],
+    values: &mut [f64],
+    turns: &mut [u16],
+    starts: &[f64],
+    seeds: &[f64],
+    result: &mut [f64],
+) -> Reply {
+    match direction {
+        Direction::Adjoint => run::run_double(words, table, values, turns, starts, seeds, result),
+        Direction::Tangent => tangent::tangent_double(words, table, starts, seeds, result),
+    }
+}
+
+fn run_engine(
+    words: &[u16],
+    engine: Engine,
+    table: &mut [u16],
+    values: &mut [f64],
+    turns: &mut [u16],
+    starts: &[f64],
+    seeds: &[f64],
+    result: &mut [f64],
+) -> Reply {
+    match engine {
+        Engine::Table(direction) => {
+            run_table(
+                words,
+                direction,
+                table,
+                values,
+                turns,
+                starts,
+                seeds,
+                result,
+            )
+        }
+        Engine::Plain => plain::tangent_plain(words, starts, seeds, result),
+    }
+}
+
 // The value stack and the result are lent up to the lengths asked for.
 pub fn run_doubles(
     words: &[u16],
     asked: Asked,
+    engine: Engine,
     table: &mut [u16],
     values: &mut [u64; PLACES],
     turns: &mut [u16],
@@ -49,8 +96,9 @@ pub fn run_doubles(
     let start_count = lend::lent(starts.len() as u64, MAX_FIELDS);
     let seed_count = lend::lent(seeds.len() as u64, MAX_FIELDS);
     let result_count = lend::lent(asked.result, PLACES);
-    let answer = run::run_double(
+    let answer = run_engine(
         words,
+        engine,
         table,
         &mut value_cells[..value_count],
         turns,

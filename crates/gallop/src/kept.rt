@@ -1,4 +1,5 @@
 // What must stand in the lent buffers after a call.
+use super::verbs::Direction;
 use run::NOT_FINITE_RESULT;
 use table::Reply;
 use text::lend;
@@ -27,10 +28,14 @@ pub fn printed(number: u16, asked: u64) -> usize {
     0
 }
 
-// `writer::write` into the start of a buffer.
-pub fn write_lent(words: &[u16], room: u64, table: &mut [u16]) -> Reply {
+// A sheet's table into the start of a buffer.
+pub fn write_lent(words: &[u16], direction: Direction, room: u64, table: &mut [u16]) -> Reply {
     let count = lend::lent(room, table.len());
-    writer::write(words, &mut table[..count])
+    let lent_table = &mut table[..count];
+    match direction {
+        Direction::Adjoint => writer::write(words, lent_table),
+        Direction::Tangent => tangent::write_tangent(words, lent_table),
+    }
 }
 
 fn same_words(left: &[u16; TABLE_WORDS], right: &[u16; TABLE_WORDS]) -> bool {
@@ -44,12 +49,18 @@ fn same_words(left: &[u16; TABLE_WORDS], right: &[u16; TABLE_WORDS]) -> bool {
     true
 }
 
-// Whether the table's buffer holds what `writer::write` makes of one like it, or what it held before.
-pub fn table_stands(words: &[u16], number: u16, room: u64, table: &[u16; TABLE_WORDS]) -> bool {
+// Whether the table's buffer holds what the table's writer makes of one like it, or what it held before.
+pub fn table_stands(
+    words: &[u16],
+    direction: Direction,
+    number: u16,
+    room: u64,
+    table: &[u16; TABLE_WORDS],
+) -> bool {
     let mut written = [0u16; TABLE_WORDS];
     pattern::fill_words(&mut written);
     if has_run(number) {
-        write_lent(words, room, &mut written);
+        write_lent(words, direction, room, &mut written);
     }
     same_words(table, &written)
 }

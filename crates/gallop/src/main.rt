@@ -6,6 +6,7 @@ mod lines;
 mod requests;
 mod residues;
 mod runs;
+mod verbs;
 
 use lines::Line;
 use lines::Waiting;

@@ -4,21 +4,19 @@ use super::answers;
 use super::answers::MAX_ANSWER;
 use super::kept;
 use super::runs;
-use super::runs::Arithmetic;
+use super::verbs;
+use super::verbs::Direction;
+use super::verbs::Verb;
 use text::fields;
 use text::fields::Group;
 use text::fields::MAX_LINE;
 use text::heads;
+use text::heads::Lends;
 use text::heads::Lengths;
 use text::lend;
 use text::lend::SHEET_WORDS;
 use text::lend::TABLE_WORDS;
 use text::pattern;
-
-// How many lengths each verb has.
-const CHECK_LENGTHS: usize = 0;
-
-const TABLE_LENGTHS: usize = 1;
 
 fn check_answer(words: &[u16], out: &mut [u8; MAX_ANSWER]) -> usize {
     let checked = table::check(words);
@@ -37,10 +35,15 @@ fn table_words(table: &[u16; TABLE_WORDS]) -> usize {
     1 + sheet::ROW_WORDS * rows
 }
 
-fn table_answer(words: &[u16], room: u64, out: &mut [u8; MAX_ANSWER]) -> usize {
+fn table_answer(
+    words: &[u16],
+    direction: Direction,
+    room: u64,
+    out: &mut [u8; MAX_ANSWER],
+) -> usize {
     let mut table = [0u16; TABLE_WORDS];
     pattern::fill_words(&mut table);
-    let answer = kept::write_lent(words, room, &mut table);
+    let answer = kept::write_lent(words, direction, room, &mut table);
     let used = answers::put_answer(out, answer.number, answer.place);
     if answer.number != table::DONE {
         let kept = pattern::words_stand(&table, 0, 0);
@@ -55,7 +58,7 @@ fn table_answer(words: &[u16], room: u64, out: &mut [u8; MAX_ANSWER]) -> usize {
 fn check_line(line: &[u8], from: usize, out: &mut [u8; MAX_ANSWER]) -> usize
     requires { ⌜ Taken (now line) ⌝ }
 {
-    let Lengths::Then(_, next) = heads::read_lengths(line, from, CHECK_LENGTHS) else {
+    let Lengths::Then(_, next) = heads::read_lengths(line, from, Lends::Nothing) else {
         return answers::put_bad_line(out);
     };
     let mut words = [0u16; SHEET_WORDS];
@@ -65,17 +68,17 @@ fn check_line(line: &[u8], from: usize, out: &mut [u8; MAX_ANSWER]) -> usize
     check_answer(heads::sheet_of(&words, count), out)
 }
 
-fn table_line(line: &[u8], from: usize, out: &mut [u8; MAX_ANSWER]) -> usize
+fn table_line(line: &[u8], from: usize, direction: Direction, out: &mut [u8; MAX_ANSWER]) -> usize
     requires { ⌜ Taken (now line) ⌝ }
 {
-    let Lengths::Then(asked, next) = heads::read_lengths(line, from, TABLE_LENGTHS) else {
+    let Lengths::Then(asked, next) = heads::read_lengths(line, from, Lends::Table) else {
         return answers::put_bad_line(out);
     };
     let mut words = [0u16; SHEET_WORDS];
     let Group::Last(count) = heads::read_words(line, next, &mut words) else {
         return answers::put_bad_line(out);
     };
-    table_answer(heads::sheet_of(&words, count), asked.room, out)
+    table_answer(heads::sheet_of(&words, count), direction, asked.room, out)
 }
 
 // The answer to a line that is looked at. An empty line has the empty verb and is no request.
@@ -83,21 +86,13 @@ fn taken_line(line: &[u8], out: &mut [u8; MAX_ANSWER]) -> usize
     requires { ⌜ Taken (now line) ⌝ }
 {
     let end = fields::verb_end(line);
-    let verb = &line[..end];
     let from = end + 1;
-    if check::same(verb, b"check") {
-        return check_line(line, from, out);
+    match verbs::verb_of(&line[..end]) {
+        Verb::Check => check_line(line, from, out),
+        Verb::Write(direction) => table_line(line, from, direction, out),
+        Verb::Run(task) => runs::run_line(line, from, task, out),
+        Verb::Unknown => answers::put_bad_line(out),
     }
-    if check::same(verb, b"table") {
-        return table_line(line, from, out);
-    }
-    if check::same(verb, b"audit") {
-        return runs::run_line(line, from, Arithmetic::Residues, out);
-    }
-    if check::same(verb, b"double") {
-        return runs::run_line(line, from, Arithmetic::Doubles, out);
-    }
-    answers::put_bad_line(out)
 }
 
 pub fn answer_line(line: &[u8; MAX_LINE], length: usize, out: &mut [u8; MAX_ANSWER]) -> usize {

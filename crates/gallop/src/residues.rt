@@ -1,4 +1,5 @@
 // A run in residues, on numbers of 64 bits. `doubles` is a module of the same shape, since Rattle has no generics.
+use super::verbs::Direction;
 use table::Reply;
 use text::fields::MAX_FIELDS;
 use text::heads::Asked;
@@ -26,10 +27,28 @@ fn give_residues(residues: &[u32; PLACES], numbers: &mut [u64; PLACES]) {
     }
 }
 
+// A tangent has no use for the stacks.
+fn run_table(
+    words: &[u16],
+    direction: Direction,
+    table: &mut [u16],
+    values: &mut [u32],
+    turns: &mut [u16],
+    starts: &[u32],
+    seeds: &[u32],
+    result: &mut [u32],
+) -> Reply {
+    match direction {
+        Direction::Adjoint => run::run_audit(words, table, values, turns, starts, seeds, result),
+        Direction::Tangent => tangent::tangent_audit(words, table, starts, seeds, result),
+    }
+}
+
 // The value stack and the result are lent up to the lengths asked for.
 pub fn run_residues(
     words: &[u16],
     asked: Asked,
+    direction: Direction,
     table: &mut [u16],
     values: &mut [u64; PLACES],
     turns: &mut [u16],
@@ -49,8 +68,9 @@ pub fn run_residues(
     let start_count = lend::lent(starts.len() as u64, MAX_FIELDS);
     let seed_count = lend::lent(seeds.len() as u64, MAX_FIELDS);
     let result_count = lend::lent(asked.result, PLACES);
-    let answer = run::run_audit(
+    let answer = run_table(
         words,
+        direction,
         table,
         &mut value_cells[..value_count],
         turns,

@@ -1,10 +1,13 @@
-// The requests `audit` and `double`. Values, results, start values and seeds are numbers of 64 bits here, so that all but the call itself stands once.
+// The requests that run a sheet. Values, results, start values and seeds are numbers of 64 bits here, so that all but the call itself stands once; a tangent's
+// rates stand where an adjoint's seeds do.
 ghost use Rattle.text.specs.Lines.{Taken};
 use super::answers;
 use super::answers::MAX_ANSWER;
 use super::doubles;
 use super::kept;
 use super::residues;
+use super::verbs;
+use super::verbs::Task;
 use table::Reply;
 use text::fields;
 use text::fields::Form;
@@ -18,26 +21,6 @@ use text::lend::PLACES;
 use text::lend::SHEET_WORDS;
 use text::lend::TABLE_WORDS;
 use text::pattern;
-use text::widths;
-
-pub enum Arithmetic {
-    Residues,
-    Doubles,
-}
-
-fn form_of(arithmetic: Arithmetic) -> Form {
-    match arithmetic {
-        Arithmetic::Residues => Form::Decimal(widths::MAX_RESIDUE),
-        Arithmetic::Doubles => Form::Bits,
-    }
-}
-
-fn pattern_of(arithmetic: Arithmetic) -> u64 {
-    match arithmetic {
-        Arithmetic::Residues => pattern::RESIDUES,
-        Arithmetic::Doubles => pattern::DOUBLES,
-    }
-}
 
 fn put_result(
     out: &mut [u8; MAX_ANSWER],
@@ -53,11 +36,10 @@ fn put_result(
     answers::put_numbers(out, used, lend::first_numbers(result, shown), form)
 }
 
-// The run on as much of each buffer as is asked for.
-fn run_lent(
+fn run_task(
     words: &[u16],
     asked: Asked,
-    arithmetic: Arithmetic,
+    task: Task,
     table: &mut [u16],
     values: &mut [u64; PLACES],
     turns: &mut [u16],
@@ -65,27 +47,25 @@ fn run_lent(
     seeds: &[u64],
     result: &mut [u64; PLACES],
 ) -> Reply {
-    let room = lend::lent(asked.room, table.len());
-    let for_turns = lend::lent(asked.turns, turns.len());
-    let lent_table = &mut table[..room];
-    let lent_turns = &mut turns[..for_turns];
-    match arithmetic {
-        Arithmetic::Residues => residues::run_residues(
+    match task {
+        Task::Residues(direction) => residues::run_residues(
             words,
             asked,
-            lent_table,
+            direction,
+            table,
             values,
-            lent_turns,
+            turns,
             starts,
             seeds,
             result,
         ),
-        Arithmetic::Doubles => doubles::run_doubles(
+        Task::Doubles(engine) => doubles::run_doubles(
             words,
             asked,
-            lent_table,
+            engine,
+            table,
             values,
-            lent_turns,
+            turns,
             starts,
             seeds,
             result,
@@ -97,14 +77,16 @@ fn run_lent(
 fn all_kept(
     words: &[u16],
     asked: Asked,
+    task: Task,
     number: u16,
-    base: u64,
     table: &[u16; TABLE_WORDS],
     values: &[u64; PLACES],
     turns: &[u16; PLACES],
     result: &[u64; PLACES],
 ) -> bool {
-    let table_kept = kept::table_stands(words, number, asked.room, table);
+    let base = verbs::pattern_of(task);
+    let direction = verbs::table_of(task);
+    let table_kept = kept::table_stands(words, direction, number, asked.room, table);
     let values_kept = pattern::numbers_stand(values, base, 0, kept::cleared(number, asked.values));
     let turns_kept = pattern::words_stand(turns, 0, kept::cleared(number, asked.turns));
     let result_kept = pattern::numbers_stand(result, base, kept::printed(number, asked.result), 0);
@@ -114,12 +96,12 @@ fn all_kept(
 fn run_answer(
     words: &[u16],
     asked: Asked,
-    arithmetic: Arithmetic,
+    task: Task,
     starts: &[u64],
     seeds: &[u64],
     out: &mut [u8; MAX_ANSWER],
 ) -> usize {
-    let base = pattern_of(arithmetic);
+    let base = verbs::pattern_of(task);
     let mut table = [0u16; TABLE_WORDS];
     let mut values = [0u64; PLACES];
     let mut turns = [0u16; PLACES];
@@ -128,21 +110,23 @@ fn run_answer(
     pattern::fill_numbers(&mut values, base);
     pattern::fill_words(&mut turns);
     pattern::fill_numbers(&mut result, base);
-    let answer = run_lent(
+    let room = lend::lent(asked.room, TABLE_WORDS);
+    let for_turns = lend::lent(asked.turns, PLACES);
+    let answer = run_task(
         words,
         asked,
-        arithmetic,
-        &mut table,
+        task,
+        &mut table[..room],
         &mut values,
-        &mut turns,
+        &mut turns[..for_turns],
         starts,
         seeds,
         &mut result,
     );
     let number = answer.number;
     let shown = kept::printed(number, asked.result);
-    let used = put_result(out, answer, form_of(arithmetic), &result, shown);
-    let kept = all_kept(words, asked, number, base, &table, &values, &turns, &result);
+    let used = put_result(out, answer, verbs::form_of(task), &result, shown);
+    let kept = all_kept(words, asked, task, number, &table, &values, &turns, &result);
     answers::put_kept(out, used, kept)
 }
 
@@ -151,18 +135,12 @@ fn given(numbers: &[u64; MAX_FIELDS], count: usize) -> &[u64] {
     lend::first_numbers(numbers, count)
 }
 
-const RUN_LENGTHS: usize = 4;
-
-pub fn run_line(
-    line: &[u8],
-    from: usize,
-    arithmetic: Arithmetic,
-    out: &mut [u8; MAX_ANSWER],
-) -> usize
+pub fn run_line(line: &[u8], from: usize, task: Task, out: &mut [u8; MAX_ANSWER]) -> usize
     requires { ⌜ Taken (now line) ⌝ }
 {
-    let form = form_of(arithmetic);
-    let Lengths::Then(asked, at_words) = heads::read_lengths(line, from, RUN_LENGTHS) else {
+    let form = verbs::form_of(task);
+    let lends = verbs::lends_of(task);
+    let Lengths::Then(asked, at_words) = heads::read_lengths(line, from, lends) else {
         return answers::put_bad_line(out);
     };
     let mut words = [0u16; SHEET_WORDS];
@@ -181,7 +159,7 @@ pub fn run_line(
     run_answer(
         heads::sheet_of(&words, count),
         asked,
-        arithmetic,
+        task,
         given(&starts, start_count),
         given(&seeds, seed_count),
         out,

@@ -8,7 +8,16 @@ use super::lend;
 use super::lend::SHEET_WORDS;
 use super::widths;
 
-// How much of each buffer is to be lent. A verb that has fewer lengths leaves the others at 0.
+// Which buffers a verb lends. Its line gives their lengths in this order: the table's, both stacks', the result's.
+pub enum Lends {
+    Nothing,
+    Table,
+    Result,
+    TableAndResult,
+    All,
+}
+
+// How much of each buffer is to be lent, 0 of one that the verb doesn't lend.
 pub struct Asked {
     pub room: u64,
     pub values: u64,
@@ -22,17 +31,41 @@ pub enum Lengths {
     Bad,
 }
 
-fn asked_by(numbers: &[u64; MAX_FIELDS]) -> Asked {
-    Asked {
-        room: numbers[0],
-        values: numbers[1],
-        turns: numbers[2],
-        result: numbers[3],
+fn length_count(lends: Lends) -> usize {
+    match lends {
+        Lends::Nothing => 0,
+        Lends::Table => 1,
+        Lends::Result => 1,
+        Lends::TableAndResult => 2,
+        Lends::All => 4,
     }
 }
 
-// `count` is how many lengths the verb has.
-pub fn read_lengths(line: &[u8], from: usize, count: usize) -> Lengths
+fn without_stacks(room: u64, result: u64) -> Asked {
+    Asked {
+        room,
+        values: 0,
+        turns: 0,
+        result,
+    }
+}
+
+fn asked_by(lends: Lends, numbers: &[u64; MAX_FIELDS]) -> Asked {
+    match lends {
+        Lends::Nothing => without_stacks(0, 0),
+        Lends::Table => without_stacks(numbers[0], 0),
+        Lends::Result => without_stacks(0, numbers[0]),
+        Lends::TableAndResult => without_stacks(numbers[0], numbers[1]),
+        Lends::All => Asked {
+            room: numbers[0],
+            values: numbers[1],
+            turns: numbers[2],
+            result: numbers[3],
+        },
+    }
+}
+
+pub fn read_lengths(line: &[u8], from: usize, lends: Lends) -> Lengths
     requires { ⌜ Taken (now line) ⌝ }
 {
     let mut numbers = [0u64; MAX_FIELDS];
@@ -40,8 +73,8 @@ pub fn read_lengths(line: &[u8], from: usize, count: usize) -> Lengths
     else {
         return Lengths::Bad;
     };
-    if has == count {
-        return Lengths::Then(asked_by(&numbers), next);
+    if has == length_count(lends) {
+        return Lengths::Then(asked_by(lends, &numbers), next);
     }
     Lengths::Bad
 }

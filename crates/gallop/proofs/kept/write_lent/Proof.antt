@@ -6,8 +6,8 @@ use borrow.Author.Needs.{needs}
 use Rattle.gallop.proofs.kept.write_lent.Statement.{statement}
 use Rattle.gallop.proofs.kept.write_lent.Tie as tie
 
-slice-aggregate-write : tie.Need-slice-aggregate-write
-slice-aggregate-write c = sym (length-take-le _ _ (omega arith))
+slice-aggregate-lent-table : tie.Need-slice-aggregate-lent-table
+slice-aggregate-lent-table c = sym (length-take-le _ _ (omega arith))
 
 pub write-lent-spec : {M : Type 1} → statement M
 write-lent-spec =
@@ -15,7 +15,12 @@ write-lent-spec =
     (tie.spec
     (λ c κs. search needs)
     (λ c. search needs)
-    slice-aggregate-write
+    slice-aggregate-lent-table
+    (λ c. search needs)
     (λ c κs. search needs)
+    (λ c. search needs)
+    (λ c κs. search needs)
+    (λ c. search needs)
+    (λ c. search needs)
     (λ c. search needs)
     (λ c. search needs))

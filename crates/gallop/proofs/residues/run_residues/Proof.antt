@@ -6,17 +6,17 @@ use borrow.Author.Needs.{needs}
 use Rattle.gallop.proofs.residues.run_residues.Statement.{statement}
 use Rattle.gallop.proofs.residues.run_residues.Tie as tie
 
-slice-aggregate-run-audit : tie.Need-slice-aggregate-run-audit
-slice-aggregate-run-audit c = sym (length-take-le _ _ (omega arith))
+slice-aggregate-run-table : tie.Need-slice-aggregate-run-table
+slice-aggregate-run-table c = sym (length-take-le _ _ (omega arith))
 
-slice-aggregate-run-audit-2 : tie.Need-slice-aggregate-run-audit-2
-slice-aggregate-run-audit-2 c = sym (length-take-le _ _ (omega arith))
+slice-aggregate-run-table-2 : tie.Need-slice-aggregate-run-table-2
+slice-aggregate-run-table-2 c = sym (length-take-le _ _ (omega arith))
 
-slice-aggregate-run-audit-3 : tie.Need-slice-aggregate-run-audit-3
-slice-aggregate-run-audit-3 c = sym (length-take-le _ _ (omega arith))
+slice-aggregate-run-table-3 : tie.Need-slice-aggregate-run-table-3
+slice-aggregate-run-table-3 c = sym (length-take-le _ _ (omega arith))
 
-slice-aggregate-run-audit-4 : tie.Need-slice-aggregate-run-audit-4
-slice-aggregate-run-audit-4 c = sym (length-take-le _ _ (omega arith))
+slice-aggregate-run-table-4 : tie.Need-slice-aggregate-run-table-4
+slice-aggregate-run-table-4 c = sym (length-take-le _ _ (omega arith))
 
 pub run-residues-spec : {M : Type 1} → statement M
 run-residues-spec =
@@ -35,13 +35,13 @@ run-residues-spec =
     (λ c κs. search needs)
     (λ c κs. search needs)
     (λ c. search needs)
-    slice-aggregate-run-audit
+    slice-aggregate-run-table
     (λ c. search needs)
-    slice-aggregate-run-audit-2
+    slice-aggregate-run-table-2
     (λ c. search needs)
-    slice-aggregate-run-audit-3
+    slice-aggregate-run-table-3
     (λ c. search needs)
-    slice-aggregate-run-audit-4
+    slice-aggregate-run-table-4
     (λ c κs. search needs)
     (λ c κs. search needs)
     (λ c κs. search needs)
