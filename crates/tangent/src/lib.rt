@@ -12,6 +12,7 @@ ghost use Rattle.table.specs.inner.Plans.{SheetNoted, PlanMadeFor, PlanSaysFor}
 ghost use Rattle.writer.specs.inner.JumpsNoted.{TableNoted};
 ghost use Rattle.tangent.specs.Calls.{tangentOf, tangentNeedsOf, writeTangent};
 ghost use Rattle.tangent.specs.inner.TangentPlans.{TangentPlanned};
+use sheet::RowNumber;
 use table::MAX_TABLE_ROWS;
 use table::Plan;
 use table::Planned;
@@ -39,7 +40,7 @@ fn plan_of(
         ∗ ⌜ ((sheet : Sheet) → read (now words) ≡ given sheet → SheetNoted sheet (now marks) (now came) (now goes)) ⌝ }
     ensures { λ r. ⌜ PlanMadeFor tangentNeedsOf (now (words .entry)) r (now (marks .entry)) (now (came .entry)) (now (goes .entry)) ⌝ }
 {
-    let rows = sweep::rows_before(words, shape, marks, shape.rows);
+    let rows = sweep::rows_before(words, shape, marks, RowNumber(shape.rows));
     Plan {
         shape,
         rows,

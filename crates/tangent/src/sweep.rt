@@ -18,14 +18,14 @@ use table::Plan;
 use writer::jumps;
 
 // How many rows the tangent table has before those of a sheet's row: the number of that row's first one.
-pub fn rows_before(words: &[u16], shape: Shape, marks: &[u8], row: usize) -> usize
-    requires { ⌜ RowsReadable (now words) shape (now marks) ⌝ ∗ ⌜ row ≤ shape .rows ⌝ }
-    ensures { λ r. ⌜ (r ≡ tableRowsBefore (now (words .entry)) (shape .«first_row») (now (marks .entry)) row) × (r ≤ mostLineCount * limit .rows) ⌝ }
+pub fn rows_before(words: &[u16], shape: Shape, marks: &[u8], row: RowNumber) -> usize
+    requires { ⌜ RowsReadable (now words) shape (now marks) ⌝ ∗ ⌜ row .0 ≤ shape .rows ⌝ }
+    ensures { λ r. ⌜ (r ≡ tableRowsBefore (now (words .entry)) (shape .«first_row») (now (marks .entry)) (row .0)) × (r ≤ mostLineCount * limit .rows) ⌝ }
 {
     let forms = sheet::kinds::forms();
     let mut rows: usize = 0;
     let mut p: usize = 0;
-    while p < row {
+    while p < row.0 {
         let said = sheet::row_of(words, shape.first_row, RowNumber(p));
         let kind = sheet::wide(said.kind);
         let form = forms[kind];

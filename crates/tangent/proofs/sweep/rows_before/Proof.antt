@@ -18,33 +18,33 @@ use Rattle.tangent.proofs.sweep.rows_before.Statement.{statement}
 use Rattle.tangent.proofs.sweep.rows_before.Tie as tie
 
 abbrev Inv-loop : tie.InvT-loop
-Inv-loop words shape marks row forms rows₀ p₀ rows p = Passing words (shape .«first_row») marks row rows p
+Inv-loop words shape marks row forms rows₀ p₀ rows p = Passing words (shape .«first_row») marks (row .0) rows p
 
 abbrev μ-loop : tie.MeasureT-loop
-μ-loop words shape marks row forms rows₀ p₀ rows p = row - p
+μ-loop words shape marks row forms rows₀ p₀ rows p = row .0 - p
 
 -- the row that was read says a line, and its part is the one that the table has for its kind
 module _ (c : tie.After-wide Inv-loop μ-loop) where
-  abbrev turn : tie.In-loop Inv-loop μ-loop
+  abbrev turn : tie.Then1 Inv-loop μ-loop
   turn = c .before .before
 
   abbrev start : tie.Start Inv-loop μ-loop
-  start = turn .before .before .before .before .before
+  start = turn .before .before .before .before .before .before
 
   abbrev rowRead : Row
   rowRead = rowSaid (c .before .row-of .result)
 
   says : SaysLine rowRead
-  says = subst SaysLine (sym (c .before .row-of .ensures)) (start .pre .0 .says _ (omega (arith, turn .loop-test .taken, start .pre .1)))
+  says = subst SaysLine (sym (c .before .row-of .ensures)) (start .pre .0 .says _ (omega (arith, turn .if1 .taken, start .pre .1)))
 
   in-table : rowRead .kind ≤ length kinds
   in-table = row-kind says
 
   abbrev part : Part
-  part = formIn (turn .before .before .forms .result) (c .wide .result) .3
+  part = formIn (turn .before .before .before .forms .result) (c .wide .result) .3
 
   part-found : part ≡ partFor (rowRead .kind)
-  part-found = part-there (turn .before .before .forms .ensures) (c .wide .ensures .0) in-table
+  part-found = part-there (turn .before .before .before .forms .ensures) (c .wide .ensures .0) in-table
 
   said : SaysPart rowRead part
   said = says-part _ _ says part-found
@@ -57,8 +57,8 @@ loop-holds c = none-passed _ _ _ _
 
 row-of-requires : tie.Need-row-of-requires Inv-loop μ-loop
 row-of-requires c κs =
-    let start = c .before .before .before .before .before in
-    omega (arith, start .pre .0 .there, start .pre .1, c .loop-test .taken)
+    let start = c .before .before .before .before .before .before in
+    omega (arith, start .pre .0 .there, start .pre .1, c .if1 .taken)
 
 wide-requires : tie.Need-wide-requires Inv-loop μ-loop
 wide-requires c κs = search needs
@@ -72,7 +72,7 @@ array-copy-out-form c = omega (arith, c .wide .ensures .0, in-table c)
 shared-slice-read-rows-over : tie.Need-shared-slice-read-rows-over Inv-loop μ-loop
 shared-slice-read-rows-over c =
     let at = c .before .before in
-    omega (arith, start at .pre .0 .marked, start at .pre .1, turn at .loop-test .taken)
+    omega (arith, start at .pre .0 .marked, start at .pre .1, turn at .if1 .taken)
 
 rows-over-requires : tie.Need-rows-over-requires Inv-loop μ-loop
 rows-over-requires c κs = said (c .before .before)
@@ -80,25 +80,25 @@ rows-over-requires c κs = said (c .before .before)
 add-rows : tie.Need-add-rows Inv-loop μ-loop
 add-rows c =
     let at = c .before .before .before in
-    omega (arith, turn at .before .loop .inv .few, c .rows-over .ensures .1, turn at .loop-test .taken, start at .pre .1, start at .pre .0 .few)
+    omega (arith, turn at .before .before .loop .inv .few, c .rows-over .ensures .1, turn at .if1 .taken, start at .pre .1, start at .pre .0 .few)
 
 add-p : tie.Need-add-p Inv-loop μ-loop
 add-p c =
     let at = c .before .before .before in
-    omega (arith, turn at .loop-test .taken, start at .pre .1, start at .pre .0 .few)
+    omega (arith, turn at .if1 .taken, start at .pre .1, start at .pre .0 .few)
 
 loop-less : tie.Need-loop-less Inv-loop μ-loop
-loop-less c = omega (arith, turn (c .before .before .before) .loop-test .taken)
+loop-less c = omega (arith, turn (c .before .before .before) .if1 .taken)
 
 loop-again : tie.Need-loop-again Inv-loop μ-loop
 loop-again c =
     let at = c .before .before .before in
-    one-passed (turn at .before .loop .inv) (turn at .loop-test .taken) (at .before .row-of .ensures) (c .rows-over .ensures .0) (c .rows-over .ensures .1)
+    one-passed (turn at .before .before .loop .inv) (turn at .if1 .taken) (at .before .row-of .ensures) (c .rows-over .ensures .0) (c .rows-over .ensures .1)
 
 returns : tie.Need-returns Inv-loop μ-loop
 returns c =
-    let start = c .before .before .before .before .before in
-    all-passed (c .before .loop .inv) (c .loop-test .left) (omega (arith, start .pre .1, start .pre .0 .few))
+    let start = c .before .before .before .before .before .before in
+    all-passed (c .before .before .loop .inv) (c .if1 .left) (omega (arith, start .pre .1, start .pre .0 .few))
 
 pub rows-before-spec : {M : Type 1} → statement M
 rows-before-spec =
