@@ -14,6 +14,7 @@ use Rattle.sheet.specs.Refusals.{Refusal, wrongStarts, wrongSeeds, wrongResult}
 use Rattle.sheet.specs.Sheets.{Sheet, variablesOf}
 use Rattle.sheet.specs.Reading.{read}
 use Rattle.sheet.specs.Answers.{shapeOf, shapeRead}
+use Rattle.sheet.specs.declared.RowNumber.{RowNumber}
 use Rattle.sheet.specs.declared.Shape.{Shape}
 use Rattle.sheet.proofs.Judgements.{bind-assoc}
 use Rattle.sheet.proofs.ReadingParts.{bound, passed, same-given}
@@ -81,7 +82,7 @@ module _ {words : List ℕ} {shape : Shape} {marks goes : List ℕ} (found : Fou
           ≡ carriedTo doubles sheet result (plainBy doubles (setsOf sheet) sheet starts rates))
           (rw (run-is, told, written, roles-are))
 
-      pub stopped : (row n : ℕ) → ran .end ≡ end.Stopped row n → (place : ℕ) → place ≡ tableRowsBefore words (shape .«first_row») marks row
+      pub stopped : (row : RowNumber) (n : ℕ) → ran .end ≡ end.Stopped row n → (place : ℕ) → place ≡ tableRowsBefore words (shape .«first_row») marks (row .0)
           → (sheet : Sheet) → read words ≡ given sheet
           → carryOf doubles (record { number = 12; place = place + n }) result ≡ carriedTo doubles sheet result (plainBy doubles (setsOf sheet) sheet starts rates)
       unfolding carriedTo

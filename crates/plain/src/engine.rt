@@ -18,7 +18,7 @@ use sheet::kinds;
 // How a run ends: it is through, or it stops at a sheet's row, after so many of that row's table rows.
 pub enum End {
     Finished,
-    Stopped(usize, u8),
+    Stopped(RowNumber, u8),
 }
 
 pub struct Ran {
@@ -70,7 +70,7 @@ pub fn run_rows(
                 Worked::Is(x) => cells[cell_of(said.d)] = x,
                 Worked::Stopped(after) => return Ran {
                     cells,
-                    end: End::Stopped(row, after),
+                    end: End::Stopped(RowNumber(row), after),
                 },
             }
             row += 1;

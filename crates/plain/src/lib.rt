@@ -15,7 +15,6 @@ use run::Fit;
 use run::refusals;
 use sets::Marking;
 use sheet::MAX_ROWS;
-use sheet::RowNumber;
 use sheet::Shape;
 use table::Reply;
 
@@ -59,7 +58,7 @@ fn carry(
         }
         End::Stopped(row, after) => Reply {
             number: run::NOT_FINITE_RESULT,
-            place: tangent::rows_before(words, shape, marks, RowNumber(row)) + after as usize,
+            place: tangent::rows_before(words, shape, marks, row) + after as usize,
         },
     }
 }

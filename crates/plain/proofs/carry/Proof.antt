@@ -67,11 +67,11 @@ rows-before-requires c κs =
     let few = lies .fewRows in
     (readable lies _ (omega arith), subst (λ end. stoppedRow end ≤ start .args .shape .rows) (c .before .before .end .given .1) (ran .run-rows .ensures .within))
 
-cast-t35 : tie.Need-cast-t35
-cast-t35 c = search needs
+cast-t34 : tie.Need-cast-t34
+cast-t34 c = search needs
 
-add-t36 : tie.Need-add-t36
-add-t36 c = search needs
+add-t35 : tie.Need-add-t35
+add-t35 c = search needs
 
 same-length : tie.Need-same-length
 same-length c = search needs
@@ -110,8 +110,8 @@ carry-spec =
     write-out-requires
     enum-known-end
     rows-before-requires
-    cast-t35
-    add-t36
+    cast-t34
+    add-t35
     same-length
     returns
     returns-2)

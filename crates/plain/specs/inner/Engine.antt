@@ -59,12 +59,12 @@ stopAt row = record { row = record { index = row }; why = notFinite }
 
 abbrev pub endSaid : (variables : ℕ) → (before : ℕ → ℕ) → List Rated → End → Attempt (StopAt doubles) (Carried doubles)
 endSaid v before cells end.Finished = through (carriedIn v cells)
-endSaid v before cells (end.Stopped row after) = halted (stopAt (before row + after))
+endSaid v before cells (end.Stopped row after) = halted (stopAt (before (row .0) + after))
 
 -- which row it stops at, if any
 abbrev pub stoppedRow : End → ℕ
 stoppedRow end.Finished = 0
-stoppedRow (end.Stopped row after) = row
+stoppedRow (end.Stopped row after) = row .0
 
 pub record RunsTo (words : List ℕ) (shape : Shape) (marks : List ℕ) (start : List Rated) (ran : Ran) : Type 0 where
   pub room : length (ran .cells) ≡ limit .variables
