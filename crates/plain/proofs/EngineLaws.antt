@@ -396,7 +396,7 @@ module _ (words : List ℕ) (first : ℕ) (marks goes : List ℕ) (mark : ℕ �
         by done (inRepeat m all start a t ∷ frames) w at-a at-b = tt
 
     abbrev GoingAt : Crossed → Type 0
-    GoingAt next = Going count whole cells (next .toCome) (next .at .row) (next .at .depth) (left - 1)
+    GoingAt next = Going count whole cells (next .toCome) (next .at .row .0) (next .at .depth) (left - 1)
 
     -- the state after a row, as it is put together
     abbrev Next : Rest → List Frame → (toCome : List ℕ) (row depth : ℕ) → Type 0

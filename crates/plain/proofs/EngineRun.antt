@@ -122,7 +122,7 @@ module _ {words : List ℕ} {shape : Shape} {marks goes : List ℕ} {start cells
         both : Crossable (partOf line) (r .a) depth (length toCome)
             × Going words (shape .«first_row») marks goes (its mine) (vars mine) constants (shape .rows) (wholeFrom mine start) cells
             (crossing (partOf line) (r .a) holds goes toCome (atRow row depth) .toCome)
-            (crossing (partOf line) (r .a) holds goes toCome (atRow row depth) .at .row)
+            (crossing (partOf line) (r .a) holds goes toCome (atRow row depth) .at .row .0)
             (crossing (partOf line) (r .a) holds goes toCome (atRow row depth) .at .depth) (left - 1)
         both =
             at-block words (shape .«first_row») marks goes (its mine) (vars mine) constants now below (r .a) holds (ap assigns (sym part-is) ∙ block)
@@ -136,7 +136,7 @@ module _ {words : List ℕ} {shape : Shape} {marks goes : List ℕ} {start cells
 
         pub goes-across : (next : At) (toCome′ : List ℕ)
             → _≡_ {A = Crossed} (record { at = next; toCome = toCome′ }) (crossing p (r .a) holds goes toCome (atRow row depth))
-            → RunningAt cells toCome′ (next .row) (next .depth)
+            → RunningAt cells toCome′ (next .row .0) (next .depth)
         goes-across next toCome′ e =
             let is : _≡_ {A = Crossed} (record { at = next; toCome = toCome′ }) (crossing (partOf line) (r .a) holds goes toCome (atRow row depth)) =
             e ∙ ap (λ q. crossing q (r .a) holds goes toCome (atRow row depth)) part-is in
@@ -145,7 +145,7 @@ module _ {words : List ℕ} {shape : Shape} {marks goes : List ℕ} {start cells
               going =
                   subst
                   (λ (c : Crossed). Going words (shape .«first_row») marks goes (its mine) (vars mine) constants (shape .rows) (wholeFrom mine start) cells (c .toCome)
-                  (c .at .row) (c .at .depth) (left - 1))
+                  (c .at .row .0) (c .at .depth) (left - 1))
                   (sym is) (both .1);
             }
 

@@ -54,11 +54,12 @@ pub fn run_rows(
     let forms = kinds::forms();
     let mut cells = start;
     let mut to_come = [0u16; sheet::MAX_DEPTH];
-    let mut row: usize = 0;
+    let mut number: usize = 0;
     let mut depth: usize = 0;
     let mut left: usize = STEPS;
-    while row < shape.rows {
-        let said = sheet::row_of(words, shape.first_row, RowNumber(row));
+    while number < shape.rows {
+        let row = RowNumber(number);
+        let said = sheet::row_of(words, shape.first_row, row);
         let kind = sheet::wide(said.kind);
         let form = forms[kind];
         let part = form.3;
@@ -66,18 +67,19 @@ pub fn run_rows(
         let b = cells[cell_of(said.b)];
         left -= 1;
         if kinds::assigns(part) {
-            match rates::assigned(words, shape.first_constant, said, marks[row], a, b) {
+            match rates::assigned(words, shape.first_constant, said, marks[number], a, b) {
                 Worked::Is(x) => cells[cell_of(said.d)] = x,
                 Worked::Stopped(after) => return Ran {
                     cells,
-                    end: End::Stopped(RowNumber(row), after),
+                    end: End::Stopped(row, after),
                 },
             }
-            row += 1;
+            number += 1;
         } else {
             let holds = double::less(a.value, b.value);
             let next = blocks::cross(part, said.a, holds, goes, &mut to_come, At { row, depth });
-            row = next.row;
+            let to = next.row;
+            number = to.0;
             depth = next.depth;
         }
     }

@@ -13,7 +13,7 @@ pub record Crossed : Type 0 where
   pub toCome : List ℕ
 
 abbrev pub atRow : (row depth : ℕ) → At
-atRow row depth = record { row = row; depth = depth }
+atRow row depth = record { row = record { 0 = row }; depth = depth }
 
 abbrev pub crossedTo : (row depth : ℕ) → (toCome : List ℕ) → Crossed
 crossedTo row depth toCome = record { at = atRow row depth; toCome = toCome }
@@ -24,15 +24,15 @@ turnEnded row back depth turns toCome =
     cond (eqb turns 0) (crossedTo (row + 1) (depth - 1) toCome) (crossedTo (back + 1) depth (set toCome (depth - 1) (turns - 1)))
 
 abbrev pub endedTurn : (goes toCome : List ℕ) → At → Crossed
-endedTurn goes toCome at = turnEnded (at .row) (getD goes (at .row) 0) (at .depth) (getD toCome (at .depth - 1) 0) toCome
+endedTurn goes toCome at = turnEnded (at .row .0) (getD goes (at .row .0) 0) (at .depth) (getD toCome (at .depth - 1) 0) toCome
 
 -- by what the row is to the blocks: its count of turns, whether its test holds, and the rows' partners
 abbrev pub crossing : Part → (turns : ℕ) → (holds : Bool) → (goes toCome : List ℕ) → At → Crossed
-crossing part.Assignment turns holds goes toCome at = crossedTo (at .row + 1) (at .depth) toCome
-crossing part.If turns holds goes toCome at = crossedTo (cond holds (at .row + 1) (getD goes (at .row) 0 + 1)) (at .depth) toCome
-crossing part.Else turns holds goes toCome at = crossedTo (getD goes (at .row) 0 + 1) (at .depth) toCome
-crossing part.EndIf turns holds goes toCome at = crossedTo (at .row + 1) (at .depth) toCome
-crossing part.Repeat turns holds goes toCome at = crossedTo (at .row + 1) (at .depth + 1) (set toCome (at .depth) (turns - 1))
+crossing part.Assignment turns holds goes toCome at = crossedTo (at .row .0 + 1) (at .depth) toCome
+crossing part.If turns holds goes toCome at = crossedTo (cond holds (at .row .0 + 1) (getD goes (at .row .0) 0 + 1)) (at .depth) toCome
+crossing part.Else turns holds goes toCome at = crossedTo (getD goes (at .row .0) 0 + 1) (at .depth) toCome
+crossing part.EndIf turns holds goes toCome at = crossedTo (at .row .0 + 1) (at .depth) toCome
+crossing part.Repeat turns holds goes toCome at = crossedTo (at .row .0 + 1) (at .depth + 1) (set toCome (at .depth) (turns - 1))
 crossing part.EndRepeat turns holds goes toCome at = endedTurn goes toCome at
 
 -- a repeat that opens has turns and room, and one that ends is open

@@ -11,7 +11,7 @@ use Rattle.plain.proofs.blocks.cross.Tie as tie
 -- a repeat that opens has turns and room
 module _ (c : tie.After-enum-told5) where
   abbrev start : tie.Start
-  start = c .before .before .before .before
+  start = c .before .before .before .before .before
 
   opens : (1 ≤ start .args .turns) × (start .args .at .depth < length (start .args .to-come .now))
   opens =
@@ -21,8 +21,8 @@ module _ (c : tie.After-enum-told5) where
 enum-told : tie.Need-enum-told
 enum-told c = search needs
 
-add-t10 : tie.Need-add-t10
-add-t10 c = search needs
+add-t11 : tie.Need-add-t11
+add-t11 c = search needs
 
 enum-told-2 : tie.Need-enum-told-2
 enum-told-2 c = search needs
@@ -39,8 +39,8 @@ beyond-requires c κs = search needs
 enum-told-4 : tie.Need-enum-told-4
 enum-told-4 c = search needs
 
-add-t13 : tie.Need-add-t13
-add-t13 c = search needs
+add-t15 : tie.Need-add-t15
+add-t15 c = search needs
 
 enum-told-5 : tie.Need-enum-told-5
 enum-told-5 c = search needs
@@ -54,18 +54,18 @@ mul-to-come c = omega (arith, opens c .1)
 slice-write-to-come : tie.Need-slice-write-to-come
 slice-write-to-come c = omega (arith, opens c .1)
 
-add-t15 : tie.Need-add-t15
-add-t15 c = search needs
+add-t18 : tie.Need-add-t18
+add-t18 c = search needs
 
-add-t17 : tie.Need-add-t17
-add-t17 c = omega (arith, opens c .1)
+add-t21 : tie.Need-add-t21
+add-t21 c = omega (arith, opens c .1)
 
 enum-told-6 : tie.Need-enum-told-6
 enum-told-6 c = search needs
 
 turn-ended-requires : tie.Need-turn-ended-requires
 turn-ended-requires c κs =
-    let start = c .before .before .before .before .before in
+    let start = c .before .before .before .before .before .before in
     let opened =
     subst (λ part. Crossable part (start .args .turns) (start .args .at .depth) (length (start .args .to-come .now)))
     (c .before .enum-told6 .given .1) (start .pre .1) in
@@ -100,19 +100,19 @@ cross-spec =
     tie.close
     (tie.spec
     enum-told
-    add-t10
+    add-t11
     enum-told-2
     branch-requires
     enum-told-3
     beyond-requires
     enum-told-4
-    add-t13
+    add-t15
     enum-told-5
     sub-to-come
     mul-to-come
     slice-write-to-come
-    add-t15
-    add-t17
+    add-t18
+    add-t21
     enum-told-6
     turn-ended-requires
     returns

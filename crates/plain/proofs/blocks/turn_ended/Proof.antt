@@ -13,12 +13,12 @@ mul-turns c = search needs
 slice-read-turns : tie.Need-slice-read-turns
 slice-read-turns c = search needs
 
-add-t12 : tie.Need-add-t12
-add-t12 c = search needs
+add-t13 : tie.Need-add-t13
+add-t13 c = search needs
 
 returns : tie.Need-returns
 returns c =
-    let x = c .before .before .before .before .args in
+    let x = c .before .before .before .before .before .args in
     last-turn (x .goes .now) (x .to-come .now) (x .at) (c .if1 .taken)
 
 sub-to-come : tie.Need-sub-to-come
@@ -38,7 +38,7 @@ same-length c = search needs
 
 returns-2 : tie.Need-returns-2
 returns-2 c =
-    let x = c .before .before .before .before .before .args in
+    let x = c .before .before .before .before .before .before .args in
     one-more (x .goes .now) (x .to-come .now) (x .at) (c .before .if1 .left) (c .beyond .ensures)
 
 pub turn-ended-spec : {M : Type 1} → statement M
@@ -48,7 +48,7 @@ turn-ended-spec =
     sub-top
     mul-turns
     slice-read-turns
-    add-t12
+    add-t13
     returns
     sub-to-come
     mul-to-come

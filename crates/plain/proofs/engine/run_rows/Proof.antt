@@ -20,10 +20,10 @@ use Rattle.plain.proofs.engine.run_rows.Statement.{statement}
 use Rattle.plain.proofs.engine.run_rows.Tie as tie
 
 abbrev Inv-loop : tie.InvT-loop
-Inv-loop words shape marks goes forms cells₀ to-come₀ row₀ depth₀ left₀ cells to-come row depth left = Running words shape marks goes cells₀ cells to-come row depth left
+Inv-loop words shape marks goes forms cells₀ to-come₀ number₀ depth₀ left₀ cells to-come number depth left = Running words shape marks goes cells₀ cells to-come number depth left
 
 abbrev μ-loop : tie.MeasureT-loop
-μ-loop words shape marks goes forms cells₀ to-come₀ row₀ depth₀ left₀ cells to-come row depth left = left
+μ-loop words shape marks goes forms cells₀ to-come₀ number₀ depth₀ left₀ cells to-come number depth left = left
 
 -- the row that was read says a line, and its part is the one that the table has for its kind
 module _ (c : tie.After-wide Inv-loop μ-loop) where
@@ -60,14 +60,14 @@ module _ (c : tie.After-b Inv-loop μ-loop) where
   abbrev at : tie.At-loop Inv-loop μ-loop
   at = turn read-at .before .before
 
-  abbrev below : at .loop .row < start read-at .args .shape .rows
+  abbrev below : at .loop .number < start read-at .args .shape .rows
   below = turn read-at .if1 .taken
 
-  abbrev read : rowRead read-at ≡ numberedRow (start read-at .args .words .now) (start read-at .args .shape .«first_row») (at .loop .row)
+  abbrev read : rowRead read-at ≡ numberedRow (start read-at .args .words .now) (start read-at .args .shape .«first_row») (at .loop .number)
   read = read-at .before .row-of .ensures
 
   abbrev running : let args = start read-at .args in
-      Running (args .words .now) (args .shape) (args .marks .now) (args .goes .now) (args .start) (at .loop .cells) (at .loop .to-come) (at .loop .row)
+      Running (args .words .now) (args .shape) (args .marks .now) (args .goes .now) (args .start) (at .loop .cells) (at .loop .to-come) (at .loop .number)
       (at .loop .depth) (at .loop .left)
   running = at .loop .inv
 
@@ -166,8 +166,8 @@ returns c =
     (stops-assigned (running at) (below at) (read at) (says (read-at at)) (part-found (read-at at)) assigning (x at) (y at) none (at-a at) (at-b at)
     (worked .assigned .result) (worked .assigned .ensures) (c .before .after .given .1))
 
-add-row : tie.Need-add-row Inv-loop μ-loop
-add-row c =
+add-number : tie.Need-add-number Inv-loop μ-loop
+add-number c =
     let at = c .before .before .before .before .before .before .before .before in
     omega (arith, below at, ready-readable (running at .ready) .few)
 
@@ -201,12 +201,12 @@ cross-requires c κs =
 
 loop-less-2 : tie.Need-loop-less-2 Inv-loop μ-loop
 loop-less-2 c =
-    let at = c .before .before .before .before .before .before in
+    let at = c .before .before .before .before .before .before .before in
     omega (arith, running-left (running at) (below at))
 
 loop-again-2 : tie.Need-loop-again-2 Inv-loop μ-loop
 loop-again-2 c =
-    let crossed = c .before in
+    let crossed = c .before .before in
     let at = crossed .before .before .before .before .before in
     let block = sym (crossed .before .before .before .before .assigns .ensures) ∙ crossed .before .before .before .if2 .left in
     goes-across (running at) (below at) (read at) (says (read-at at)) (part-found (read-at at)) (x at) (y at) none (at-a at) (at-b at) block
@@ -245,7 +245,7 @@ run-rows-spec =
     array-set-from-cells
     enum-known-after
     returns
-    add-row
+    add-number
     loop-less
     loop-again
     less-requires
