@@ -47,7 +47,7 @@ pub record TangentMeets (A : Arithmetic) (words : List ℕ) (starts rates : List
   pub executed : (sheet : Sheet) (sets : Sets) → Runnable A tangentNeedsBy words starts rates before sheet sets → ran .number ≡ 0
       → ExecutesSheet A sheet starts (ran .lent .result)
 
--- "and answers 0 or 12, in audit 0"
+-- in audit always 0
 pub record TangentAuditMeets (words starts rates : List ℕ) (before : Lent residues) (ran : Ran residues) : Type 0 where
   pub run : TangentMeets residues words starts rates before ran
   pub finishes : (sheet : Sheet) (sets : Sets) → Runnable residues tangentNeedsBy words starts rates before sheet sets → ran .number ≡ 0
