@@ -33,22 +33,18 @@ fn negated(word: u16) -> i32
 
 const TWO_TO_52_BITS: u64 = 0x4330_0000_0000_0000;
 
-// The stated exact case: the digits' field of 2^52 counts ones, so 2^52 + n is built from its bits.
+// The stated exact case: the digits' field of 2^52 counts ones, so 2^52 + n is built from its bits. `double_of` no longer needs it.
 fn above_two_to_52(n: u32) -> f64
     ensures { λ r. ⌜ r ≡ ofInt binary64 (pos (2 ^ 52 + n)) ⌝ }
 {
     f64::from_bits(TWO_TO_52_BITS + n as u64)
 }
 
-const RAISED_BY: u32 = 32768;
-
-// Raised by 32768 every number is natural; one difference, rounded once, takes 2^52 + 32768 off again: the double of exactly the word's number, +0 for word 0.
+// A conversion has a meaning only where it is exact, as it is at every number of 32 bits: the double of exactly the word's number, +0 for word 0.
 pub fn double_of(word: u16) -> f64
     ensures { λ r. ⌜ r ≡ doubles .constant (signed word) ⌝ }
 {
-    let number = signed(word);
-    let raised = number + RAISED_BY as i32;
-    above_two_to_52(raised as u32) - above_two_to_52(RAISED_BY)
+    signed(word) as f64
 }
 
 // The residue of −1 is 4294967295.
