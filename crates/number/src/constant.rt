@@ -33,7 +33,7 @@ fn negated(word: u16) -> i32
 
 const TWO_TO_52_BITS: u64 = 0x4330_0000_0000_0000;
 
-// The stated exact case: the digits' field of 2^52 counts ones, so 2^52 + n is built from its bits. `double_of` no longer needs it.
+// The stated exact case: the digits' field of 2^52 counts ones, so 2^52 + n is built from its bits. No function calls it: it stands for 01's form.
 fn above_two_to_52(n: u32) -> f64
     ensures { λ r. ⌜ r ≡ ofInt binary64 (pos (2 ^ 52 + n)) ⌝ }
 {
