@@ -13,7 +13,7 @@ use Rattle.number.specs.Arithmetic.{Arithmetic}
 use Rattle.sheet.specs.Tree.{done, one, RowNumber}
 use Rattle.sheet.specs.Rows.{_≔_, Source, copy, fixed, sum, difference, product, negation}
 use Rattle.sheet.specs.Names.{SourcePresent}
-use Rattle.sets.specs.VariableSets.{VariableSet, has, single}
+use Rattle.sets.specs.VariableSets.{VariableSet, has, singleIf}
 use Rattle.sets.specs.Transfers.{Activity, adjointUse}
 use Rattle.sets.proofs.VariableSetLaws.{single-has, union-left, union-right}
 use Rattle.table.specs.TableRows.{Table, TableRow, Action, assign, clear, adjointOf, t, u, Operation, Origin, ofRow, ofTurningRound}
@@ -87,13 +87,18 @@ module _ (v : ℕ) (needed : VariableSet) where
   scaling : (i : ℕ) → i < v → T (has needed i) → OnAdjoints v needed (assign (u v ≔ product i (t v)))
   scaling i h m = (omega arith, omega arith, (reads-original i h m, reads-t))
 
--- an active product needs both operands: the one law that looks inside the adjoint use
+has-single-if : (there : Bool) (i : ℕ) → T there → T (has (singleIf there i) i)
+has-single-if true i h = rw (single-has i i) (eqb-refl i)
+has-single-if false i h = absurd h
+
+-- an active product needs each operand whose fellow is varied: the one law that looks inside the adjoint use
 product-needs : (a b : ℕ) (known : Activity) → known .active ≡ true
-    → T (has (adjointUse (product a b) known) a) × T (has (adjointUse (product a b) known) b)
+    → (T (known .variedB) → T (has (adjointUse (product a b) known) a)) × (T (known .variedA) → T (has (adjointUse (product a b) known) b))
 unfolding adjointUse
 product-needs a b known e =
-    rw e
-    (union-left (single a) (single b) a (rw (single-has a a) (eqb-refl a)), union-right (single a) (single b) b (rw (single-has b b) (eqb-refl b)))
+    let first = singleIf (known .variedB) a in
+    let second = singleIf (known .variedA) b in
+    rw e (λ h. union-left first second a (has-single-if (known .variedB) a h), λ h. union-right first second b (has-single-if (known .variedA) b h))
 
 parts-listed : (v k : ℕ) (source : Source) (row : RowNumber) (known : Activity) → SourcePresent v k source → known .active ≡ true
     → Listed v (adjointUse source known) (partsOf v source row known)
@@ -108,9 +113,9 @@ parts-listed v k (difference a b) row known p e =
     (listed-if v _ (known .variedB) row _ _ (λ h. from-it v _ b (t v) (p .1) (reads-t v _)) (listed-none v _))
 parts-listed v k (product a b) row known p e =
     let needs = product-needs a b known e in
-    listed-if v _ (known .variedA) row _ _ (λ h. scaling v _ b (p .1) (needs .1))
+    listed-if v _ (known .variedA) row _ _ (λ h. scaling v _ b (p .1) (needs .1 h))
     (listed-if v _ (known .variedA) row _ _ (λ h. into v _ a (u v) (p .0) (reads-u v _))
-    (listed-if v _ (known .variedB) row _ _ (λ h. scaling v _ a (p .0) (needs .0))
+    (listed-if v _ (known .variedB) row _ _ (λ h. scaling v _ a (p .0) (needs .0 h))
     (listed-if v _ (known .variedB) row _ _ (λ h. into v _ b (u v) (p .1) (reads-u v _)) (listed-none v _))))
 parts-listed v k (negation a) row known p e = listed-if v _ (known .variedA) row _ _ (λ h. from-it v _ a (t v) p (reads-t v _)) (listed-none v _)
 

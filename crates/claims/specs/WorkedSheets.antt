@@ -1,5 +1,5 @@
 -- "Sheets worked by hand": the starred ones as one table, what is stated of each, and what the definitions find. Where 01 leaves out one of
--- W, R, S and T, it is the one that its rules give. Tangents are 02's.
+-- W, R, S and T, it is the one that its rules give. Tangents are 02's, and so are H's numbers.
 use Prim.Native.Nat.{ℕ}
 use mathlib.Core.Bool.{Bool, true, false}
 use mathlib.Core.List.{List, [], _∷_, _++_, map}
@@ -41,7 +41,7 @@ pub record Worked : Type 0 where
   pub sizes : Sizes
   -- the numbers of the recorded rows
   pub recorded : List ℕ
-  -- the table's words, where 01 gives them whole
+  -- the table's words, where they are given whole
   pub table : List (List ℕ)
   -- runs that come out the same in both arithmetics, and runs in audit
   pub trials : List Trial
@@ -177,13 +177,22 @@ starred =
       audits = [];
       tangents = [];
     }
-    -- H
+    -- H: only a is varied, so b alone is needed and x is not saved
     ∷ record {
       words = 2 ∷ 3 ∷ 0 ∷ 0 ∷ 1 ∷ 5 ∷ 0 ∷ 0 ∷ 1 ∷ [];
-      sizes = record { longest = 1; rows = 8; values = 1; turns = 0 };
-      recorded = 0 ∷ [];
-      table = [];
-      trials = [];
+      sizes = record { longest = 1; rows = 6; values = 0; turns = 0 };
+      recorded = [];
+      table =
+          (6
+          ∷ 5 ∷ 0 ∷ 0 ∷ 1
+          ∷ 17 ∷ 0 ∷ 0 ∷ 0
+          ∷ 1 ∷ 4 ∷ 2 ∷ 0
+          ∷ 16 ∷ 2 ∷ 0 ∷ 0
+          ∷ 5 ∷ 5 ∷ 1 ∷ 4
+          ∷ 3 ∷ 2 ∷ 2 ∷ 5
+          ∷ [])
+          ∷ [];
+      trials = record { starts = 3 ∷ 4 ∷ []; seeds = 1 ∷ 0 ∷ []; result = 12 ∷ 4 ∷ 4 ∷ 0 ∷ [] } ∷ [];
       audits = [];
       tangents = [];
     }

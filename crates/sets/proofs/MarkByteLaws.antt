@@ -14,12 +14,12 @@ use Rattle.sheet.specs.Rows.{SheetLine}
 use Rattle.sheet.specs.inner.Kinds.{assigns, partOf}
 use Rattle.sets.specs.declared.transfers.MaskedAssignment.{MaskedAssignment}
 use Rattle.sets.specs.VariableSets.{VariableSet}
-use Rattle.sets.specs.Rounds.{setAt, setsIn}
+use Rattle.sets.specs.Rounds.{setAt}
 use Rattle.sets.specs.inner.Operations.{Gives}
-use Rattle.sets.specs.Transfers.{Activity}
+use Rattle.sets.specs.Transfers.{Activity, activityOf}
 use Rattle.sets.specs.Marks.{markBy, activityAt}
 use Rattle.sets.specs.MarkBytes.{weight, weightIf, byteBy, bitOf}
-use Rattle.sets.specs.inner.RowEquations.{activeLine}
+use Rattle.sets.specs.inner.RowEquations.{knownOfLine}
 use Rattle.sets.specs.inner.RowBytes.{byteAt, byteFor, bytesOf, written}
 use Rattle.sets.proofs.Truths.{never}
 use Rattle.sets.proofs.OperationLaws.{AssignedBy}
@@ -61,6 +61,11 @@ read-back known recorded =
 
 -- ---- by the cases that the code tells apart
 
+pub assigned-known : {operation : MaskedAssignment} {l : SheetLine} {known : Activity} (varied useful : List VariableSet) (p : ℕ) → AssignedBy operation l
+    → Gives operation known (λ b. activityOf b (setAt varied p) (setAt useful (p + 1))) → known ≡ knownOfLine (setAt varied p) (setAt useful (suc p)) l
+unfolding knownOfLine
+assigned-known varied useful p a gives = rw (a .is) (gives (a .assignment) (a .performs) ∙ rw (add-one p))
+
 module _ (varied useful required : List VariableSet) (p : ℕ) where
   pub no-byte : (l : SheetLine) → assigns (partOf l) ≡ false → 0 ≡ byteAt varied useful required p l
   unfolding byteAt
@@ -71,12 +76,13 @@ module _ (varied useful required : List VariableSet) (p : ℕ) where
   no-byte (repeat m) h = refl
   no-byte endRepeat h = refl
 
-  pub assigned-byte : {operation : MaskedAssignment} {l : SheetLine} {r needed : ℕ} → AssignedBy operation l → needed ≡ setAt required p
-      → Gives operation r (byteFor (setAt varied p) (setAt useful (p + 1)) needed) → r ≡ byteAt varied useful required p l
-  unfolding byteAt markBy
-  assigned-byte a is gives = rw (a .is) (gives (a .assignment) (a .performs) ∙ rw (is, add-one p))
+  pub assigned-byte : {operation : MaskedAssignment} {l : SheetLine} {known : Activity} {r needed : ℕ} → AssignedBy operation l
+      → known ≡ knownOfLine (setAt varied p) (setAt useful (suc p)) l → needed ≡ setAt required p
+      → Gives operation r (byteFor known needed) → r ≡ byteAt varied useful required p l
+  unfolding byteAt markBy knownOfLine activityAt
+  assigned-byte a knows is gives = rw (a .is) (gives (a .assignment) (a .performs) ∙ rw (knows, a .is, is))
 
--- ---- what a row's byte asks of the required sets, and whether it says that the row is active
+-- ---- what a row's byte asks of the required sets
 
 module _ (varied useful : List VariableSet) (p : ℕ) where
   pub byte-same : (required required′ : List VariableSet) → setAt required p ≡ setAt required′ p → (l : SheetLine)
@@ -88,16 +94,6 @@ module _ (varied useful : List VariableSet) (p : ℕ) where
   byte-same required required′ e endIf = refl
   byte-same required required′ e (repeat m) = refl
   byte-same required required′ e endRepeat = refl
-
-  pub byte-active : (required : List VariableSet) (l : SheetLine)
-      → bitOf (byteAt varied useful required p l) (weight .active) ≡ activeLine (setAt varied p) (setAt useful (suc p)) l
-  unfolding byteAt markBy activeLine activityAt
-  byte-active required (basic b) = read-back (activityAt (setAt varied) (setAt useful) p b) (markBy (setsIn varied useful required) p b .saved) .active
-  byte-active required (ifLine f) = refl
-  byte-active required elseLine = refl
-  byte-active required endIf = refl
-  byte-active required (repeat m) = refl
-  byte-active required endRepeat = refl
 
 -- ---- a list written from the start
 

@@ -85,21 +85,18 @@ pub useful-said : {operation : MaskedAssignment} (b : Assignment) → Performs o
 unfolding usefulBefore
 useful-said (d ≔ source) performs after = rw (performs .target)
 
--- what is known of the assignment
-pub record Knows (operation : MaskedAssignment) (b : Assignment) (varied useful : VariableSet) : Type 0 where
-  pub variedA : activityOf b varied useful .variedA ≡ meets varied (operation .first)
-  pub variedB : activityOf b varied useful .variedB ≡ meets varied (operation .second)
-  pub active : activityOf b varied useful .active ≡ (has useful (operation .target .0) && anyRead varied (sourceOf b))
+pub activity-said : {operation : MaskedAssignment} (b : Assignment) → Performs operation b → (varied useful : VariableSet)
+    → let first = meets varied (operation .first) in let second = meets varied (operation .second) in
+    activityOf b varied useful ≡ record { variedA = first; variedB = second; active = has useful (operation .target .0) && (first || second) }
+unfolding activityOf anyRead
+activity-said (d ≔ source) performs varied useful = rw (first-said performs varied, second-said performs varied, performs .target)
 
-pub activity-said : {operation : MaskedAssignment} (b : Assignment) → Performs operation b → (varied useful : VariableSet) → Knows operation b varied useful
-unfolding activityOf
-activity-said (d ≔ source) performs varied useful =
-    record { variedA = sym (first-said performs varied); variedB = sym (second-said performs varied); active = rw (performs .target) }
-
+-- a product needs each operand whose fellow is varied
 pub use-said : {operation : MaskedAssignment} (b : Assignment) → Performs operation b → (known : Activity)
-    → adjointUse (sourceOf b) known ≡ cond (known .active && eqb (operation .kind) 5) (reads (sourceOf b)) empty
-unfolding rowOfAssignment adjointUse reads
-use-said b performs known = rw (performs .kind) (each b)
+    → adjointUse (sourceOf b) known ≡ cond (known .active && eqb (operation .kind) 5)
+    (cond (known .variedB) (operation .first) empty ∪ cond (known .variedA) (operation .second) empty) empty
+unfolding rowOfAssignment adjointUse firstRead secondRead
+use-said b performs known = rw (performs .kind, performs .first, performs .second) (each b)
   where
     never : (x : Bool) (s : VariableSet) → empty ≡ cond (x && false) s empty
     never true s = refl
@@ -109,7 +106,8 @@ use-said b performs known = rw (performs .kind) (each b)
     always true s = refl
     always false s = refl
 
-    each : (b : Assignment) → adjointUse (sourceOf b) known ≡ cond (known .active && eqb (rowOfAssignment b .kind) 5) (reads (sourceOf b)) empty
+    each : (b : Assignment) → adjointUse (sourceOf b) known ≡ cond (known .active && eqb (rowOfAssignment b .kind) 5)
+        (cond (known .variedB) (singleSome (firstRead (sourceOf b))) empty ∪ cond (known .variedA) (singleSome (secondRead (sourceOf b))) empty) empty
     each (d ≔ copy a) = never (known .active) _
     each (d ≔ fixed c) = never (known .active) _
     each (d ≔ sum a b) = never (known .active) _

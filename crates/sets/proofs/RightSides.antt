@@ -3,7 +3,7 @@ use Prim.Native.Nat.{ℕ, suc, _+_, _<_}
 use native.Mathlib.Omega.{arith}
 use native.Mathlib.Numerals.{add-one}
 use mathlib.Core.Path.{_≡_, refl, sym}
-use mathlib.Core.Bool.{Bool, true, false}
+use mathlib.Core.Bool.{true, false}
 use mathlib.Core.List.{List}
 use lib.Bits.{or-comm}
 use Rattle.sheet.specs.Tree.{basic, ifLine, elseLine, endIf, repeat, endRepeat}
@@ -14,15 +14,16 @@ use Rattle.sets.specs.declared.Which.{Which}
 use Rattle.sets.specs.declared.Which.the-variants.{Varied, Useful, Required}
 use Rattle.sets.specs.VariableSets.{VariableSet}
 use Rattle.sets.specs.Equations.{rightSide, pointOf}
+use Rattle.sets.specs.Transfers.{Activity}
 use Rattle.sets.specs.Rounds.{setAt}
 use Rattle.sets.specs.inner.RowEquations.{equationOf, forwardOf, backwardOf, turnOf, ownPoint, settledPoint, splits, joinsBy, blockSide}
 use Rattle.sets.specs.inner.RowEquations.{Given, equationIn, startOf}
 use Rattle.sets.specs.inner.Walks.{asksPartner}
 use Rattle.sets.proofs.Truths.{T-of, of-T, or-right}
 
-module _ (which : Which) (active : Bool) (sets : List VariableSet) (p c : ℕ) where
+module _ (which : Which) (known : Activity) (sets : List VariableSet) (p c : ℕ) where
   abbrev sideOf : SheetLine → VariableSet
-  sideOf l = rightSide (equationOf which active l p c) (setAt sets)
+  sideOf l = rightSide (equationOf which known l p c) (setAt sets)
 
   abbrev own : VariableSet
   own = setAt sets (ownPoint which p)
@@ -30,32 +31,32 @@ module _ (which : Which) (active : Bool) (sets : List VariableSet) (p c : ℕ) w
   abbrev other : VariableSet
   other = setAt sets (ownPoint which c)
 
-pub assigned-side : (which : Which) (active : Bool) (sets : List VariableSet) (p c : ℕ) (b : Assignment)
-    → turnOf which active b (own which active sets p c) ≡ sideOf which active sets p c (basic b)
+pub assigned-side : (which : Which) (known : Activity) (sets : List VariableSet) (p c : ℕ) (b : Assignment)
+    → turnOf which known b (own which known sets p c) ≡ sideOf which known sets p c (basic b)
 unfolding equationOf rightSide ownPoint
-assigned-side Varied active sets p c b = refl
-assigned-side Useful active sets p c b = rw (add-one p)
-assigned-side Required active sets p c b = refl
+assigned-side Varied known sets p c b = refl
+assigned-side Useful known sets p c b = rw (add-one p)
+assigned-side Required known sets p c b = refl
 
-pub block-side : (which : Which) (active : Bool) (sets : List VariableSet) (p c : ℕ) (l : SheetLine) → assigns (partOf l) ≡ false
-    → blockSide which (partOf l) (own which active sets p c) (other which active sets p c) ≡ sideOf which active sets p c l
+pub block-side : (which : Which) (known : Activity) (sets : List VariableSet) (p c : ℕ) (l : SheetLine) → assigns (partOf l) ≡ false
+    → blockSide which (partOf l) (own which known sets p c) (other which known sets p c) ≡ sideOf which known sets p c l
 unfolding equationOf rightSide ownPoint joinsBy
-block-side which active sets p c (basic b) h = let z : _≡_ {A = ℕ} 0 1 = cc in absurd (omega arith)
-block-side Varied active sets p c (ifLine f) h = refl
-block-side Useful active sets p c (ifLine f) h = rw (add-one p, add-one c)
-block-side Required active sets p c (ifLine f) h = refl
-block-side Varied active sets p c elseLine h = refl
-block-side Useful active sets p c elseLine h = rw (add-one c)
-block-side Required active sets p c elseLine h = refl
-block-side Varied active sets p c endIf h = or-comm (setAt sets p) (setAt sets c)
-block-side Useful active sets p c endIf h = rw (add-one p)
-block-side Required active sets p c endIf h = or-comm (setAt sets p) (setAt sets c)
-block-side Varied active sets p c (repeat m) h = refl
-block-side Useful active sets p c (repeat m) h = rw (add-one p)
-block-side Required active sets p c (repeat m) h = refl
-block-side Varied active sets p c endRepeat h = refl
-block-side Useful active sets p c endRepeat h = rw (add-one p, add-one c)
-block-side Required active sets p c endRepeat h = refl
+block-side which known sets p c (basic b) h = let z : _≡_ {A = ℕ} 0 1 = cc in absurd (omega arith)
+block-side Varied known sets p c (ifLine f) h = refl
+block-side Useful known sets p c (ifLine f) h = rw (add-one p, add-one c)
+block-side Required known sets p c (ifLine f) h = refl
+block-side Varied known sets p c elseLine h = refl
+block-side Useful known sets p c elseLine h = rw (add-one c)
+block-side Required known sets p c elseLine h = refl
+block-side Varied known sets p c endIf h = or-comm (setAt sets p) (setAt sets c)
+block-side Useful known sets p c endIf h = rw (add-one p)
+block-side Required known sets p c endIf h = or-comm (setAt sets p) (setAt sets c)
+block-side Varied known sets p c (repeat m) h = refl
+block-side Useful known sets p c (repeat m) h = rw (add-one p)
+block-side Required known sets p c (repeat m) h = refl
+block-side Varied known sets p c endRepeat h = refl
+block-side Useful known sets p c endRepeat h = rw (add-one p, add-one c)
+block-side Required known sets p c endRepeat h = refl
 
 -- ---- a row's points are within the sets
 
@@ -105,11 +106,11 @@ backward-point turn endIf p c = refl
 backward-point turn (repeat m) p c = refl
 backward-point turn endRepeat p c = refl
 
-settled-of : (which : Which) (active : Bool) (l : SheetLine) (p c : ℕ) → settledPoint which p ≡ pointOf (equationOf which active l p c)
+settled-of : (which : Which) (known : Activity) (l : SheetLine) (p c : ℕ) → settledPoint which p ≡ pointOf (equationOf which known l p c)
 unfolding equationOf settledPoint
-settled-of Varied active l p c = sym (forward-point _ l p c)
-settled-of Useful active l p c = sym (backward-point _ l p c)
-settled-of Required active l p c = sym (forward-point _ l p c)
+settled-of Varied known l p c = sym (forward-point _ l p c)
+settled-of Useful known l p c = sym (backward-point _ l p c)
+settled-of Required known l p c = sym (forward-point _ l p c)
 
 pub settled-in : (which : Which) (given : Given) (p : ℕ) → settledPoint which p ≡ pointOf (equationIn which given p)
 unfolding equationIn

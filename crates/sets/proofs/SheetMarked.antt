@@ -2,12 +2,12 @@
 use Prim.Native.Nat.{ℕ, suc, _+_, _≤_, _<_}
 use native.Mathlib.Omega.{arith}
 use mathlib.Core.Path.{_≡_, refl, sym, ap, subst, _∙_}
-use mathlib.Core.Bool.{Bool, false}
+use mathlib.Core.Bool.{false}
 use mathlib.Core.List.{List, [], _∷_}
 use lib.ListN.{length, getD, take, drop, replicate, length-map}
 use Rattle.sheet.specs.Bounds.{limit}
 use Rattle.sheet.specs.Tree.{Tree, rows, flat, basic}
-use Rattle.sheet.specs.Rows.{Assignment, Test, _≔_, copy, fixed, sum, difference, product, negation}
+use Rattle.sheet.specs.Rows.{Assignment, Test}
 use Rattle.sheet.specs.Rows.{SheetLine, sheetRowOf, treeRows, isIndependent, isDependent}
 use Rattle.sheet.specs.Sheets.{Sheet, rowsAt, variablesOf}
 use Rattle.sheet.proofs.RowsCounted.{rows-counted, lines-counted}
@@ -19,12 +19,12 @@ use Rattle.sets.specs.declared.Which.the-variants.{Varied, Useful, Requi
 use Rattle.sets.specs.VariableSets.{VariableSet, empty, places}
 use Rattle.sets.specs.Equations.{Equation, starts}
 use Rattle.sets.specs.inner.ProperEquations.{Proper}
-use Rattle.sets.specs.Transfers.{variedAfter, usefulBefore, requiredAfter, adjointUse, Activity}
+use Rattle.sets.specs.Transfers.{variedAfter, usefulBefore, requiredAfter, Activity}
 use Rattle.sets.specs.Rounds.{points, setAt, least, varied, useful, required}
 use Rattle.sets.specs.Marks.{variedEquations, usefulEquations, requiredEquations, activityAt}
 use Rattle.sets.specs.Partners.{CameFrom, GoesTo, cameBy, goesBy}
 use Rattle.sets.specs.inner.PartnerPass.{found, PartnersFound}
-use Rattle.sets.specs.inner.RowEquations.{givenBy, lineIn, noneActive, activeLine, activeBy, turnOf, equationOf, equationIn, rowInTurn}
+use Rattle.sets.specs.inner.RowEquations.{givenBy, lineIn, inactive, unasked, knownOfLine, knownFrom, turnOf, equationOf, equationIn, rowInTurn}
 use Rattle.sets.specs.inner.RowEquations.{rowEquations, startOf, allEquations, AllReadable, seedIn}
 use Rattle.sets.specs.inner.Walks.{Wired, Settles}
 use Rattle.sets.specs.inner.Operations.{maskBits}
@@ -45,16 +45,6 @@ nothing-placed : {A : Type 0} (xs : List A) → places (λ x. false) xs ≡ empt
 unfolding places
 nothing-placed [] = refl
 nothing-placed (x ∷ xs) = omega (arith, nothing-placed xs)
-
--- of its activity a row's adjoint use asks whether it is active
-use-by-active : (b : Assignment) (known known′ : Activity) → known .active ≡ known′ .active → requiredAfter b known ≡ requiredAfter b known′
-unfolding requiredAfter adjointUse
-use-by-active (d ≔ copy a) known known′ e = refl
-use-by-active (d ≔ fixed a) known known′ e = refl
-use-by-active (d ≔ sum a b) known known′ e = refl
-use-by-active (d ≔ difference a b) known known′ e = refl
-use-by-active (d ≔ product a b) known known′ e = rw e
-use-by-active (d ≔ negation a) known known′ e = refl
 
 module _ (words : List ℕ) (variables first count : ℕ) (laid : Laid words variables first count) where
   pub record Facts : Type 0 where
@@ -130,43 +120,43 @@ module _ {words : List ℕ} {variables first count : ℕ} (laid : Laid words var
 
   -- ---- the code's equations, with partners for each row, are the definitions'
 
-  abbrev codeEquations : Which → (ℕ → Bool) → (partners : List ℕ) → List Equation
-  codeEquations which active partners = allEquations which (givenBy words first active partners) count (seedIn which words variables)
+  abbrev codeEquations : Which → (ℕ → Activity) → (partners : List ℕ) → List Equation
+  codeEquations which activity partners = allEquations which (givenBy words first activity partners) count (seedIn which words variables)
 
-  code-rows : (which : Which) (active : ℕ → Bool) (partners : List ℕ) → codeEquations which active partners
-      ≡ allEquations which (givenBy words first active partners) (rows body) (seedIn which words variables)
-  code-rows which active partners = ap (λ n. allEquations which (givenBy words first active partners) n (seedIn which words variables)) (laid .rowsAre)
+  code-rows : (which : Which) (activity : ℕ → Activity) (partners : List ℕ) → codeEquations which activity partners
+      ≡ allEquations which (givenBy words first activity partners) (rows body) (seedIn which words variables)
+  code-rows which activity partners = ap (λ n. allEquations which (givenBy words first activity partners) n (seedIn which words variables)) (laid .rowsAre)
 
-  varied-all : (partners : List ℕ) → CameFrom partners body 0 → codeEquations Varied noneActive partners ≡ variedEquations sheet
+  varied-all : (partners : List ℕ) → CameFrom partners body 0 → codeEquations Varied unasked partners ≡ variedEquations sheet
   unfolding allEquations rowEquations rowInTurn startOf equationIn equationOf turnOf seedIn variedEquations
   varied-all partners c =
-      code-rows Varied noneActive partners ∙ rw (sym (known .roles))
+      code-rows Varied unasked partners ∙ rw (sym (known .roles))
       (ap (λ es. starts 0 (places isIndependent (sheet .roles)) ∷ es)
-      (forward-listed line partners (λ p. turnOf Varied false) (λ p. variedAfter) (rows body) (λ p b h e. refl) body (omega arith)
+      (forward-listed line partners (λ p. turnOf Varied inactive) (λ p. variedAfter) (rows body) (λ p b h e. refl) body (omega arith)
       (known .lines) c))
 
-  useful-all : (partners : List ℕ) → GoesTo partners body 0 → codeEquations Useful noneActive partners ≡ usefulEquations sheet
+  useful-all : (partners : List ℕ) → GoesTo partners body 0 → codeEquations Useful unasked partners ≡ usefulEquations sheet
   unfolding allEquations rowEquations rowInTurn startOf equationIn equationOf turnOf seedIn usefulEquations
   useful-all partners c =
-      code-rows Useful noneActive partners ∙ rw (sym (known .roles))
+      code-rows Useful unasked partners ∙ rw (sym (known .roles))
       (ap (λ es. starts (rows body) (places isDependent (sheet .roles)) ∷ es)
-      (backward-listed line partners (λ p. turnOf Useful false) (λ p. usefulBefore) (rows body) (λ p b h e. refl) body (omega arith)
+      (backward-listed line partners (λ p. turnOf Useful inactive) (λ p. usefulBefore) (rows body) (λ p b h e. refl) body (omega arith)
       (known .lines) c))
 
-  -- which rows are active, by the first two sets
-  active-said : (v u : List VariableSet) (p : ℕ) (b : Assignment) → line p ≡ basic b
-      → activeBy words first v u p ≡ activityAt (setAt v) (setAt u) p b .active
-  unfolding activeLine activityAt
-  active-said v u p b e = rw e
+  -- what is known of each row, by the first two sets
+  known-said : (v u : List VariableSet) (p : ℕ) (b : Assignment) → line p ≡ basic b
+      → knownFrom words first v u p ≡ activityAt (setAt v) (setAt u) p b
+  unfolding knownOfLine activityAt
+  known-said v u p b e = rw e
 
   required-all : (partners : List ℕ) (v u : List VariableSet) → CameFrom partners body 0
-      → codeEquations Required (activeBy words first v u) partners ≡ requiredEquations sheet (setAt v) (setAt u)
+      → codeEquations Required (knownFrom words first v u) partners ≡ requiredEquations sheet (setAt v) (setAt u)
   unfolding allEquations rowEquations rowInTurn startOf equationIn equationOf turnOf seedIn requiredEquations
   required-all partners v u c =
-      code-rows Required (activeBy words first v u) partners ∙ rw (nothing-placed (take variables (drop 1 words)))
+      code-rows Required (knownFrom words first v u) partners ∙ rw (nothing-placed (take variables (drop 1 words)))
       (ap (λ es. starts 0 empty ∷ es)
-      (forward-listed line partners (λ p. turnOf Required (activeBy words first v u p)) (λ p b. requiredAfter b (activityAt (setAt v) (setAt u) p b)) count
-      (λ p b h e. use-by-active b _ _ (active-said v u p b e)) body (omega (arith, laid .rowsAre)) (known .lines) c))
+      (forward-listed line partners (λ p. turnOf Required (knownFrom words first v u p)) (λ p b. requiredAfter b (activityAt (setAt v) (setAt u) p b)) count
+      (λ p b h e. ap (requiredAfter b) (known-said v u p b e)) body (omega (arith, laid .rowsAre)) (known .lines) c))
 
   -- ---- what is asked of the code's walks, and what they come to
 
@@ -177,12 +167,12 @@ module _ {words : List ℕ} {variables first count : ℕ} (laid : Laid words var
         placed line came′ goes′ count body 0 (omega (arith, laid .rowsAre)) (known .lines) (right .cameFrom) (right .goesTo) p (omega arith)
         (omega (arith, laid .rowsAre))
 
-    settles : (which : Which) (active : ℕ → Bool) (es : List Equation) (partners others : List ℕ) (sets : List VariableSet) → sets ≡ replicate (suc count) empty → count ≤ length partners
-        → count ≤ length others → codeEquations which active partners ≡ es → Proper (variablesOf sheet) (points sheet) es
-        → Wired which (givenBy words first active partners) others count
-        → Settles which (givenBy words first active partners) others count variables sets
+    settles : (which : Which) (activity : ℕ → Activity) (es : List Equation) (partners others : List ℕ) (sets : List VariableSet) → sets ≡ replicate (suc count) empty → count ≤ length partners
+        → count ≤ length others → codeEquations which activity partners ≡ es → Proper (variablesOf sheet) (points sheet) es
+        → Wired which (givenBy words first activity partners) others count
+        → Settles which (givenBy words first activity partners) others count variables sets
     unfolding points
-    settles which active es partners others sets clear lp lo e proper wired =
+    settles which activity es partners others sets clear lp lo e proper wired =
         record {
           readable = known .readable;
           variablesSmall = known .variablesSmall;
@@ -195,45 +185,45 @@ module _ {words : List ℕ} {variables first count : ℕ} (laid : Laid words var
         }
 
     pub settles-varied : (sets : List VariableSet) → sets ≡ replicate (suc count) empty
-        → Settles Varied (givenBy words first noneActive came′) goes′ count variables sets
+        → Settles Varied (givenBy words first unasked came′) goes′ count variables sets
     settles-varied sets clear =
-        settles Varied noneActive _ came′ goes′ sets clear cameRoom goesRoom (varied-all came′ (right .cameFrom))
-        (varied-proper words sheet (laid .accepted)) (varied-wired words first noneActive came′ goes′ count (known .readable) all-placed)
+        settles Varied unasked _ came′ goes′ sets clear cameRoom goesRoom (varied-all came′ (right .cameFrom))
+        (varied-proper words sheet (laid .accepted)) (varied-wired words first unasked came′ goes′ count (known .readable) all-placed)
 
     pub settles-useful : (sets : List VariableSet) → sets ≡ replicate (suc count) empty
-        → Settles Useful (givenBy words first noneActive goes′) came′ count variables sets
+        → Settles Useful (givenBy words first unasked goes′) came′ count variables sets
     settles-useful sets clear =
-        settles Useful noneActive _ goes′ came′ sets clear goesRoom cameRoom (useful-all goes′ (right .goesTo))
-        (useful-proper words sheet (laid .accepted)) (useful-wired words first noneActive came′ goes′ count (known .readable) all-placed)
+        settles Useful unasked _ goes′ came′ sets clear goesRoom cameRoom (useful-all goes′ (right .goesTo))
+        (useful-proper words sheet (laid .accepted)) (useful-wired words first unasked came′ goes′ count (known .readable) all-placed)
 
     pub settles-required : (v u sets : List VariableSet) → sets ≡ replicate (suc count) empty
-        → Settles Required (givenBy words first (activeBy words first v u) came′) goes′ count variables sets
+        → Settles Required (givenBy words first (knownFrom words first v u) came′) goes′ count variables sets
     settles-required v u sets clear =
-        settles Required (activeBy words first v u) _ came′ goes′ sets clear cameRoom goesRoom (required-all came′ v u (right .cameFrom))
+        settles Required (knownFrom words first v u) _ came′ goes′ sets clear cameRoom goesRoom (required-all came′ v u (right .cameFrom))
         (required-proper words sheet (laid .accepted) (setAt v) (setAt u))
-        (required-wired words first (activeBy words first v u) came′ goes′ count (known .readable) all-placed)
+        (required-wired words first (knownFrom words first v u) came′ goes′ count (known .readable) all-placed)
 
-  abbrev Settled : Which → (ℕ → Bool) → (partners : List ℕ) → List VariableSet → Type 0
-  Settled which active partners sets = sets ≡ least variables (suc count) (codeEquations which active partners)
+  abbrev Settled : Which → (ℕ → Activity) → (partners : List ℕ) → List VariableSet → Type 0
+  Settled which activity partners sets = sets ≡ least variables (suc count) (codeEquations which activity partners)
 
-  settled-at : (which : Which) (active : ℕ → Bool) (es : List Equation) (partners : List ℕ) (sets : List VariableSet)
-      → codeEquations which active partners ≡ es → Settled which active partners sets → sets ≡ least (variablesOf sheet) (points sheet) es
+  settled-at : (which : Which) (activity : ℕ → Activity) (es : List Equation) (partners : List ℕ) (sets : List VariableSet)
+      → codeEquations which activity partners ≡ es → Settled which activity partners sets → sets ≡ least (variablesOf sheet) (points sheet) es
   unfolding points
-  settled-at which active es partners sets e f = rw (sym (laid .variablesAre), sym (laid .rowsAre), sym e) f
+  settled-at which activity es partners sets e f = rw (sym (laid .variablesAre), sym (laid .rowsAre), sym e) f
 
   module _ (partners : List ℕ) (sets : List VariableSet) where
-    pub varied-settled : CameFrom partners body 0 → Settled Varied noneActive partners sets → sets ≡ varied sheet
+    pub varied-settled : CameFrom partners body 0 → Settled Varied unasked partners sets → sets ≡ varied sheet
     unfolding varied
-    varied-settled c f = settled-at Varied noneActive _ partners sets (varied-all partners c) f
+    varied-settled c f = settled-at Varied unasked _ partners sets (varied-all partners c) f
 
-    pub useful-settled : GoesTo partners body 0 → Settled Useful noneActive partners sets → sets ≡ useful sheet
+    pub useful-settled : GoesTo partners body 0 → Settled Useful unasked partners sets → sets ≡ useful sheet
     unfolding useful
-    useful-settled c f = settled-at Useful noneActive _ partners sets (useful-all partners c) f
+    useful-settled c f = settled-at Useful unasked _ partners sets (useful-all partners c) f
 
     pub required-settled : (v u : List VariableSet) → CameFrom partners body 0 → v ≡ varied sheet → u ≡ useful sheet
-        → Settled Required (activeBy words first v u) partners sets → sets ≡ required sheet
+        → Settled Required (knownFrom words first v u) partners sets → sets ≡ required sheet
     unfolding required
-    required-settled v u c vs us f = rw (sym vs, sym us) (settled-at Required (activeBy words first v u) _ partners sets (required-all partners v u c) f)
+    required-settled v u c vs us f = rw (sym vs, sym us) (settled-at Required (knownFrom words first v u) _ partners sets (required-all partners v u c) f)
 
   -- all marks, whichever sheet the words are said to be
   pub all-marked : (v u r : List VariableSet) (before after : List ℕ) → v ≡ varied sheet → u ≡ useful sheet → r ≡ required sheet

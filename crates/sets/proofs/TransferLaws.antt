@@ -6,7 +6,7 @@ use lib.Dec.{T, eqb, eqb→eq}
 use lib.Pow.{pow-pos}
 use Rattle.sheet.specs.Rows.{Assignment, _≔_, Source, copy, fixed, sum, difference, product, negation}
 use Rattle.sheet.specs.Names.{SourcePresent, AssignmentPresent}
-use Rattle.sets.specs.VariableSets.{VariableSet, empty, has, _∪_, single, without, hasSome, _⊆_}
+use Rattle.sets.specs.VariableSets.{VariableSet, empty, has, _∪_, single, singleIf, without, hasSome, _⊆_}
 use Rattle.sets.specs.Transfers.{firstRead, secondRead, anyRead, reads, variedAfter, usefulBefore, Activity, adjointUse, requiredAfter}
 use Rattle.sets.proofs.Truths.{each-truth, or-mono, and-mono, cond-mono}
 use Rattle.sets.proofs.VariableSetLaws.{union-has, single-has, without-has, some-within}
@@ -61,13 +61,17 @@ reads-below v k (difference a b) h = pair-below v a b h
 reads-below v k (product a b) h = pair-below v a b h
 reads-below v k (negation a) h = union-below v (single a) empty (single-below v a h) (pow-pos v)
 
+if-below : (v : ℕ) (there : Bool) (i : ℕ) → i < v → singleIf there i < 2 ^ v
+if-below v there i h = cond-below v there (single i) empty (single-below v i h) (pow-pos v)
+
 pub use-below : (v k : ℕ) (source : Source) (known : Activity) → SourcePresent v k source → adjointUse source known < 2 ^ v
 unfolding adjointUse SourcePresent
 use-below v k (copy a) known h = pow-pos v
 use-below v k (fixed c) known h = pow-pos v
 use-below v k (sum a b) known h = pow-pos v
 use-below v k (difference a b) known h = pow-pos v
-use-below v k (product a b) known h = cond-below v (known .active) (single a ∪ single b) empty (pair-below v a b h) (pow-pos v)
+use-below v k (product a b) known h =
+    cond-below v (known .active) _ empty (union-below v _ _ (if-below v (known .variedB) a (h .0)) (if-below v (known .variedA) b (h .1))) (pow-pos v)
 use-below v k (negation a) known h = pow-pos v
 
 -- ---- the three transfers

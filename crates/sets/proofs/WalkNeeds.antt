@@ -3,7 +3,7 @@ use Prim.Native.Nat.{ℕ, suc, _+_, _≤_, _<_}
 use native.Mathlib.Numerals.{add-one}
 use native.Mathlib.Omega.{arith}
 use mathlib.Core.Path.{_≡_, refl, sym, ap, subst, _∙_}
-use mathlib.Core.Bool.{Bool, true, false}
+use mathlib.Core.Bool.{true, false}
 use mathlib.Core.List.{List}
 use lib.ListN.{length, getD, set}
 use lib.Seq.{getD-set-other}
@@ -22,6 +22,7 @@ use Rattle.sets.specs.Equations.{rightSide}
 use Rattle.sets.specs.Rounds.{setAt, least}
 use Rattle.sets.specs.inner.Operations.{maskBits, InMask, Performs, PerformsRow}
 use Rattle.sets.specs.inner.RowBytes.{byteAt}
+use Rattle.sets.specs.Transfers.{Activity}
 use Rattle.sets.specs.inner.RowEquations.{Given, lineIn, equationIn, turnOf, rowInTurn, ownPoint, settledPoint, startOf, allEquations, seedIn, rowIn, RowReadable, RowThere, Formed}
 use Rattle.sets.specs.inner.Walks.{placeInTurn, endsRepeat, asksPartner, partIn, Due, onward, backward, Grown, PassedRow, AtBlock, ownSide, Settles}
 use Rattle.sets.proofs.Truths.{never}
@@ -126,19 +127,19 @@ module _ {which : Which} {given : Given} {others : List ℕ} {n v : ℕ} {sets�
   pub assigned : {operation : MaskedAssignment} → assigns (form .3) ≡ true → PerformsRow operation (rowIn given row) → AssignedBy operation line
   assigned h performs = assigned-by performs line (readable .says .back) (ap assigns (sym line-part) ∙ h)
 
-  pub assignment-passed : {operation : MaskedAssignment} {acts : Bool} {next : List VariableSet} {after : WalkedTo} → assigns (form .3) ≡ true
-      → PerformsRow operation (rowIn given row) → acts ≡ given .active row
+  pub assignment-passed : {operation : MaskedAssignment} {acts : Activity} {next : List VariableSet} {after : WalkedTo} → assigns (form .3) ≡ true
+      → PerformsRow operation (rowIn given row) → acts ≡ given .known row
       → (after .turn ≡ reached .turn + 1)
       × ((b : Assignment) → Performs operation b → Grown sets (settledPoint which row) (turnOf which acts b (reached .own)) next (after .own))
       → Passes which given others n row (form .3) sets next after
   unfolding equationIn
-  assignment-passed {operation} {acts} {next} {after} h performs active passed =
+  assignment-passed {operation} {acts} {next} {after} h performs same passed =
       let a = assigned h performs in
       record {
         side = turnOf which acts (a .assignment) (reached .own);
         sideIs =
             ap (turnOf which acts (a .assignment)) in-hand
-            ∙ rw (active, a .is) (assigned-side which (given .active row) sets row (getD (given .partners) row 0) (a .assignment));
+            ∙ rw (same, a .is) (assigned-side which (given .known row) sets row (getD (given .partners) row 0) (a .assignment));
         went = record {
           due = row;
           more = turnOf which acts (a .assignment) (reached .own);
@@ -181,7 +182,7 @@ module _ {which : Which} {given : Given} {others : List ℕ} {n v : ℕ} {sets�
         side = ownSide which (form .3) row (given .partners) sets;
         sideIs =
             rw line-part
-            (block-side which (given .active row) sets row (getD (given .partners) row 0) line (ap assigns (sym line-part) ∙ h));
+            (block-side which (given .known row) sets row (getD (given .partners) row 0) line (ap assigns (sym line-part) ∙ h));
         went = went;
       }
 

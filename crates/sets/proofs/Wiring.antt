@@ -18,6 +18,7 @@ use Rattle.sets.specs.declared.Which.the-variants.{Varied, Useful, Requi
 use Rattle.sets.specs.VariableSets.{VariableSet, _∪_}
 use Rattle.sets.specs.Equations.{Equation, passes, joins, unchanged, rightSide}
 use Rattle.sets.specs.Partners.{CameFrom, GoesTo}
+use Rattle.sets.specs.Transfers.{Activity}
 use Rattle.sets.specs.inner.RowEquations.{Given, givenBy, lineIn, equationOf, equationIn, forwardOf, backwardOf, turnOf}
 use Rattle.sets.specs.inner.RowEquations.{rowInTurn, ownPoint, settledPoint, joinsBy, joinsOn, joinsBack, splits as isElse, AllReadable}
 use Rattle.sets.specs.inner.Walks.{placeInTurn, endsOn, endsBack, endsRepeat, asksPartner, inTurn, Behind, FarEnd, Asks, behind, around, Wired}
@@ -102,7 +103,7 @@ module _ (which : Which) (n i : ℕ) (e : Equation) where
       let both : at p ∪ at q ≡ at′ p ∪ at′ q = rw (first, second) in
       ap (λ x. rightSide x at) is ∙ both ∙ sym (ap (λ x. rightSide x at′) is)
 
-module _ (words : List ℕ) (first : ℕ) (active : ℕ → Bool) (came goes : List ℕ) (n : ℕ) (readable : AllReadable words first n)
+module _ (words : List ℕ) (first : ℕ) (known : ℕ → Activity) (came goes : List ℕ) (n : ℕ) (readable : AllReadable words first n)
     (all : (p : ℕ) → p < n → Placed (lineIn words first) came goes n p) where
   abbrev line : ℕ → SheetLine
   line p = lineIn words first p
@@ -123,17 +124,17 @@ module _ (words : List ℕ) (first : ℕ) (active : ℕ → Bool) (came goes : L
       (own : (p : ℕ) → ownPoint which p ≡ p) (settled : (p : ℕ) → settledPoint which p ≡ suc p)
       (far : (part : Part) → endsRepeat which part ≡ endsOn part)
       (asks-by : (part : Part) → asksPartner which part ≡ (isElse part || joinsOn part))
-      (equation-is : (acts : Bool) (l : SheetLine) (p c : ℕ) → equationOf which acts l p c ≡ forwardOf (turnOf which acts) l p c) where
+      (equation-is : (acts : Activity) (l : SheetLine) (p c : ℕ) → equationOf which acts l p c ≡ forwardOf (turnOf which acts) l p c) where
     abbrev given : Given
-    given = givenBy words first active came
+    given = givenBy words first known came
 
     equation-at : (p c : ℕ) (l : SheetLine) → line p ≡ l → getD came p 0 ≡ c
-        → equationIn which given p ≡ forwardOf (turnOf which (active p)) l p c
+        → equationIn which given p ≡ forwardOf (turnOf which (known p)) l p c
     unfolding equationIn
     equation-at p c l e f = equation-is _ _ _ _ ∙ rw (e, f)
 
     in-turn : (i c : ℕ) (l : SheetLine) → line i ≡ l → getD came i 0 ≡ c
-        → inTurn which given n i ≡ forwardOf (turnOf which (active i)) l i c
+        → inTurn which given n i ≡ forwardOf (turnOf which (known i)) l i c
     in-turn i c l e f = ap (equationIn which given) (turns i) ∙ equation-at i c l e f
 
     forward-taken : (p : ℕ) → p < n → asksPartner which (partAt p) ≡ true → getD came p 0 < n
@@ -203,12 +204,12 @@ module _ (words : List ℕ) (first : ℕ) (active : ℕ → Bool) (came goes : L
           asks = forward-asks;
         }
 
-  pub varied-wired : Wired Varied (givenBy words first active came) goes n
+  pub varied-wired : Wired Varied (givenBy words first known came) goes n
   unfolding rowInTurn placeInTurn ownPoint settledPoint endsRepeat joinsBy equationOf
   varied-wired =
       forward-wired Varied (λ i. refl) (λ i. refl) (λ p. refl) (λ p. omega arith) (λ k. refl) (λ k. refl) (λ acts l p c. refl)
 
-  pub required-wired : Wired Required (givenBy words first active came) goes n
+  pub required-wired : Wired Required (givenBy words first known came) goes n
   unfolding rowInTurn placeInTurn ownPoint settledPoint endsRepeat joinsBy equationOf
   required-wired =
       forward-wired Required (λ i. refl) (λ i. refl) (λ p. refl) (λ p. omega arith) (λ k. refl) (λ k. refl) (λ acts l p c. refl)
@@ -216,10 +217,10 @@ module _ (words : List ℕ) (first : ℕ) (active : ℕ → Bool) (came goes : L
   -- ---- from after to before
 
   abbrev givenBack : Given
-  givenBack = givenBy words first active goes
+  givenBack = givenBy words first known goes
 
   back-equation : (p c : ℕ) (l : SheetLine) → line p ≡ l → getD goes p 0 ≡ c
-      → equationIn Useful givenBack p ≡ backwardOf (turnOf Useful (active p)) l p c
+      → equationIn Useful givenBack p ≡ backwardOf (turnOf Useful (known p)) l p c
   unfolding equationIn equationOf
   back-equation p c l e f = rw (e, f)
 
@@ -294,7 +295,7 @@ module _ (words : List ℕ) (first : ℕ) (active : ℕ → Bool) (came goes : L
           around (n - suc c) (omega arith) (omega arith)
           (subst (FarEnd Useful givenBack came p) (sym same) (backward-far p c m (omega arith) w x e refl))
 
-  pub useful-wired : Wired Useful (givenBy words first active goes) came n
+  pub useful-wired : Wired Useful (givenBy words first known goes) came n
   unfolding rowInTurn
   useful-wired =
       record {

@@ -3,7 +3,7 @@ use Prim.Native.Nat.{ℕ}
 use mathlib.Core.Bool.{Bool, _&&_, _||_, cond}
 use mathlib.Core.Option.{Option, none, some}
 use Rattle.sheet.specs.Rows.{Assignment, _≔_, Source, copy, fixed, sum, difference, product, negation}
-use Rattle.sets.specs.VariableSets.{VariableSet, empty, has, _∪_, single, without, hasSome, singleSome}
+use Rattle.sets.specs.VariableSets.{VariableSet, empty, has, _∪_, single, singleIf, without, hasSome, singleSome}
 
 -- the variables that an assignment reads: a, and b where there is one; a constant is no variable
 unfoldable pub firstRead : Source → Option ℕ
@@ -56,13 +56,14 @@ activityOf (d ≔ source) varied useful =
       active = has useful d && anyRead varied source;
     }
 
--- "A row's adjoint use: an active product needs both operands; every other row needs nothing." Nothing else looks inside.
+-- A row's adjoint use: of an active product "b is needed only if a is varied before the row, and a only if b is" (02, 3); "every other row needs
+-- nothing". Nothing else looks inside.
 unfoldable pub adjointUse : Source → Activity → VariableSet
 adjointUse (copy a) known = empty
 adjointUse (fixed c) known = empty
 adjointUse (sum a b) known = empty
 adjointUse (difference a b) known = empty
-adjointUse (product a b) known = cond (known .active) (single a ∪ single b) empty
+adjointUse (product a b) known = cond (known .active) (singleIf (known .variedB) a ∪ singleIf (known .variedA) b) empty
 adjointUse (negation a) known = empty
 
 -- "A row is recorded if d is required before it or is in its own adjoint use."

@@ -31,6 +31,10 @@ unfoldable pub places : {A : Type 0} → (A → Bool) → List A → VariableSet
 places test [] = empty
 places test (x ∷ xs) = cond (test x) 1 0 + 2 * places test xs
 
+-- a variable on a condition
+abbrev pub singleIf : Bool → ℕ → VariableSet
+singleIf there i = cond there (single i) empty
+
 -- an operand that may be lacking
 abbrev pub hasSome : VariableSet → Option ℕ → Bool
 hasSome s none = false

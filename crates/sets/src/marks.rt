@@ -1,26 +1,35 @@
-// An assignment's byte of marks, by the three sets at its points.
+// What is known of an assignment, and its byte of marks, by the three sets at its points.
 ghost use mathlib.Core.Path.{_≡_};
 ghost use Prim.Native.Nat.{suc, _+_, _≤_, _<_};
 ghost use lib.ListN.{length};
-ghost use Rattle.sets.specs.inner.Operations.{TargetSmall, Gives};
+ghost use Rattle.sets.specs.inner.Operations.{TargetSmall, Gives, activityBy};
 ghost use Rattle.sets.specs.Rounds.{setAt};
-ghost use Rattle.sets.specs.MarkBytes.{weight, weightIf, bitOf};
+ghost use Rattle.sets.specs.Transfers.{activityOf};
+ghost use Rattle.sets.specs.MarkBytes.{weightIf};
 ghost use Rattle.sets.specs.inner.RowBytes.{byteFor};
 use super::ACTIVE;
 use super::SAVED;
 use super::VARIED_A;
 use super::VARIED_B;
 use super::equations;
-use super::masks;
 use super::transfers;
+use super::transfers::KnownActivity;
 use super::transfers::MaskedAssignment;
 use sheet::RowNumber;
 
-// Whether a row's byte marks it as active.
-pub fn is_active(byte: u8) -> bool
-    ensures { λ r. ⌜ r ≡ bitOf byte (weight .active) ⌝ }
+// By the variables varied before the row and useful after it.
+pub fn activity_at(
+    row: RowNumber,
+    operation: MaskedAssignment,
+    varied: &[u64],
+    useful: &[u64],
+) -> KnownActivity
+    requires { ⌜ TargetSmall operation × (row .0 < length (now varied)) × (suc (row .0) < length (now useful)) ⌝ }
+    ensures { λ r. ⌜ Gives operation (activityBy r) (λ b. activityOf b (setAt (now (varied .entry)) (row .0)) (setAt (now (useful .entry)) (row .0 + 1))) ⌝ }
 {
-    (byte / ACTIVE) % 2 == 1
+    let before = equations::set_at(varied, row.0);
+    let after = equations::set_at(useful, row.0 + 1);
+    transfers::activity(operation, before, after)
 }
 
 fn weight_if(there: bool, weight: u8) -> u8
@@ -29,32 +38,14 @@ fn weight_if(there: bool, weight: u8) -> u8
     if there { weight } else { 0 }
 }
 
-fn row_byte(row: MaskedAssignment, varied: u64, useful: u64, required: u64) -> u8
+// `required` are the variables required before the row.
+pub fn row_byte(row: MaskedAssignment, known: KnownActivity, required: u64) -> u8
     requires { ⌜ TargetSmall row ⌝ }
-    ensures { λ r. ⌜ Gives row r (byteFor varied useful required) ⌝ }
+    ensures { λ r. ⌜ Gives row r (byteFor (activityBy known) required) ⌝ }
 {
-    let first = masks::meets(varied, row.first);
-    let second = masks::meets(varied, row.second);
-    let active = transfers::active(row, varied, useful);
-    let saved = transfers::recorded(row, active, required);
-    weight_if(first, VARIED_A)
-        + weight_if(second, VARIED_B)
-        + weight_if(active, ACTIVE)
+    let saved = transfers::recorded(row, known, required);
+    weight_if(known.varied_a, VARIED_A)
+        + weight_if(known.varied_b, VARIED_B)
+        + weight_if(known.active, ACTIVE)
         + weight_if(saved, SAVED)
-}
-
-// An assignment's byte. `needed` are the variables required before its row.
-pub fn byte_at(
-    row: RowNumber,
-    operation: MaskedAssignment,
-    varied: &[u64],
-    useful: &[u64],
-    needed: u64,
-) -> u8
-    requires { ⌜ TargetSmall operation × (row .0 < length (now varied)) × (suc (row .0) < length (now useful)) ⌝ }
-    ensures { λ r. ⌜ Gives operation r (byteFor (setAt (now (varied .entry)) (row .0)) (setAt (now (useful .entry)) (row .0 + 1)) needed) ⌝ }
-{
-    let before = equations::set_at(varied, row.0);
-    let after = equations::set_at(useful, row.0 + 1);
-    row_byte(operation, before, after, needed)
 }

@@ -1,7 +1,8 @@
 // Sets of variables as masks: variable i is bit i.
 ghost use mathlib.Core.Path.{_≡_};
 ghost use Prim.Native.Nat.{_<_};
-ghost use Rattle.sets.specs.VariableSets.{has, single, without};
+ghost use mathlib.Core.Bool.{cond};
+ghost use Rattle.sets.specs.VariableSets.{empty, has, single, without};
 ghost use Rattle.sets.specs.inner.Operations.{maskBits, meets};
 use sheet::Variable;
 
@@ -24,6 +25,12 @@ pub fn meets(s: u64, t: u64) -> bool
     ensures { λ r. ⌜ r ≡ meets s t ⌝ }
 {
     (s & t) != 0
+}
+
+pub fn only_if(there: bool, s: u64) -> u64
+    ensures { λ r. ⌜ r ≡ cond there s empty ⌝ }
+{
+    if there { s } else { 0 }
 }
 
 pub fn without(i: Variable, s: u64) -> u64

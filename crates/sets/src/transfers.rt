@@ -3,7 +3,7 @@ ghost use mathlib.Core.Path.{_≡_};
 ghost use Prim.Native.Nat.{_<_};
 ghost use Rattle.sheet.specs.inner.RowLines.{sourceOf, numberedRow};
 ghost use Rattle.sets.specs.Transfers.{anyRead, reads, variedAfter, usefulBefore, activityOf, adjointUse, requiredAfter, recordedBy};
-ghost use Rattle.sets.specs.inner.Operations.{maskBits, InMask, namedBy, PerformsRow, TargetSmall, Gives, GivesKnown};
+ghost use Rattle.sets.specs.inner.Operations.{maskBits, InMask, namedBy, PerformsRow, TargetSmall, Gives, activityBy};
 ghost use Rattle.sets.specs.inner.RowEquations.{turnOf, RowThere, Formed};
 use super::Which;
 use super::masks;
@@ -20,6 +20,20 @@ pub struct MaskedAssignment {
     pub first: u64,
     pub second: u64,
 }
+
+// What is known of an assignment: whether a is varied before it, whether b is, and whether it is active.
+pub struct KnownActivity {
+    pub varied_a: bool,
+    pub varied_b: bool,
+    pub active: bool,
+}
+
+// What the walks of the first two sets hand on, which don't ask it.
+pub const UNASKED: KnownActivity = KnownActivity {
+    varied_a: false,
+    varied_b: false,
+    active: false,
+};
 
 // The set of the variable that a word names, without a branch: kinds follow each other in no order that a processor could foresee. A word that names
 // none, such as a constant's number, never becomes a variable.
@@ -91,45 +105,52 @@ fn useful_before(row: MaskedAssignment, after: u64) -> u64
     }
 }
 
-// The one place that says what a row's adjoint needs.
-fn adjoint_use(row: MaskedAssignment, active: bool) -> u64
-    ensures { λ r. ⌜ GivesKnown row active r (λ b known. adjointUse (sourceOf b) known) ⌝ }
+pub fn activity(row: MaskedAssignment, varied: u64, useful: u64) -> KnownActivity
+    requires { ⌜ TargetSmall row ⌝ }
+    ensures { λ r. ⌜ Gives row (activityBy r) (λ b. activityOf b varied useful) ⌝ }
 {
-    if active & (row.kind == kinds::PRODUCT) {
-        reads(row)
+    let varied_a = masks::meets(varied, row.first);
+    let varied_b = masks::meets(varied, row.second);
+    let active = masks::has(useful, row.target) & (varied_a | varied_b);
+    KnownActivity {
+        varied_a,
+        varied_b,
+        active,
+    }
+}
+
+// The one place that says what a row's adjoint needs: of a product each operand whose fellow is varied, for the fellow's derivative is that operand.
+fn adjoint_use(row: MaskedAssignment, known: KnownActivity) -> u64
+    ensures { λ r. ⌜ Gives row r (λ b. adjointUse (sourceOf b) (activityBy known)) ⌝ }
+{
+    if known.active & (row.kind == kinds::PRODUCT) {
+        masks::only_if(known.varied_b, row.first) | masks::only_if(known.varied_a, row.second)
     } else {
         0
     }
 }
 
-fn required_after(row: MaskedAssignment, active: bool, before: u64) -> u64
+fn required_after(row: MaskedAssignment, known: KnownActivity, before: u64) -> u64
     requires { ⌜ TargetSmall row ⌝ }
-    ensures { λ r. ⌜ GivesKnown row active r (λ b known. requiredAfter b known before) ⌝ }
+    ensures { λ r. ⌜ Gives row r (λ b. requiredAfter b (activityBy known) before) ⌝ }
 {
-    masks::without(row.target, before | adjoint_use(row, active))
+    masks::without(row.target, before | adjoint_use(row, known))
 }
 
-pub fn recorded(row: MaskedAssignment, active: bool, required: u64) -> bool
+pub fn recorded(row: MaskedAssignment, known: KnownActivity, required: u64) -> bool
     requires { ⌜ TargetSmall row ⌝ }
-    ensures { λ r. ⌜ GivesKnown row active r (λ b known. recordedBy b known required) ⌝ }
+    ensures { λ r. ⌜ Gives row r (λ b. recordedBy b (activityBy known) required) ⌝ }
 {
-    masks::has(required, row.target) | masks::has(adjoint_use(row, active), row.target)
+    masks::has(required, row.target) | masks::has(adjoint_use(row, known), row.target)
 }
 
-pub fn active(row: MaskedAssignment, varied: u64, useful: u64) -> bool
+pub fn transfer(which: Which, row: MaskedAssignment, known: KnownActivity, set: u64) -> u64
     requires { ⌜ TargetSmall row ⌝ }
-    ensures { λ r. ⌜ Gives row r (λ b. activityOf b varied useful .active) ⌝ }
-{
-    masks::has(useful, row.target) & any_read(row, varied)
-}
-
-pub fn transfer(which: Which, row: MaskedAssignment, active: bool, set: u64) -> u64
-    requires { ⌜ TargetSmall row ⌝ }
-    ensures { λ r. ⌜ Gives row r (λ b. turnOf which active b set) ⌝ }
+    ensures { λ r. ⌜ Gives row r (λ b. turnOf which (activityBy known) b set) ⌝ }
 {
     match which {
         Which::Varied => varied_after(row, set),
         Which::Useful => useful_before(row, set),
-        Which::Required => required_after(row, active, set),
+        Which::Required => required_after(row, known, set),
     }
 }

@@ -6,8 +6,8 @@ ghost use Rattle.sheet.specs.inner.Words.{wordValues};
 ghost use Rattle.sheet.specs.Rows.{Assignment};
 ghost use Rattle.sets.specs.declared.Which.the-variants.{Varied, Useful, Required};
 ghost use Rattle.sets.specs.Rounds.{least};
-ghost use Rattle.sets.specs.inner.Operations.{maskBits, TargetSmall, Performs};
-ghost use Rattle.sets.specs.inner.RowEquations.{givenBy, noneActive, activeBy, lineIn, turnOf, rowInTurn, settledPoint};
+ghost use Rattle.sets.specs.inner.Operations.{maskBits, TargetSmall, Performs, activityBy};
+ghost use Rattle.sets.specs.inner.RowEquations.{givenBy, unasked, knownFrom, lineIn, turnOf, rowInTurn, settledPoint};
 ghost use Rattle.sets.specs.inner.RowEquations.{startOf, allEquations, hasRole, seedIn};
 ghost use Rattle.sets.specs.inner.RowBytes.{bytesOf, written};
 ghost use Rattle.sets.specs.inner.Walks.{endsOn, endsBack, endsRepeat, Grown, Judging, Brings, AtBlock, ownSide, PassedRow, Settles};
@@ -18,7 +18,9 @@ use super::marks;
 use super::partners;
 use super::rows;
 use super::transfers;
+use super::transfers::KnownActivity;
 use super::transfers::MaskedAssignment;
+use super::transfers::UNASKED;
 use sheet::RowNumber;
 use sheet::kinds;
 use sheet::kinds::Part;
@@ -143,15 +145,15 @@ fn pass_assignment(
     which: Which,
     row: RowNumber,
     operation: MaskedAssignment,
-    active: bool,
+    known: KnownActivity,
     sets: &mut [u64],
     reached: WalkedTo,
 ) -> WalkedTo
     requires { ⌜ TargetSmall operation × (row .0 < wordValues) × (suc (row .0) < length (now sets)) × (reached .turn < wordValues) ⌝ }
     ensures { λ r. ⌜ (r .turn ≡ reached .turn + 1) × ((b : Assignment) → Performs operation b
-        → Grown (now (sets .entry)) (settledPoint which (row .0)) (turnOf which active b (reached .own)) (now (sets .exit)) (r .own)) ⌝ }
+        → Grown (now (sets .entry)) (settledPoint which (row .0)) (turnOf which (activityBy known) b (reached .own)) (now (sets .exit)) (r .own)) ⌝ }
 {
-    let right = transfers::transfer(which, operation, active, reached.own);
+    let right = transfers::transfer(which, operation, known, reached.own);
     let own = grow(sets, equations::settled_point(which, row), right);
     let turn = reached.turn + 1;
     WalkedTo { turn, own }
@@ -215,10 +217,10 @@ pub fn settle_varied(
     others: &[u16],
     sets: &mut [u64],
 )
-    requires { ⌜ Settles Varied (givenBy (now words) (extent .first) noneActive (now partners)) (now others)
+    requires { ⌜ Settles Varied (givenBy (now words) (extent .first) unasked (now partners)) (now others)
         (extent .rows) (extent .variables) (now sets) ⌝ }
     ensures { λ r. ⌜ now (sets .exit) ≡ least (extent .variables) (suc (extent .rows))
-        (allEquations Varied (givenBy (now (words .entry)) (extent .first) noneActive (now (partners .entry)))
+        (allEquations Varied (givenBy (now (words .entry)) (extent .first) unasked (now (partners .entry)))
         (extent .rows) (seedIn Varied (now (words .entry)) (extent .variables))) ⌝ }
 {
     let forms = kinds::forms();
@@ -230,7 +232,7 @@ pub fn settle_varied(
         let part = form.3;
         if kinds::assigns(part) {
             let operation = transfers::operation_at(words, extent.first, row, form);
-            reached = pass_assignment(Which::Varied, row, operation, false, sets, reached);
+            reached = pass_assignment(Which::Varied, row, operation, UNASKED, sets, reached);
         } else {
             reached = pass_block_row(
                 Which::Varied,
@@ -253,10 +255,10 @@ pub fn settle_useful(
     others: &[u16],
     sets: &mut [u64],
 )
-    requires { ⌜ Settles Useful (givenBy (now words) (extent .first) noneActive (now partners)) (now others)
+    requires { ⌜ Settles Useful (givenBy (now words) (extent .first) unasked (now partners)) (now others)
         (extent .rows) (extent .variables) (now sets) ⌝ }
     ensures { λ r. ⌜ now (sets .exit) ≡ least (extent .variables) (suc (extent .rows))
-        (allEquations Useful (givenBy (now (words .entry)) (extent .first) noneActive (now (partners .entry)))
+        (allEquations Useful (givenBy (now (words .entry)) (extent .first) unasked (now (partners .entry)))
         (extent .rows) (seedIn Useful (now (words .entry)) (extent .variables))) ⌝ }
 {
     let forms = kinds::forms();
@@ -268,7 +270,7 @@ pub fn settle_useful(
         let part = form.3;
         if kinds::assigns(part) {
             let operation = transfers::operation_at(words, extent.first, row, form);
-            reached = pass_assignment(Which::Useful, row, operation, false, sets, reached);
+            reached = pass_assignment(Which::Useful, row, operation, UNASKED, sets, reached);
         } else {
             reached = pass_block_row(
                 Which::Useful,
@@ -295,11 +297,11 @@ pub fn settle_required(
     sets: &mut [u64],
     marks: &mut [u8],
 )
-    requires { ⌜ Settles Required (givenBy (now words) (extent .first) (activeBy (now words) (extent .first) (now varied) (now useful)) (now partners)) (now others)
+    requires { ⌜ Settles Required (givenBy (now words) (extent .first) (knownFrom (now words) (extent .first) (now varied) (now useful)) (now partners)) (now others)
         (extent .rows) (extent .variables) (now sets)
         × (extent .rows < length (now varied)) × (extent .rows < length (now useful)) × (extent .rows ≤ length (now marks)) ⌝ }
     ensures { λ r. ⌜ (now (sets .exit) ≡ least (extent .variables) (suc (extent .rows))
-        (allEquations Required (givenBy (now (words .entry)) (extent .first) (activeBy (now (words .entry)) (extent .first) (now (varied .entry)) (now (useful .entry))) (now (partners .entry)))
+        (allEquations Required (givenBy (now (words .entry)) (extent .first) (knownFrom (now (words .entry)) (extent .first) (now (varied .entry)) (now (useful .entry))) (now (partners .entry)))
         (extent .rows) (seedIn Required (now (words .entry)) (extent .variables))))
         × (now (marks .exit) ≡ written (bytesOf (now (varied .entry)) (now (useful .entry)) (now (sets .exit)) (lineIn (now (words .entry)) (extent .first)))
         (extent .rows) (now (marks .entry))) ⌝ }
@@ -314,10 +316,10 @@ pub fn settle_required(
         let part = form.3;
         if kinds::assigns(part) {
             let operation = transfers::operation_at(words, extent.first, row, form);
-            let byte = marks::byte_at(row, operation, varied, useful, reached.own);
+            let known = marks::activity_at(row, operation, varied, useful);
+            let byte = marks::row_byte(operation, known, reached.own);
             marks[number] = byte;
-            let active = marks::is_active(byte);
-            reached = pass_assignment(Which::Required, row, operation, active, sets, reached);
+            reached = pass_assignment(Which::Required, row, operation, known, sets, reached);
         } else {
             marks[number] = 0;
             reached = pass_block_row(

@@ -9,6 +9,7 @@ use Rattle.sheet.specs.Rows.{Assignment, targetOf, Row, rowOfAssignment}
 use Rattle.sheet.specs.inner.Kinds.{namesVariable}
 use Rattle.sheet.specs.declared.kinds.Slot.{Slot}
 use Rattle.sets.specs.declared.transfers.MaskedAssignment.{MaskedAssignment}
+use Rattle.sets.specs.declared.transfers.KnownActivity.{KnownActivity}
 use Rattle.sets.specs.VariableSets.{VariableSet, empty, single, singleSome}
 use Rattle.sets.specs.Transfers.{Activity, firstRead, secondRead}
 
@@ -49,6 +50,6 @@ TargetSmall operation = operation .target .0 < maskBits
 abbrev pub Gives : {A : Type 0} → MaskedAssignment → A → (Assignment → A) → Type 0
 Gives operation r meaning = (b : Assignment) → Performs operation b → r ≡ meaning b
 
--- the same where the definition asks whether the row is active
-abbrev pub GivesKnown : {A : Type 0} → MaskedAssignment → (active : Bool) → A → (Assignment → Activity → A) → Type 0
-GivesKnown operation active r meaning = (known : Activity) → known .active ≡ active → Gives operation r (λ b. meaning b known)
+-- what the code knows of an assignment, as the definitions have it
+abbrev pub activityBy : KnownActivity → Activity
+activityBy known = record { variedA = known .«varied_a»; variedB = known .«varied_b»; active = known .active }

@@ -5,7 +5,7 @@ use lib.ListN.{set}
 use Rattle.sheet.specs.Tree.{basic, ifLine, elseLine, endIf, repeat, endRepeat}
 use Rattle.sheet.specs.Rows.{Assignment, SheetLine}
 use Rattle.sets.specs.VariableSets.{VariableSet}
-use Rattle.sets.specs.Transfers.{activityOf, recordedBy}
+use Rattle.sets.specs.Transfers.{Activity, recordedBy}
 use Rattle.sets.specs.Marks.{markBy}
 use Rattle.sets.specs.Rounds.{setsIn}
 use Rattle.sets.specs.MarkBytes.{byteBy}
@@ -20,9 +20,9 @@ byteAt varied useful required p endIf = 0
 byteAt varied useful required p (repeat m) = 0
 byteAt varied useful required p endRepeat = 0
 
--- the same of an assignment, by the three sets that it asks: varied before it, useful after it, required before it
-abbrev pub byteFor : (varied useful required : VariableSet) → Assignment → ℕ
-byteFor varied useful required b = let known = activityOf b varied useful in byteBy known (recordedBy b known required)
+-- the same of an assignment, by what is known of it and the variables required before it
+abbrev pub byteFor : Activity → (required : VariableSet) → Assignment → ℕ
+byteFor known required b = byteBy known (recordedBy b known required)
 
 -- the bytes of rows with these lines
 abbrev pub bytesOf : (varied useful required : List VariableSet) → (ℕ → SheetLine) → ℕ → ℕ

@@ -19,7 +19,7 @@ use Rattle.sets.specs.declared.Which.the-variants.{Varied, Useful, Requi
 use Rattle.sets.specs.VariableSets.{VariableSet, places, _∪_}
 use Rattle.sets.specs.Equations.{Equation, starts, passes, joins, unchanged}
 use Rattle.sets.specs.Rounds.{setAt}
-use Rattle.sets.specs.Transfers.{variedAfter, usefulBefore, requiredAfter, activityOf}
+use Rattle.sets.specs.Transfers.{variedAfter, usefulBefore, requiredAfter, Activity, activityOf}
 use Rattle.sets.specs.inner.Operations.{InMask}
 
 -- the line of a sheet's row, by its number
@@ -44,53 +44,56 @@ backwardOf turn endIf p c = passes (suc p) p unchanged
 backwardOf turn (repeat m) p c = passes (suc p) p unchanged
 backwardOf turn endRepeat p c = joins (suc p) (suc c) p
 
--- what an assignment does to the set; of its activity the required variables ask one thing
-unfoldable pub turnOf : Which → (active : Bool) → Assignment → VariableSet → VariableSet
-turnOf Varied active b s = variedAfter b s
-turnOf Useful active b s = usefulBefore b s
-turnOf Required active b s = requiredAfter b (record { variedA = false; variedB = false; active = active }) s
+-- what an assignment does to the set, by what is known of it
+unfoldable pub turnOf : Which → Activity → Assignment → VariableSet → VariableSet
+turnOf Varied known b s = variedAfter b s
+turnOf Useful known b s = usefulBefore b s
+turnOf Required known b s = requiredAfter b known s
 
-unfoldable pub equationOf : Which → (active : Bool) → SheetLine → (row partner : ℕ) → Equation
+unfoldable pub equationOf : Which → Activity → SheetLine → (row partner : ℕ) → Equation
 unfolding forwardOf backwardOf turnOf
-equationOf Varied active l p c = forwardOf (turnOf Varied active) l p c
-equationOf Useful active l p c = backwardOf (turnOf Useful active) l p c
-equationOf Required active l p c = forwardOf (turnOf Required active) l p c
+equationOf Varied known l p c = forwardOf (turnOf Varied known) l p c
+equationOf Useful known l p c = backwardOf (turnOf Useful known) l p c
+equationOf Required known l p c = forwardOf (turnOf Required known) l p c
 
 -- ---- all rows' equations
 
--- the sheet's words, the place of its first row, which rows are active and a partner for each row
+-- the sheet's words, the place of its first row, what is known of each row and a partner for each
 pub record Given : Type 0 where
   pub words : List ℕ
   pub first : ℕ
-  pub active : ℕ → Bool
+  pub known : ℕ → Activity
   pub partners : List ℕ
 
-abbrev pub givenBy : (words : List ℕ) (first : ℕ) (active : ℕ → Bool) (partners : List ℕ) → Given
-givenBy words first active partners = record { words = words; first = first; active = active; partners = partners }
+abbrev pub givenBy : (words : List ℕ) (first : ℕ) (known : ℕ → Activity) (partners : List ℕ) → Given
+givenBy words first known partners = record { words = words; first = first; known = known; partners = partners }
 
--- the first two sets don't ask which rows are active
-abbrev pub noneActive : ℕ → Bool
-noneActive p = false
+abbrev pub inactive : Activity
+inactive = record { variedA = false; variedB = false; active = false }
+
+-- the first two sets don't ask what is known of a row
+abbrev pub unasked : ℕ → Activity
+unasked p = inactive
 
 -- by the sets of varied variables before a row and of useful ones after it
-unfoldable pub activeLine : (varied useful : VariableSet) → SheetLine → Bool
+unfoldable pub knownOfLine : (varied useful : VariableSet) → SheetLine → Activity
 unfolding activityOf
-activeLine varied useful (basic b) = activityOf b varied useful .active
-activeLine varied useful (ifLine f) = false
-activeLine varied useful elseLine = false
-activeLine varied useful endIf = false
-activeLine varied useful (repeat m) = false
-activeLine varied useful endRepeat = false
+knownOfLine varied useful (basic b) = activityOf b varied useful
+knownOfLine varied useful (ifLine f) = inactive
+knownOfLine varied useful elseLine = inactive
+knownOfLine varied useful endIf = inactive
+knownOfLine varied useful (repeat m) = inactive
+knownOfLine varied useful endRepeat = inactive
 
-abbrev pub activeBy : (words : List ℕ) (first : ℕ) (varied useful : List VariableSet) → ℕ → Bool
-activeBy words first varied useful p = activeLine (setAt varied p) (setAt useful (suc p)) (lineIn words first p)
+abbrev pub knownFrom : (words : List ℕ) (first : ℕ) (varied useful : List VariableSet) → ℕ → Activity
+knownFrom words first varied useful p = knownOfLine (setAt varied p) (setAt useful (suc p)) (lineIn words first p)
 
 abbrev pub rowIn : Given → ℕ → Row
 rowIn given p = numberedRow (given .words) (given .first) p
 
 unfoldable pub equationIn : Which → Given → ℕ → Equation
 unfolding lineOfRow equationOf
-equationIn which given p = equationOf which (given .active p) (lineOfRow (rowIn given p)) p (getD (given .partners) p 0)
+equationIn which given p = equationOf which (given .known p) (lineOfRow (rowIn given p)) p (getD (given .partners) p 0)
 
 -- in the order of the sweep: useful variables are found from the last row to the first
 unfoldable pub rowInTurn : Which → (rows turn : ℕ) → ℕ

@@ -1,17 +1,20 @@
--- `sets::transfers::adjoint_use` meets its contract: an active product's operands, which are what it reads.
+-- `sets::transfers::adjoint_use` meets its contract: an active product's operands, each by its fellow's being varied.
 use borrow.Author.Needs.{needs}
 use Rattle.sets.proofs.OperationLaws.{use-said}
 use Rattle.sets.proofs.transfers.adjoint_use.Statement.{statement}
 use Rattle.sets.proofs.transfers.adjoint_use.Tie as tie
 
-reads-requires : tie.Need-reads-requires
-reads-requires c κs = search needs
+only-if-requires : tie.Need-only-if-requires
+only-if-requires c κs = search needs
+
+only-if-requires-2 : tie.Need-only-if-requires-2
+only-if-requires-2 c κs = search needs
 
 returns : tie.Need-returns
-returns c known knows b performs = rw (use-said b performs known, knows, c .before .if1 .taken) (c .reads .ensures b performs)
+returns c b performs = rw (use-said b performs _, c .before .before .if1 .taken, c .before .only-if .ensures, c .only-if2 .ensures)
 
 returns-2 : tie.Need-returns-2
-returns-2 c known knows b performs = rw (use-said b performs known, knows, c .if1 .left)
+returns-2 c b performs = rw (use-said b performs _, c .if1 .left)
 
 pub adjoint-use-spec : {M : Type 1} → statement M
-adjoint-use-spec = tie.close (tie.spec reads-requires returns returns-2)
+adjoint-use-spec = tie.close (tie.spec only-if-requires only-if-requires-2 returns returns-2)

@@ -14,8 +14,7 @@ has-requires-2 : tie.Need-has-requires-2
 has-requires-2 c κs = search needs
 
 returns : tie.Need-returns
-returns c known knows b performs =
-    rw (c .before .before .has .ensures, c .has2 .ensures, c .before .adjoint-use .ensures known knows b performs, recorded-said b performs known _)
+returns c b performs = rw (c .before .before .has .ensures, c .has2 .ensures, c .before .adjoint-use .ensures b performs, recorded-said b performs _ _)
 
 pub recorded-spec : {M : Type 1} → statement M
 recorded-spec = tie.close (tie.spec has-requires adjoint-use-requires has-requires-2 returns)

@@ -11,7 +11,7 @@ without-requires : tie.Need-without-requires
 without-requires c κs = search needs
 
 returns : tie.Need-returns
-returns c known knows b performs = rw (c .without .ensures, c .before .adjoint-use .ensures known knows b performs, required-said b performs known _)
+returns c b performs = rw (c .without .ensures, c .before .adjoint-use .ensures b performs, required-said b performs _ _)
 
 pub required-after-spec : {M : Type 1} → statement M
 required-after-spec = tie.close (tie.spec adjoint-use-requires without-requires returns)

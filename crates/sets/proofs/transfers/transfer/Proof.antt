@@ -1,6 +1,5 @@
 -- `sets::transfers::transfer` meets its contract: each set's own transfer.
 use borrow.Author.Needs.{needs}
-use mathlib.Core.Path.{refl}
 use Rattle.sets.specs.inner.RowEquations.{turnOf}
 use Rattle.sets.proofs.transfers.transfer.Statement.{statement}
 use Rattle.sets.proofs.transfers.transfer.Tie as tie
@@ -33,7 +32,7 @@ returns-2 c b performs = rw (c .before .enum-told2 .given .1) (c .useful-before 
 
 returns-3 : tie.Need-returns-3
 unfolding turnOf
-returns-3 c b performs = rw (c .before .enum-told3 .given .1) (c .required-after .ensures _ refl b performs)
+returns-3 c b performs = rw (c .before .enum-told3 .given .1) (c .required-after .ensures b performs)
 
 pub transfer-spec : {M : Type 1} → statement M
 transfer-spec =

@@ -10,10 +10,10 @@ use Rattle.sheet.specs.inner.Kinds.{assigns}
 use Rattle.sheet.specs.declared.kinds.Form.{Form}
 use Rattle.sheet.proofs.PartsRead.{formIn}
 use Rattle.sets.specs.declared.Which.the-variants.{Required}
-use Rattle.sets.specs.MarkBytes.{weight, bitOf}
+use Rattle.sets.specs.inner.Operations.{activityBy}
 use Rattle.sets.specs.inner.RowBytes.{byteAt}
-use Rattle.sets.specs.inner.RowEquations.{givenBy, activeBy, lineIn, ownPoint}
-use Rattle.sets.proofs.MarkByteLaws.{no-byte, assigned-byte, byte-active, MarkedSoFar, marking-starts, marking-ends}
+use Rattle.sets.specs.inner.RowEquations.{givenBy, knownFrom, lineIn, ownPoint}
+use Rattle.sets.proofs.MarkByteLaws.{no-byte, assigned-known, assigned-byte, MarkedSoFar, marking-starts, marking-ends}
 use Rattle.sets.proofs.SheetRows.{form-read}
 use Rattle.sets.proofs.Walking.{leftOf}
 use Rattle.sets.proofs.WalkNeeds.{Carried, points, begin-there, begun, row-there, ended, AtRow, row-below, line-part, in-hand, operation-there, assignment-there, assigned}
@@ -23,7 +23,7 @@ use Rattle.sets.proofs.walk.settle_required.Tie as tie
 
 abbrev Inv-loop : tie.InvT-loop
 Inv-loop words extent varied useful partners others sets₀ marks₀ forms reached₀ sets marks reached =
-    Carried Required (givenBy words (extent .first) (activeBy words (extent .first) varied useful) partners) others (extent .rows) (extent .variables) sets reached
+    Carried Required (givenBy words (extent .first) (knownFrom words (extent .first) varied useful) partners) others (extent .rows) (extent .variables) sets reached
     × MarkedSoFar (lineIn words (extent .first)) varied useful (extent .rows) marks₀ sets marks (reached .turn)
 
 abbrev μ-loop : tie.MeasureT-loop
@@ -44,7 +44,7 @@ form c = formIn (formed (loop c) .forms .result) (c .kind-of .result)
 
 at : (c : tie.After-kind-of Inv-loop μ-loop) → let args = start (loop c) .args in
     AtRow Required
-    (givenBy (now (args .words)) (args .extent .first) (activeBy (now (args .words)) (args .extent .first) (now (args .varied)) (now (args .useful))) (now (args .partners)))
+    (givenBy (now (args .words)) (args .extent .first) (knownFrom (now (args .words)) (args .extent .first) (now (args .varied)) (now (args .useful))) (now (args .partners)))
     (now (args .others)) (args .extent .rows) (args .extent .variables) (now (args .sets)) (loop c .loop .sets) (loop c .loop .reached)
     (c .before .row-in-turn .result .0) (form c)
 at c =
@@ -70,20 +70,25 @@ judged c = c .before .before
 is-assigned : (c : tie.After-operation-at Inv-loop μ-loop) → assigns (form (looked (judged c)) .3) ≡ true
 is-assigned c = sym (judged c .assigns .ensures) ∙ c .before .if2 .taken
 
--- an assignment's byte is its line's
-byte-is : (c : tie.After-byte-at Inv-loop μ-loop) → let here = looked (judged (c .before)) in let args = start (loop here) .args in
+-- what is known of an assignment is what is known of its line, and so is its byte
+known-is : (c : tie.After-activity-at Inv-loop μ-loop) → let here = looked (judged (c .before)) in let args = start (loop here) .args in
+    activityBy (c .activity-at .result)
+    ≡ knownFrom (now (args .words)) (args .extent .first) (now (args .varied)) (now (args .useful)) (here .before .row-in-turn .result .0)
+known-is c =
+    let made = c .before in
+    let here = looked (judged made) in
+    let args = start (loop here) .args in
+    assigned-known (now (args .varied)) (now (args .useful)) (here .before .row-in-turn .result .0)
+    (assigned (at here) (is-assigned made) (made .operation-at .ensures .0)) (c .activity-at .ensures)
+
+byte-is : (c : tie.After-row-byte Inv-loop μ-loop) → let here = looked (judged (c .before .before)) in let args = start (loop here) .args in
     let p = here .before .row-in-turn .result .0 in
-    c .byte-at .result ≡ byteAt (now (args .varied)) (now (args .useful)) (loop here .loop .sets) p (lineIn (now (args .words)) (args .extent .first) p)
+    c .row-byte .result ≡ byteAt (now (args .varied)) (now (args .useful)) (loop here .loop .sets) p (lineIn (now (args .words)) (args .extent .first) p)
 unfolding ownPoint
 byte-is c =
-    let made = c .before in
+    let made = c .before .before in
     let row = at (looked (judged made)) in
-    assigned-byte _ _ _ _ (assigned row (is-assigned made) (made .operation-at .ensures .0)) (in-hand row) (c .byte-at .ensures)
-
--- and says whether it is active
-active-is : (c : tie.After-is-active Inv-loop μ-loop) → let here = looked (judged (c .before .before)) in let args = start (loop here) .args in
-    c .is-active .result ≡ activeBy (now (args .words)) (args .extent .first) (now (args .varied)) (now (args .useful)) (here .before .row-in-turn .result .0)
-active-is c = c .is-active .ensures ∙ ap (λ b. bitOf b (weight .active)) (byte-is (c .before)) ∙ byte-active _ _ _ _ _
+    assigned-byte _ _ _ _ (assigned row (is-assigned made) (made .operation-at .ensures .0)) (known-is (c .before)) (in-hand row) (c .row-byte .ensures)
 
 forms-requires : tie.Need-forms-requires Inv-loop μ-loop
 forms-requires c κs = tt
@@ -115,17 +120,17 @@ assigns-requires c κs = tt
 operation-at-requires : tie.Need-operation-at-requires Inv-loop μ-loop
 operation-at-requires c κs = operation-there (at (looked (c .before))) (sym (c .before .assigns .ensures) ∙ c .if2 .taken)
 
-byte-at-requires : tie.Need-byte-at-requires Inv-loop μ-loop
-byte-at-requires c κs =
+activity-at-requires : tie.Need-activity-at-requires Inv-loop μ-loop
+activity-at-requires c κs =
     let here = looked (judged c) in
     let below = row-below (at here) in
     (c .operation-at .ensures .1, omega (arith, below, start (loop here) .pre .1), omega (arith, below, start (loop here) .pre .2))
 
-slice-write-marks : tie.Need-slice-write-marks Inv-loop μ-loop
-slice-write-marks c = marks-there (looked (judged (c .before)))
+row-byte-requires : tie.Need-row-byte-requires Inv-loop μ-loop
+row-byte-requires c κs = c .before .operation-at .ensures .1
 
-is-active-requires : tie.Need-is-active-requires Inv-loop μ-loop
-is-active-requires c κs = tt
+slice-write-marks : tie.Need-slice-write-marks Inv-loop μ-loop
+slice-write-marks c = marks-there (looked (judged (c .before .before)))
 
 pass-assignment-requires : tie.Need-pass-assignment-requires Inv-loop μ-loop
 pass-assignment-requires c κs =
@@ -135,20 +140,20 @@ pass-assignment-requires c κs =
 loop-less : tie.Need-loop-less Inv-loop μ-loop
 loop-less c =
     let passed = c .before .before in
-    let acts = passed .before .before in
-    let made = acts .before .before in
+    let marked = passed .before .before in
+    let made = marked .before .before in
     let row = at (looked (judged made)) in
-    gone-on row (assignment-passed row (is-assigned made) (made .operation-at .ensures .0) (active-is acts) (passed .pass-assignment .ensures)) .1
+    gone-on row (assignment-passed row (is-assigned made) (made .operation-at .ensures .0) (known-is (marked .before)) (passed .pass-assignment .ensures)) .1
 
 loop-again : tie.Need-loop-again Inv-loop μ-loop
 loop-again c =
     let passed = c .before .before in
-    let acts = passed .before .before in
-    let made = acts .before .before in
+    let marked = passed .before .before in
+    let made = marked .before .before in
     let here = looked (judged made) in
     let row = at here in
-    let passes = assignment-passed row (is-assigned made) (made .operation-at .ensures .0) (active-is acts) (passed .pass-assignment .ensures) in
-    (gone-on row passes .0, marked-on row _ _ passes (loop here .loop .inv .1) (start (loop here) .pre .3) (byte-is (acts .before)))
+    let passes = assignment-passed row (is-assigned made) (made .operation-at .ensures .0) (known-is (marked .before)) (passed .pass-assignment .ensures) in
+    (gone-on row passes .0, marked-on row _ _ passes (loop here .loop .inv .1) (start (loop here) .pre .3) (byte-is marked))
 
 slice-write-marks-2 : tie.Need-slice-write-marks-2 Inv-loop μ-loop
 slice-write-marks-2 c = marks-there (looked (c .before))
@@ -201,9 +206,9 @@ settle-required-spec =
     array-copy-out-form
     assigns-requires
     operation-at-requires
-    byte-at-requires
+    activity-at-requires
+    row-byte-requires
     slice-write-marks
-    is-active-requires
     pass-assignment-requires
     loop-less
     loop-again

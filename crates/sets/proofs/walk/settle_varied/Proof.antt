@@ -7,7 +7,7 @@ use denote.Ref.{now}
 use Rattle.sheet.specs.inner.Kinds.{assigns}
 use Rattle.sheet.specs.declared.kinds.Form.{Form}
 use Rattle.sets.specs.declared.Which.the-variants.{Varied}
-use Rattle.sets.specs.inner.RowEquations.{givenBy, noneActive}
+use Rattle.sets.specs.inner.RowEquations.{givenBy, unasked}
 use Rattle.sheet.proofs.PartsRead.{formIn}
 use Rattle.sets.proofs.SheetRows.{form-read}
 use Rattle.sets.proofs.Walking.{leftOf}
@@ -17,7 +17,7 @@ use Rattle.sets.proofs.walk.settle_varied.Tie as tie
 
 abbrev Inv-loop : tie.InvT-loop
 Inv-loop words extent partners others sets₀ forms reached₀ sets reached =
-    Carried Varied (givenBy words (extent .first) noneActive partners) others (extent .rows) (extent .variables) sets reached
+    Carried Varied (givenBy words (extent .first) unasked partners) others (extent .rows) (extent .variables) sets reached
 
 abbrev μ-loop : tie.MeasureT-loop
 μ-loop words extent partners others sets₀ forms reached₀ sets reached = leftOf (extent .variables) (extent .rows) sets (reached .turn)
@@ -36,7 +36,7 @@ abbrev form : tie.After-kind-of Inv-loop μ-loop → Form
 form c = formIn (formed (loop c) .forms .result) (c .kind-of .result)
 
 at : (c : tie.After-kind-of Inv-loop μ-loop) → let args = start (loop c) .args in
-    AtRow Varied (givenBy (now (args .words)) (args .extent .first) noneActive (now (args .partners))) (now (args .others)) (args .extent .rows)
+    AtRow Varied (givenBy (now (args .words)) (args .extent .first) unasked (now (args .partners))) (now (args .others)) (args .extent .rows)
     (args .extent .variables) (now (args .sets)) (loop c .loop .sets) (loop c .loop .reached) (c .before .row-in-turn .result .0) (form c)
 at c =
     let turned = c .before in
