@@ -1,5 +1,5 @@
 -- "Sheets worked by hand": the starred ones as one table, what is stated of each, and what the definitions find. Where 01 leaves out one of
--- W, R, S and T, it is the one that its rules give. Tangents are 02's, and so are H's numbers.
+-- W, R, S and T, it is the one that its rules give. Tangents are 02's, and so are H's numbers; J is ours.
 use Prim.Native.Nat.{ℕ}
 use mathlib.Core.Bool.{Bool, true, false}
 use mathlib.Core.List.{List, [], _∷_, _++_, map}
@@ -203,6 +203,34 @@ starred =
       recorded = 1 ∷ [];
       table = [];
       trials = record { starts = 1 ∷ 0 ∷ []; seeds = 1 ∷ 0 ∷ []; result = 2 ∷ 4 ∷ 3 ∷ 0 ∷ [] } ∷ [];
+      audits = [];
+      tangents = [];
+    }
+    -- J. Roles 3 0 0, repeat 2 of { var 1 := var 1 + var 2; var 0 := var 1 × var 0 }. Only b is varied, so each turn's var 1 is needed and var 0 is not: the first
+    -- row alone is recorded, S = 2, where both operands would make it 4
+    ∷ record {
+      words = 3 ∷ 3 ∷ 0 ∷ 0 ∷ 0 ∷ 4 ∷ 10 ∷ 0 ∷ 2 ∷ 0 ∷ 3 ∷ 1 ∷ 1 ∷ 2 ∷ 5 ∷ 0 ∷ 1 ∷ 0 ∷ 11 ∷ 0 ∷ 0 ∷ 0 ∷ [];
+      sizes = record { longest = 7; rows = 14; values = 2; turns = 0 };
+      recorded = 1 ∷ [];
+      table =
+          (14
+          ∷ 10 ∷ 0 ∷ 2 ∷ 0
+          ∷ 12 ∷ 1 ∷ 0 ∷ 0
+          ∷ 3 ∷ 1 ∷ 1 ∷ 2
+          ∷ 5 ∷ 0 ∷ 1 ∷ 0
+          ∷ 11 ∷ 0 ∷ 0 ∷ 0
+          ∷ 17 ∷ 0 ∷ 0 ∷ 0
+          ∷ 10 ∷ 0 ∷ 2 ∷ 0
+          ∷ 1 ∷ 6 ∷ 3 ∷ 0
+          ∷ 16 ∷ 3 ∷ 0 ∷ 0
+          ∷ 5 ∷ 7 ∷ 1 ∷ 6
+          ∷ 3 ∷ 3 ∷ 3 ∷ 7
+          ∷ 13 ∷ 1 ∷ 0 ∷ 0
+          ∷ 16 ∷ 4 ∷ 0 ∷ 0
+          ∷ 11 ∷ 0 ∷ 0 ∷ 0
+          ∷ [])
+          ∷ [];
+      trials = record { starts = 2 ∷ 1 ∷ 1 ∷ []; seeds = 1 ∷ 0 ∷ 0 ∷ []; result = 12 ∷ 3 ∷ 1 ∷ 6 ∷ 0 ∷ 0 ∷ [] } ∷ [];
       audits = [];
       tangents = [];
     }
