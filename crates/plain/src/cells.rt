@@ -1,38 +1,17 @@
 // The pairs that the engine works on: laid from what a call is lent, and written out as its result.
 ghost use mathlib.Core.Path.{_≡_};
-ghost use mathlib.Core.Bool.{cond};
 ghost use Prim.Native.Nat.{_*_, _≤_};
 ghost use lib.ListN.{length};
 ghost use Rattle.number.specs.Doubles.{doubles};
 ghost use Rattle.sheet.specs.Bounds.{limit};
-ghost use Rattle.sheet.specs.Rows.{isIndependent, isDependent};
 ghost use Rattle.tangent.specs.TangentRuns.{startingRates};
 ghost use Rattle.plain.specs.inner.Engine.{carriedIn, resultOf};
 use super::Rated;
 use number::double;
+use run::buffers;
 use sheet::MAX_VARIABLES;
 use sheet::is_dependent;
 use sheet::is_independent;
-
-fn starting_rate(role: u16, rate: f64) -> f64
-    ensures { λ r. ⌜ r ≡ cond (isIndependent role) rate (doubles .zero) ⌝ }
-{
-    if is_independent(role) {
-        rate
-    } else {
-        double::zero()
-    }
-}
-
-fn resulting_rate(role: u16, rate: f64) -> f64
-    ensures { λ r. ⌜ r ≡ cond (isDependent role) rate (doubles .zero) ⌝ }
-{
-    if is_dependent(role) {
-        rate
-    } else {
-        double::zero()
-    }
-}
 
 // "Starting rates are read at independents only and are 0 elsewhere"
 pub fn laid(roles: &[u16], starts: &[f64], rates: &[f64]) -> [Rated; MAX_VARIABLES]
@@ -48,7 +27,8 @@ pub fn laid(roles: &[u16], starts: &[f64], rates: &[f64]) -> [Rated; MAX_VARIABL
     let mut i: usize = 0;
     while i < roles.len() {
         let value = starts[i];
-        let rate = starting_rate(roles[i], rates[i]);
+        let role = roles[i];
+        let rate = buffers::double_or_zero(is_independent(role), rates[i]);
         cells[i] = Rated { value, rate };
         i += 1;
     }
@@ -65,7 +45,8 @@ pub fn write_out(cells: [Rated; MAX_VARIABLES], roles: &[u16], result: &mut [f64
     while i < variables {
         let cell = cells[i];
         result[i] = cell.value;
-        result[variables + i] = resulting_rate(roles[i], cell.rate);
+        let role = roles[i];
+        result[variables + i] = buffers::double_or_zero(is_dependent(role), cell.rate);
         i += 1;
     }
 }

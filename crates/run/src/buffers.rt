@@ -80,7 +80,7 @@ fn counts(counted: Counted, role: u16) -> bool
     }
 }
 
-fn double_or_zero(counts: bool, number: f64) -> f64
+pub fn double_or_zero(counts: bool, number: f64) -> f64
     ensures { λ r. ⌜ r ≡ cond counts number (doubles .zero) ⌝ }
 {
     if counts { number } else { double::zero() }

@@ -1,6 +1,6 @@
 -- `plain::cells::laid` meets its contract. The invariant: the variables passed are laid.
 use Prim.Native.Nat.{_-_}
-use mathlib.Core.Path.{refl}
+use mathlib.Core.Path.{refl, sym}
 use native.Mathlib.Omega.{arith}
 use lib.ListN.{length}
 use borrow.Author.Needs.{needs}
@@ -33,20 +33,23 @@ mul-value c = omega arith
 shared-slice-read-value : tie.Need-shared-slice-read-value Inv-loop μ-loop
 shared-slice-read-value c = omega arith
 
-mul-starting-rate : tie.Need-mul-starting-rate Inv-loop μ-loop
-mul-starting-rate c = omega arith
+mul-role : tie.Need-mul-role Inv-loop μ-loop
+mul-role c = omega arith
 
-shared-slice-read-starting-rate : tie.Need-shared-slice-read-starting-rate Inv-loop μ-loop
-shared-slice-read-starting-rate c = omega arith
+shared-slice-read-role : tie.Need-shared-slice-read-role Inv-loop μ-loop
+shared-slice-read-role c = omega arith
 
-mul-starting-rate-2 : tie.Need-mul-starting-rate-2 Inv-loop μ-loop
-mul-starting-rate-2 c = omega arith
+is-independent-requires : tie.Need-is-independent-requires Inv-loop μ-loop
+is-independent-requires c κs = search needs
 
-shared-slice-read-starting-rate-2 : tie.Need-shared-slice-read-starting-rate-2 Inv-loop μ-loop
-shared-slice-read-starting-rate-2 c = omega arith
+mul-double-or-zero : tie.Need-mul-double-or-zero Inv-loop μ-loop
+mul-double-or-zero c = omega arith
 
-starting-rate-requires : tie.Need-starting-rate-requires Inv-loop μ-loop
-starting-rate-requires c κs = search needs
+shared-slice-read-double-or-zero : tie.Need-shared-slice-read-double-or-zero Inv-loop μ-loop
+shared-slice-read-double-or-zero c = omega arith
+
+double-or-zero-requires : tie.Need-double-or-zero-requires Inv-loop μ-loop
+double-or-zero-requires c κs = search needs
 
 mul-cells : tie.Need-mul-cells Inv-loop μ-loop
 mul-cells c = omega arith
@@ -61,7 +64,10 @@ loop-less : tie.Need-loop-less Inv-loop μ-loop
 loop-less c = omega arith
 
 loop-again : tie.Need-loop-again Inv-loop μ-loop
-loop-again c = laying-goes-on (c .before .before .before .before .before .loop .inv) _ (omega arith) refl (c .starting-rate .ensures)
+loop-again c =
+    let asked = c .before .before in
+    laying-goes-on (asked .before .before .before .before .loop .inv) _ (omega arith) refl
+    (rw (sym (asked .is-independent .ensures)) (c .double-or-zero .ensures))
 
 returns : tie.Need-returns Inv-loop μ-loop
 returns c = laying-ends (c .before .loop .inv) (c .loop-test .left)
@@ -77,11 +83,12 @@ laid-spec =
     loop-holds
     mul-value
     shared-slice-read-value
-    mul-starting-rate
-    shared-slice-read-starting-rate
-    mul-starting-rate-2
-    shared-slice-read-starting-rate-2
-    starting-rate-requires
+    mul-role
+    shared-slice-read-role
+    is-independent-requires
+    mul-double-or-zero
+    shared-slice-read-double-or-zero
+    double-or-zero-requires
     mul-cells
     array-set-from-cells
     add-i

@@ -1,5 +1,6 @@
 -- `plain::cells::write_out` meets its contract. The invariant: the variables passed are written, in both halves.
 use Prim.Native.Nat.{_-_}
+use mathlib.Core.Path.{sym}
 use native.Mathlib.Omega.{arith}
 use lib.ListN.{length}
 use lib.Seq.{lt-length-set}
@@ -31,14 +32,17 @@ mul-result c = omega arith
 slice-write-result : tie.Need-slice-write-result Inv-loop μ-loop
 slice-write-result c = omega arith
 
-mul-resulting-rate : tie.Need-mul-resulting-rate Inv-loop μ-loop
-mul-resulting-rate c = omega arith
+mul-role : tie.Need-mul-role Inv-loop μ-loop
+mul-role c = omega arith
 
-shared-slice-read-resulting-rate : tie.Need-shared-slice-read-resulting-rate Inv-loop μ-loop
-shared-slice-read-resulting-rate c = omega arith
+shared-slice-read-role : tie.Need-shared-slice-read-role Inv-loop μ-loop
+shared-slice-read-role c = omega arith
 
-resulting-rate-requires : tie.Need-resulting-rate-requires Inv-loop μ-loop
-resulting-rate-requires c κs = search needs
+is-dependent-requires : tie.Need-is-dependent-requires Inv-loop μ-loop
+is-dependent-requires c κs = search needs
+
+double-or-zero-requires : tie.Need-double-or-zero-requires Inv-loop μ-loop
+double-or-zero-requires c κs = search needs
 
 add-result : tie.Need-add-result Inv-loop μ-loop
 add-result c = omega arith
@@ -48,7 +52,7 @@ mul-result-2 c = omega arith
 
 slice-write-result-2 : tie.Need-slice-write-result-2 Inv-loop μ-loop
 slice-write-result-2 c =
-    let at = c .before .before .before .before .loop in
+    let at = c .before .before .before .before .before .loop in
     lt-length-set (at .result) (at .i) _ (omega arith)
 
 add-i : tie.Need-add-i Inv-loop μ-loop
@@ -58,7 +62,10 @@ loop-less : tie.Need-loop-less Inv-loop μ-loop
 loop-less c = omega arith
 
 loop-again : tie.Need-loop-again Inv-loop μ-loop
-loop-again c = writing-goes-on (c .before .before .before .before .loop .inv) _ (omega arith) (c .resulting-rate .ensures)
+loop-again c =
+    let asked = c .before in
+    writing-goes-on (asked .before .before .before .before .loop .inv) _ (omega arith)
+    (rw (sym (asked .is-dependent .ensures)) (c .double-or-zero .ensures))
 
 same-length : tie.Need-same-length Inv-loop μ-loop
 same-length c = omega arith
@@ -77,9 +84,10 @@ write-out-spec =
     array-copy-out-cell
     mul-result
     slice-write-result
-    mul-resulting-rate
-    shared-slice-read-resulting-rate
-    resulting-rate-requires
+    mul-role
+    shared-slice-read-role
+    is-dependent-requires
+    double-or-zero-requires
     add-result
     mul-result-2
     slice-write-result-2
