@@ -56,7 +56,7 @@ activityOf (d ≔ source) varied useful =
       active = has useful d && anyRead varied source;
     }
 
--- A row's adjoint use: of an active product "b is needed only if a is varied before the row, and a only if b is" (02, 3); "every other row needs
+-- A row's adjoint use: of an active product "b is needed only if a is varied before the row, and a only if b is" (02 §3); "every other row needs
 -- nothing". Nothing else looks inside.
 unfoldable pub adjointUse : Source → Activity → VariableSet
 adjointUse (copy a) known = empty
