@@ -2,13 +2,14 @@
 use Prim.Native.Nat.{ℕ, _+_, _%_, _^_}
 use mathlib.Core.Path.{_≡_, refl, sym}
 use mathlib.Core.Bool.{true, false}
+use mathlib.Core.Option.{some}
 use native.Mathlib.Omega.{arith}
 use lib.Dec.{T}
 use lib.IntN.{ℤ}
-use lib.Ieee.{Float, nan, inf, fin, binary64, lt, neg, add, sub, mul, fits, toBits, ofBits}
+use lib.Ieee.{Float, nan, inf, fin, binary64, lt, neg, add, sub, mul, div, fits, toBits, ofBits}
 use lib.Ieee.Bits.{toBits-lt}
 use lib.Ieee.Fits.{neg-fits}
-use Rattle.number.specs.Arithmetic.{value, stop}
+use Rattle.number.specs.Arithmetic.{value, stop, over}
 use Rattle.number.specs.Doubles.{doubles, finite, finiteOrStop, notFinite}
 use Rattle.number.specs.Answers.{outcomeOf}
 use Rattle.number.specs.declared.Outcome.{Outcome}
@@ -70,6 +71,17 @@ pub rounded-once : (doubles .sum (double 0x3FB9_9999_9999_999A) (double 0x3FC9_9
     × (doubles .product (double 0x6974_E718_D7D7_625A) (double 0x6974_E718_D7D7_625A) ≡ stop notFinite)
 unfolding ofBits add sub mul
 rounded-once = (refl, refl, refl, refl, refl, refl)
+
+-- 1 / 3 and 0.3 / −0.1; −0 as a divisor divides: 0 by −1 is −0, but 1 / 0, 1 / −0 and 0 / 0 stop, as 10^200 / 10^−200 does
+pub quotients-rounded-once : (over (doubles .quotient) (double 0x3FF0_0000_0000_0000) (double 0x4008_0000_0000_0000) ≡ some (value (double 0x3FD5_5555_5555_5555)))
+    × (over (doubles .quotient) (double 0x3FD3_3333_3333_3333) (double 0xBFB9_9999_9999_999A) ≡ some (value (double 0xC007_FFFF_FFFF_FFFF)))
+    × (over (doubles .quotient) (double 0) (double 0xBFF0_0000_0000_0000) ≡ some (value (double 0x8000_0000_0000_0000)))
+    × (over (doubles .quotient) (double 0x3FF0_0000_0000_0000) (double 0) ≡ some (stop notFinite))
+    × (over (doubles .quotient) (double 0x3FF0_0000_0000_0000) (double 0x8000_0000_0000_0000) ≡ some (stop notFinite))
+    × (over (doubles .quotient) (double 0) (double 0) ≡ some (stop notFinite))
+    × (over (doubles .quotient) (double 0x6974_E718_D7D7_625A) (double 0x1668_7E92_154E_F7AC) ≡ some (stop notFinite))
+unfolding ofBits div
+quotients-rounded-once = (refl, refl, refl, refl, refl, refl, refl)
 
 -- ---- negation
 

@@ -1,7 +1,8 @@
 -- "Doubles: IEEE 754 binary64, each operation rounded once": the library's operations, and a stop where the result isn't finite.
 use mathlib.Core.Bool.{Bool, true, false}
+use mathlib.Core.Option.{some}
 use lib.IntN.{pos}
-use lib.Ieee.{Float, nan, inf, fin, binary64, add, sub, mul, neg, lt, ofInt}
+use lib.Ieee.{Float, nan, inf, fin, binary64, add, sub, mul, div, neg, lt, ofInt}
 use Rattle.number.specs.Arithmetic.{Arithmetic, Outcome, value, stop}
 
 -- one reason only, until 02 tells infinite from not a number
@@ -32,6 +33,7 @@ doubles =
       difference = λ x y. finiteOrStop (sub binary64 x y);
       product = λ x y. finiteOrStop (mul binary64 x y);
       negation = λ x. finiteOrStop (neg x);
+      quotient = some (λ x y. finiteOrStop (div binary64 x y));
       less = lt;
       constant = ofInt binary64;
       zero = plusZero;

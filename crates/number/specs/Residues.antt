@@ -1,6 +1,7 @@
--- "Audit: residues modulo 2^32." No operation stops.
+-- "Audit: residues modulo 2^32." No operation stops, and none divides.
 use Prim.Native.Nat.{ℕ, suc, _+_, _-_, _*_, _%_, _^_}
 use mathlib.Core.Bool.{true}
+use mathlib.Core.Option.{none}
 use lib.IntN.{ℤ, pos, negsuc}
 use lib.Dec.{ltb}
 use Rattle.number.specs.Arithmetic.{Arithmetic, value}
@@ -32,6 +33,7 @@ residues =
       difference = λ x y. value (residue (x + opposite y));
       product = λ x y. value (residue (x * y));
       negation = λ x. value (opposite x);
+      quotient = none;
       less = ltb;
       constant = residueOf;
       zero = 0;

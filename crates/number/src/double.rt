@@ -1,5 +1,7 @@
 // Doubles: each operation rounded once, and a stop where the result isn't finite.
 ghost use mathlib.Core.Path.{_≡_};
+ghost use mathlib.Core.Option.{some};
+ghost use Rattle.number.specs.Arithmetic.{over};
 ghost use Rattle.number.specs.Answers.{outcomeOf};
 ghost use Rattle.number.specs.Doubles.{doubles, finiteOrStop};
 use super::Outcome;
@@ -40,6 +42,13 @@ pub fn product(x: f64, y: f64) -> Outcome
     ensures { λ r. ⌜ outcomeOf r ≡ doubles .product x y ⌝ }
 {
     finite_or_stop(x * y)
+}
+
+// Infinite where a number is divided by a zero of either sign, no number where both are zeros: a stop.
+pub fn quotient(x: f64, y: f64) -> Outcome
+    ensures { λ r. ⌜ some (outcomeOf r) ≡ over (doubles .quotient) x y ⌝ }
+{
+    finite_or_stop(x / y)
 }
 
 // The sign bit alone turns, so no finite double stops here.

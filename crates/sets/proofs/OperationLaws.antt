@@ -6,11 +6,11 @@ use Prim.Native.Nat.{ℕ}
 use lib.Dec.{eqb}
 use Rattle.sheet.specs.Tree.{basic, ifLine, elseLine, endIf, repeat, endRepeat}
 use Rattle.sheet.specs.inner.RowLines.{sourceOf}
-use Rattle.sheet.specs.Rows.{Assignment, copy, fixed, sum, difference, product, negation, _≔_, Row, rowOfAssignment, SheetLine, sheetRowOf}
+use Rattle.sheet.specs.Rows.{Assignment, copy, fixed, sum, difference, product, negation, quotient, _≔_, Row, rowOfAssignment, SheetLine, sheetRowOf, quotientKind}
 use Rattle.sheet.specs.inner.Kinds.{assigns, formFor, partOf}
 use Rattle.sheet.specs.declared.kinds.Form.{Form}
 use Rattle.sets.specs.declared.transfers.MaskedAssignment.{MaskedAssignment}
-use Rattle.sets.specs.VariableSets.{VariableSet, empty, has, _∪_, single, without, hasSome, singleSome}
+use Rattle.sets.specs.VariableSets.{VariableSet, empty, has, _∪_, single, singleIf, without, hasSome, singleSome}
 use Rattle.sets.specs.Transfers.{anyRead, firstRead, secondRead, reads, variedAfter, usefulBefore}
 use Rattle.sets.specs.Transfers.{Activity, activityOf, adjointUse, recordedBy, requiredAfter}
 use Rattle.sets.specs.inner.Operations.{namedBy, meets, Performs, PerformsRow}
@@ -36,6 +36,7 @@ row-performed operation row form formed kind target first second b said =
     each (d ≔ difference a b) k t f g = record { kind = k; target = t; first = f; second = g }
     each (d ≔ product a b) k t f g = record { kind = k; target = t; first = f; second = g }
     each (d ≔ negation a) k t f g = record { kind = k; target = t; first = f; second = g }
+    each (d ≔ quotient a b) k t f g = record { kind = k; target = t; first = f; second = g }
 
 -- a line that is an assignment, and the operation is its
 pub record AssignedBy (operation : MaskedAssignment) (l : SheetLine) : Type 0 where
@@ -91,10 +92,11 @@ pub activity-said : {operation : MaskedAssignment} (b : Assignment) → Performs
 unfolding activityOf anyRead
 activity-said (d ≔ source) performs varied useful = rw (first-said performs varied, second-said performs varied, performs .target)
 
--- a product needs each operand whose fellow is varied
+-- a product needs each operand whose fellow is varied, a quotient besides always its divisor
 pub use-said : {operation : MaskedAssignment} (b : Assignment) → Performs operation b → (known : Activity)
-    → adjointUse (sourceOf b) known ≡ cond (known .active && eqb (operation .kind) 5)
-    (cond (known .variedB) (operation .first) empty ∪ cond (known .variedA) (operation .second) empty) empty
+    → let divides = eqb (operation .kind) quotientKind in
+    adjointUse (sourceOf b) known ≡ cond (known .active && (eqb (operation .kind) 5 || divides))
+    (cond (known .variedB) (operation .first) empty ∪ cond (known .variedA || divides) (operation .second) empty) empty
 unfolding rowOfAssignment adjointUse firstRead secondRead
 use-said b performs known = rw (performs .kind, performs .first, performs .second) (each b)
   where
@@ -102,18 +104,26 @@ use-said b performs known = rw (performs .kind, performs .first, performs .secon
     never true s = refl
     never false s = refl
 
-    always : (x : Bool) (s : VariableSet) → cond x s empty ≡ cond (x && true) s empty
-    always true s = refl
-    always false s = refl
+    always : (x y : Bool) (s t : VariableSet) → cond x (s ∪ cond y t empty) empty ≡ cond (x && true) (s ∪ cond (y || false) t empty) empty
+    always true true s t = refl
+    always true false s t = refl
+    always false y s t = refl
 
-    each : (b : Assignment) → adjointUse (sourceOf b) known ≡ cond (known .active && eqb (rowOfAssignment b .kind) 5)
-        (cond (known .variedB) (singleSome (firstRead (sourceOf b))) empty ∪ cond (known .variedA) (singleSome (secondRead (sourceOf b))) empty) empty
+    divisor-too : (x y : Bool) (s t : VariableSet) → cond x (s ∪ t) empty ≡ cond (x && true) (s ∪ cond (y || true) t empty) empty
+    divisor-too true true s t = refl
+    divisor-too true false s t = refl
+    divisor-too false y s t = refl
+
+    each : (b : Assignment) → let divides = eqb (rowOfAssignment b .kind) quotientKind in
+        adjointUse (sourceOf b) known ≡ cond (known .active && (eqb (rowOfAssignment b .kind) 5 || divides))
+        (cond (known .variedB) (singleSome (firstRead (sourceOf b))) empty ∪ cond (known .variedA || divides) (singleSome (secondRead (sourceOf b))) empty) empty
     each (d ≔ copy a) = never (known .active) _
     each (d ≔ fixed c) = never (known .active) _
     each (d ≔ sum a b) = never (known .active) _
     each (d ≔ difference a b) = never (known .active) _
-    each (d ≔ product a b) = always (known .active) _
+    each (d ≔ product a b) = always (known .active) (known .variedA) (singleIf (known .variedB) a) (single b)
     each (d ≔ negation a) = never (known .active) _
+    each (d ≔ quotient a b) = divisor-too (known .active) (known .variedA) (singleIf (known .variedB) a) (single b)
 
 pub required-said : {operation : MaskedAssignment} (b : Assignment) → Performs operation b → (known : Activity) (before : VariableSet)
     → requiredAfter b known before ≡ without (operation .target .0) (before ∪ adjointUse (sourceOf b) known)

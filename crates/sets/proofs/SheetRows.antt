@@ -8,7 +8,7 @@ use lib.ListN.{length}
 use Rattle.sheet.specs.inner.Words.{wordValues}
 use Rattle.sheet.specs.Bounds.{limit}
 use Rattle.sheet.specs.Tree.{Tree, done, one, fork, again, rows, flat}
-use Rattle.sheet.specs.Rows.{Assignment, _≔_, copy, fixed, sum, difference, product, negation, less, Test, SheetLine}
+use Rattle.sheet.specs.Rows.{Assignment, _≔_, copy, fixed, sum, difference, product, negation, quotient, less, Test, SheetLine}
 use Rattle.sheet.specs.Rows.{rowOfAssignment, sheetRowOf, treeRows}
 use Rattle.sheet.specs.inner.Kinds.{formFor, allForms}
 use Rattle.sheet.specs.declared.kinds.Form.{Form}
@@ -67,6 +67,7 @@ module _ (v k : ℕ) (vs : v ≤ maskBits) (ks : k ≤ maskBits) where
   assignment-small (d ≔ difference a b) h = record { d = omega (arith, h); a = omega (arith, h); b = omega (arith, h) }
   assignment-small (d ≔ product a b) h = record { d = omega (arith, h); a = omega (arith, h); b = omega (arith, h) }
   assignment-small (d ≔ negation a) h = record { d = omega (arith, h); a = omega (arith, h); b = omega arith }
+  assignment-small (d ≔ quotient a b) h = record { d = omega (arith, h); a = omega (arith, h); b = omega (arith, h) }
 
   tree-small : (t : Tree Assignment Test) (rest : List SheetLine) → Present v k t → Each SmallLine rest → Each SmallLine (flat t rest)
   unfolding flat Present sheetRowOf formFor

@@ -4,7 +4,7 @@ use mathlib.Core.Path.{_≡_, refl, ap, _∙_}
 use mathlib.Core.Bool.{Bool, true, false, not, _&&_, _||_, cond}
 use lib.Dec.{T, eqb, eqb→eq}
 use lib.Pow.{pow-pos}
-use Rattle.sheet.specs.Rows.{Assignment, _≔_, Source, copy, fixed, sum, difference, product, negation}
+use Rattle.sheet.specs.Rows.{Assignment, _≔_, Source, copy, fixed, sum, difference, product, negation, quotient}
 use Rattle.sheet.specs.Names.{SourcePresent, AssignmentPresent}
 use Rattle.sets.specs.VariableSets.{VariableSet, empty, has, _∪_, single, singleIf, without, hasSome, _⊆_}
 use Rattle.sets.specs.Transfers.{firstRead, secondRead, anyRead, reads, variedAfter, usefulBefore, Activity, adjointUse, requiredAfter}
@@ -60,6 +60,7 @@ reads-below v k (sum a b) h = pair-below v a b h
 reads-below v k (difference a b) h = pair-below v a b h
 reads-below v k (product a b) h = pair-below v a b h
 reads-below v k (negation a) h = union-below v (single a) empty (single-below v a h) (pow-pos v)
+reads-below v k (quotient a b) h = pair-below v a b h
 
 if-below : (v : ℕ) (there : Bool) (i : ℕ) → i < v → singleIf there i < 2 ^ v
 if-below v there i h = cond-below v there (single i) empty (single-below v i h) (pow-pos v)
@@ -73,6 +74,8 @@ use-below v k (difference a b) known h = pow-pos v
 use-below v k (product a b) known h =
     cond-below v (known .active) _ empty (union-below v _ _ (if-below v (known .variedB) a (h .0)) (if-below v (known .variedA) b (h .1))) (pow-pos v)
 use-below v k (negation a) known h = pow-pos v
+use-below v k (quotient a b) known h =
+    cond-below v (known .active) _ empty (union-below v _ _ (if-below v (known .variedB) a (h .0)) (single-below v b (h .1))) (pow-pos v)
 
 -- ---- the three transfers
 

@@ -8,10 +8,10 @@ use mathlib.Core.List.{List, [], _∷_}
 use mathlib.Core.Option.{Option, none, some}
 use lib.ListN.{getD}
 use lib.Bits.{bitAnd, bitOr, bitXor, differ, and-step, or-step, xor-step, and-zero-r, or-shr, xor-shr}
-use lib.Dec.{T, eqb, eqb→eq, eqb·zero-suc, eqb·suc-zero, eqb·suc-suc}
+use lib.Dec.{T, eqb, eqb-refl, eqb→eq, eqb·zero-suc, eqb·suc-zero, eqb·suc-suc}
 use lib.Arith.{bin-ind}
 use lib.Pow.{shr-shr}
-use Rattle.sets.specs.VariableSets.{VariableSet, empty, has, _∪_, single, without, places, hasSome, _⊆_}
+use Rattle.sets.specs.VariableSets.{VariableSet, empty, has, _∪_, single, singleIf, without, places, hasSome, _⊆_}
 use Rattle.sets.specs.inner.Operations.{meets}
 use Rattle.sets.proofs.Truths.{each-truth, or-left, or-right, or-least, and-left}
 
@@ -71,6 +71,10 @@ single-has (suc j) zero = let even : 2 ^ suc j % 2 ≡ 0 = omega arith in rw (ha
 single-has (suc j) (suc i) =
     let half : 2 ^ suc j / 2 ≡ 2 ^ j = omega arith in
     rw (has-suc (2 ^ suc j) i, half, eqb·suc-suc i j) (single-has j i)
+
+pub has-single-if : (there : Bool) (i : ℕ) → T there → T (has (singleIf there i) i)
+has-single-if true i h = rw (single-has i i) (eqb-refl i)
+has-single-if false i h = absurd h
 
 -- a double is 0 where its half is
 double-some : (x y : ℕ) → y ≡ x * 2 → not (eqb y 0) ≡ not (eqb x 0)

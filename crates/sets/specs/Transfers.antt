@@ -2,7 +2,7 @@
 use Prim.Native.Nat.{ℕ}
 use mathlib.Core.Bool.{Bool, _&&_, _||_, cond}
 use mathlib.Core.Option.{Option, none, some}
-use Rattle.sheet.specs.Rows.{Assignment, _≔_, Source, copy, fixed, sum, difference, product, negation}
+use Rattle.sheet.specs.Rows.{Assignment, _≔_, Source, copy, fixed, sum, difference, product, negation, quotient}
 use Rattle.sets.specs.VariableSets.{VariableSet, empty, has, _∪_, single, singleIf, without, hasSome, singleSome}
 
 -- the variables that an assignment reads: a, and b where there is one; a constant is no variable
@@ -13,6 +13,7 @@ firstRead (sum a b) = some a
 firstRead (difference a b) = some a
 firstRead (product a b) = some a
 firstRead (negation a) = some a
+firstRead (quotient a b) = some a
 
 unfoldable pub secondRead : Source → Option ℕ
 secondRead (copy a) = none
@@ -21,6 +22,7 @@ secondRead (sum a b) = some b
 secondRead (difference a b) = some b
 secondRead (product a b) = some b
 secondRead (negation a) = none
+secondRead (quotient a b) = some b
 
 unfoldable pub anyRead : VariableSet → Source → Bool
 unfolding has firstRead secondRead
@@ -56,8 +58,8 @@ activityOf (d ≔ source) varied useful =
       active = has useful d && anyRead varied source;
     }
 
--- A row's adjoint use: of an active product "b is needed only if a is varied before the row, and a only if b is" (02 §3); "every other row needs
--- nothing". Nothing else looks inside.
+-- A row's adjoint use: of an active product "b is needed only if a is varied before the row, and a only if b is" (02 §3); "An active quotient needs b
+-- always, a if b is varied; an inactive one nothing" (02 §4); "every other row needs nothing". Nothing else looks inside.
 unfoldable pub adjointUse : Source → Activity → VariableSet
 adjointUse (copy a) known = empty
 adjointUse (fixed c) known = empty
@@ -65,6 +67,7 @@ adjointUse (sum a b) known = empty
 adjointUse (difference a b) known = empty
 adjointUse (product a b) known = cond (known .active) (singleIf (known .variedB) a ∪ singleIf (known .variedA) b) empty
 adjointUse (negation a) known = empty
+adjointUse (quotient a b) known = cond (known .active) (singleIf (known .variedB) a ∪ single b) empty
 
 -- "A row is recorded if d is required before it or is in its own adjoint use."
 unfoldable pub recordedBy : Assignment → Activity → (required : VariableSet) → Bool

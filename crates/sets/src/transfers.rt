@@ -119,12 +119,16 @@ pub fn activity(row: MaskedAssignment, varied: u64, useful: u64) -> KnownActivit
     }
 }
 
-// The one place that says what a row's adjoint needs: of a product each operand whose fellow is varied, for the fellow's derivative is that operand.
+// The one place that says what a row's adjoint needs: of a product each operand whose fellow is varied, for the fellow's derivative is that operand; of a
+// quotient the same, and the divisor always.
 fn adjoint_use(row: MaskedAssignment, known: KnownActivity) -> u64
     ensures { λ r. ⌜ Gives row r (λ b. adjointUse (sourceOf b) (activityBy known)) ⌝ }
 {
-    if known.active & (row.kind == kinds::PRODUCT) {
-        masks::only_if(known.varied_b, row.first) | masks::only_if(known.varied_a, row.second)
+    let divides = row.kind == kinds::QUOTIENT;
+    let first = masks::only_if(known.varied_b, row.first);
+    let second = masks::only_if(known.varied_a | divides, row.second);
+    if known.active & ((row.kind == kinds::PRODUCT) | divides) {
+        first | second
     } else {
         0
     }

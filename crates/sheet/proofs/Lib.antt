@@ -9,6 +9,7 @@ pub mod Settled
 pub mod ReadingParts
 pub mod LinesTaken
 pub mod TreeOfRows
+pub mod Feasibility
 pub mod NamesPresent
 pub mod Depth
 -- the laws that the reader's functions are proved by

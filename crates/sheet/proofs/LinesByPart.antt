@@ -1,7 +1,7 @@
 -- What a row is to the blocks, by the table of kinds, is what its line is to them.
 use mathlib.Core.Path.{_≡_, refl, ap, _∙_, sym}
 use Rattle.sheet.specs.Tree.{basic, ifLine, elseLine, endIf, repeat, endRepeat}
-use Rattle.sheet.specs.Rows.{_≔_, copy, fixed, sum, difference, product, negation, less, SheetLine, Row, sheetRowOf}
+use Rattle.sheet.specs.Rows.{_≔_, copy, fixed, sum, difference, product, negation, quotient, less, SheetLine, Row, sheetRowOf}
 use Rattle.sheet.specs.inner.Kinds.{partOf, formFor, partFor}
 use Rattle.sheet.specs.inner.RowLines.{lineOfRow, SaysLine}
 
@@ -13,6 +13,7 @@ line-part (basic (d ≔ sum a b)) = refl
 line-part (basic (d ≔ difference a b)) = refl
 line-part (basic (d ≔ product a b)) = refl
 line-part (basic (d ≔ negation a)) = refl
+line-part (basic (d ≔ quotient a b)) = refl
 line-part (ifLine (less a b)) = refl
 line-part elseLine = refl
 line-part endIf = refl

@@ -17,7 +17,7 @@ use Rattle.sheet.specs.Rows.{Assignment, Test, SheetLine, Row, variable,
 use Rattle.sheet.specs.Names.{SourcePresent, AssignmentPresent, TestPresent, Present}
 use Rattle.sheet.specs.Sheets.{Sheet}
 use Rattle.sheet.proofs.Judgements.{leb-tells, ltb-tells}
-use Rattle.sheet.proofs.EachKind.{each-kind, _then_, end}
+use Rattle.sheet.proofs.EachKind.{each-kind, _then_, gap, end}
 use Rattle.sheet.proofs.ReadingParts.{not-given, bound, passed, same-given, ReadParts, accepted}
 use Rattle.sheet.proofs.LinesTaken.{Takes, adds, opensIf, splits, endsIf, opensRepeat, endsRepeat, takes}
 use Rattle.sheet.proofs.RowsBack.{both, each-fits}
@@ -90,7 +90,9 @@ module _ (v k : ℕ) where
       then (λ p q r. tt)
       then (λ p q r. tt)
       then (λ p q r. tt)
-      then end)
+      then gap (gap (gap (gap (gap (gap
+      ((λ p q r. (variable-there d p, (variable-there a q, variable-there b r)))
+      then end)))))))
 
   line-by-present : (r : Row) (place : ℕ) (l : SheetLine) (o : Option Kind) → Names o (r .d) (r .a) (r .b)
       → lineBy v k o r place ≡ given l → LinePresent l

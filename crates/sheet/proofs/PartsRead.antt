@@ -4,7 +4,7 @@ use mathlib.Core.Path.{_≡_, refl, sym, ap, _∙_}
 use mathlib.Core.Bool.{Bool, true, false}
 use mathlib.Core.List.{List, [], _∷_, map}
 use mathlib.Core.Option.{Option, none, some}
-use lib.ListN.{length, length-set, getD, getElem?, set}
+use lib.ListN.{length, length-set, getD, set}
 use lib.Seq.{getD-set-same, getD-set-other}
 use lib.Dec.{leb, ltb}
 use native.Mathlib.Omega.{arith}
@@ -17,23 +17,23 @@ use Rattle.sheet.specs.Tree.{basic, ifLine, elseLine, endIf, repeat, end
 use Rattle.sheet.specs.Reading.{fits, wordsFit, lineBy, lineOf}
 use Rattle.sheet.specs.Rows.{Slot, variable, constant, turns, unused, SheetLine, Row, Kind, kinds, kindOf}
 use Rattle.sheet.specs.inner.Kinds.{slotOf, partOf, formOf, formBy, formFor, noForm, allForms, partFor}
-use Rattle.sheet.specs.inner.Steps.{leastOf, beyondOf, ruleOf, noRule, ruleBy, RulesFor, inRange, fitsRule, fitsKind, rowFits, stepOf}
+use Rattle.sheet.specs.inner.Steps.{leastOf, beyondOf, ruleOf, noRule, RulesFor, inRange, fitsRule, fitsKind, rowFits, stepOf}
 use Rattle.sheet.specs.declared.kinds.Form.{Form}
 use Rattle.sheet.specs.declared.Rule.{Rule}
 use Rattle.sheet.specs.declared.Level.{Level}
 use Rattle.sheet.specs.declared.kinds.Slot.the-variants as slot
 use Rattle.sheet.specs.declared.kinds.Part.the-variants as part
-use Rattle.sheet.proofs.EachKind.{each-kind, _then_, end}
+use Rattle.sheet.proofs.EachKind.{each-kind, _then_, gap, end}
 use Rattle.sheet.proofs.RowsBack.{each-fits, turns-above-0}
 
 -- ---- the look-up
 
-in-table : (table : List Kind) (i : ℕ) (other : Form) → i < length table → getD (map formOf table) i other ≡ formBy (getElem? table i)
+in-table : (table : List (Option Kind)) (i : ℕ) (other : Form) → i < length table → getD (map formBy table) i other ≡ formBy (getD table i none)
 in-table [] i other l = absurd (omega arith)
 in-table (kind ∷ table) zero other l = refl
 in-table (kind ∷ table) (suc i) other l = in-table table i other (omega arith)
 
-beyond-table : (table : List Kind) (i : ℕ) → length table ≤ i → getElem? table i ≡ none
+beyond-table : (table : List (Option Kind)) (i : ℕ) → length table ≤ i → getD table i none ≡ none
 beyond-table [] i l = refl
 beyond-table (kind ∷ table) zero l = absurd (omega arith)
 beyond-table (kind ∷ table) (suc i) l = beyond-table table i (omega arith)
@@ -62,20 +62,6 @@ formIn forms kind = getD forms kind (record { 0 = slot.Variable; 1 = slot.Variab
 -- what the table has for a row's kind says what the row is to the blocks
 pub part-there : {forms : List Form} {n kind : ℕ} → forms ≡ allForms → n ≡ kind → kind ≤ length kinds → formIn forms n .3 ≡ partFor kind
 part-there table is inTable = ap (λ form. form .3) (form-there _ _ _ table (rw is inTable)) ∙ ap partFor is
-
-record There (n : ℕ) : Type 0 where
-  kind : Kind
-  is : kindOf n ≡ some kind
-
-kind-there : (n : ℕ) → 1 ≤ n → n ≤ length kinds → There n
-unfolding kindOf
-kind-there zero l m = absurd (omega arith)
-kind-there (suc i) l m = by kinds i (omega arith) refl
-  where
-    by : (table : List Kind) (j : ℕ) → j < length table → getElem? kinds i ≡ getElem? table j → There (suc i)
-    by [] j l e = absurd (omega arith)
-    by (kind ∷ table) zero l e = record { kind = kind; is = e }
-    by (kind ∷ table) (suc j) l e = by table j (omega arith) e
 
 -- ---- the rules
 
@@ -108,9 +94,9 @@ module _ (v k : ℕ) where
     none-fits : fitsRule noRule r ≡ false
     none-fits = rw (le-leb 0 (r .d) (omega arith), le-ltb (r .d) 0 (omega arith))
 
-    rule-fits : (n : ℕ) → fitsRule (ruleBy v k (kindOf n)) r ≡ fitsKind v k (kindOf n) r
+    rule-fits : (n : ℕ) → fitsRule (ruleOf v k (formBy (kindOf n))) r ≡ fitsKind v k (kindOf n) r
     rule-fits =
-        each-kind (λ n o. fitsRule (ruleBy v k o) r ≡ fitsKind v k o r) (λ n. none-fits)
+        each-kind (λ n o. fitsRule (ruleOf v k (formBy o)) r ≡ fitsKind v k o r) (λ n. none-fits)
         (kind-fits _ refl
         then kind-fits _ refl
         then kind-fits _ refl
@@ -122,7 +108,9 @@ module _ (v k : ℕ) where
         then kind-fits _ refl
         then kind-fits _ refl
         then kind-fits _ refl
-        then end)
+        then gap (gap (gap (gap (gap (gap
+        (kind-fits _ refl
+        then end)))))))
 
     pub above-all-kinds : length kinds < r .kind → rowFits v k r ≡ false
     unfolding rowFits
@@ -131,46 +119,37 @@ module _ (v k : ℕ) where
     -- by the rule that was looked up
     module _ (rules : List Rule) (made : RulesFor v k rules) (kind : ℕ) (is : kind ≡ r .kind) (within : kind ≤ length kinds) where
       pub fits-by-rule : fitsRule (getD rules kind noRule) r ≡ rowFits v k r
-      unfolding rowFits
+      unfolding rowFits formFor
       fits-by-rule = rw (made kind within, is) (rule-fits (r .kind))
 
       pub part-by-rule : getD rules kind noRule .part ≡ partFor (r .kind)
-      unfolding formFor
-      part-by-rule = rw (made kind within, is) (by (kindOf (r .kind)))
-        where
-          by : (o : Option Kind) → ruleBy v k o .part ≡ formBy o .3
-          by none = refl
-          by (some kind) = refl
+      part-by-rule = rw (made kind within, is)
 
 -- the rules as far as they are made
 pub record Made (v k : ℕ) (rules : List Rule) (kind : ℕ) : Type 0 where
   pub room : length rules ≡ suc (length kinds)
-  pub upTo : (n : ℕ) → n < kind → getD rules n noRule ≡ ruleBy v k (kindOf n)
-  pub some-made : 1 ≤ kind
+  pub upTo : (n : ℕ) → n < kind → getD rules n noRule ≡ ruleOf v k (formFor n)
 
 pub made-starts : (v k : ℕ) (rules : List Rule) → length rules ≡ suc (length kinds) → getD rules 0 noRule ≡ noRule → Made v k rules 1
-unfolding kindOf
-made-starts v k rules room first = record { room = room; upTo = by; some-made = omega arith }
+unfolding formFor kindOf
+made-starts v k rules room first = record { room = room; upTo = by }
   where
-    by : (n : ℕ) → n < 1 → getD rules n noRule ≡ ruleBy v k (kindOf n)
+    by : (n : ℕ) → n < 1 → getD rules n noRule ≡ ruleOf v k (formFor n)
     by zero l = first
     by (suc n) l = absurd (omega arith)
 
 pub made-on : {v k : ℕ} {rules : List Rule} {kind : ℕ} → Made v k rules kind → (rule : Rule) → kind ≤ length kinds
     → rule ≡ ruleOf v k (formFor kind) → Made v k (set rules kind rule) (kind + 1)
-unfolding formFor
 made-on {v} {k} {rules} {kind} made rule l e =
     record {
       room = simp length-set (made .room);
       upTo = λ n below-next. by n (decLe kind n) below-next;
-      some-made = omega arith;
     }
   where
-    by : (n : ℕ) → Dec (kind ≤ n) → n < kind + 1 → getD (set rules kind rule) n noRule ≡ ruleBy v k (kindOf n)
+    by : (n : ℕ) → Dec (kind ≤ n) → n < kind + 1 → getD (set rules kind rule) n noRule ≡ ruleOf v k (formFor n)
     by n (yes h) m =
         let same : n ≡ kind = omega arith in
-        let there = kind-there kind (made .some-made) l in
-        rw same (getD-set-same rules kind rule noRule (omega (arith, made .room)) ∙ e ∙ rw (there .is))
+        rw same (getD-set-same rules kind rule noRule (omega (arith, made .room)) ∙ e)
     by n (no h) m = getD-set-other rules kind n rule noRule (λ e. omega arith) ∙ made .upTo n (omega arith)
 
 -- ---- as the blocks see it
@@ -228,7 +207,9 @@ module _ (v k place d a b : ℕ) where
       then seen 9 _ (λ fit depth inner outer. refl)
       then seen 10 _ (λ fit depth inner outer. ap (λ m. stepOf part.Repeat m depth inner outer) (sym (turns-above-0 v k a (each-fits v k _ _ fit .1))))
       then seen 11 _ (λ fit depth inner outer. refl)
-      then end)
+      then gap (gap (gap (gap (gap (gap
+      (seen 18 _ (λ fit depth inner outer. refl)
+      then end)))))))
 
 pub row-judged : (v k place : ℕ) (r : Row) → Judged place r (rowFits v k r) (lineOf v k r place)
 unfolding lineOf rowFits

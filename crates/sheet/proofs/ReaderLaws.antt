@@ -10,7 +10,7 @@ use Rattle.sheet.specs.Bounds.{limit}
 use Rattle.sheet.specs.Judging.{Answer, refused, given, _>>=_}
 use Rattle.sheet.specs.Refusals.{Refusal}
 use Rattle.sheet.specs.Refusals.{wordsEnd, wordsLeft, countBeyond, roleAbove, badRow, badBlock, tooLong, smallTable}
-use Rattle.sheet.specs.Refusals.{smallValueStack, smallTurnStack, wrongStarts, wrongSeeds, wrongResult, notFiniteGiven, notFiniteResult}
+use Rattle.sheet.specs.Refusals.{smallValueStack, smallTurnStack, wrongStarts, wrongSeeds, wrongResult, notFiniteGiven, notFiniteResult, holdsQuotient}
 use Rattle.sheet.specs.Tree.{flat, rows, longestRun}
 use Rattle.sheet.specs.Rows.{sheetRowOf, treeRows}
 use Rattle.sheet.specs.Names.{Present}
@@ -18,7 +18,7 @@ use Rattle.sheet.specs.Sheets.{Sheet}
 use Rattle.sheet.specs.Reading.{read}
 use Rattle.sheet.specs.Answers.{refusalOf, said, shapeOf, shapeRead}
 use Rattle.sheet.specs.declared.No.{No}
-use Rattle.sheet.specs.declared.No.the-variants.{WordsEnd, WordsLeft, CountBeyond, RoleAbove, BadRow, BadBlock, TooLong}
+use Rattle.sheet.specs.declared.No.the-variants.{WordsEnd, WordsLeft, CountBeyond, RoleAbove, BadRow, BadBlock, TooLong, HoldsQuotient}
 use Rattle.sheet.specs.declared.Shape.{Shape}
 use Rattle.sheet.specs.declared.Reading.{Reading}
 use Rattle.sheet.specs.declared.Reading.the-variants as reading
@@ -46,6 +46,7 @@ noOf wrongSeeds = none
 noOf wrongResult = none
 noOf (notFiniteGiven place) = none
 noOf (notFiniteResult place) = none
+noOf (holdsQuotient place) = some (HoldsQuotient place)
 
 no-back : (why : No) → noOf (refusalOf why) ≡ some why
 unfolding noOf
@@ -56,6 +57,7 @@ no-back (RoleAbove place) = refl
 no-back (BadRow place) = refl
 no-back (BadBlock place) = refl
 no-back TooLong = refl
+no-back (HoldsQuotient place) = refl
 
 same-no : (why why′ : No) → refusalOf why ≡ refusalOf why′ → why ≡ why′
 same-no why why′ e = cc (no-back why, no-back why′, ap noOf e)

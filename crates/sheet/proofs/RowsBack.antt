@@ -7,12 +7,12 @@ use mathlib.Core.Option.{Option, none, some}
 use lib.Dec.{leb}
 use native.Mathlib.Omega.{arith}
 use Rattle.sheet.specs.Tree.{basic, ifLine, elseLine, endIf, repeat, endRepeat}
-use Rattle.sheet.specs.Rows.{_≔_, copy, fixed, sum, difference, product, negation, less, SheetLine, sheetRowOf}
+use Rattle.sheet.specs.Rows.{_≔_, copy, fixed, sum, difference, product, negation, quotient, less, SheetLine, sheetRowOf}
 use Rattle.sheet.specs.inner.RowLines.{lineOfRow}
 use Rattle.sheet.specs.Reading.{fits, wordsFit}
 use Rattle.sheet.specs.Rows.{Row, turns, unused, Kind, kindOf}
 use Rattle.sheet.proofs.Judgements.{leb-tells, eqb-tells}
-use Rattle.sheet.proofs.EachKind.{each-kind, _then_, end}
+use Rattle.sheet.proofs.EachKind.{each-kind, _then_, gap, end}
 
 -- ---- from a line to its row and back
 
@@ -25,6 +25,7 @@ line-back (basic (d ≔ sum a b)) = refl
 line-back (basic (d ≔ difference a b)) = refl
 line-back (basic (d ≔ product a b)) = refl
 line-back (basic (d ≔ negation a)) = refl
+line-back (basic (d ≔ quotient a b)) = refl
 line-back (ifLine (less a b)) = refl
 line-back elseLine = refl
 line-back endIf = refl
@@ -95,7 +96,9 @@ module _ (v k d a b : ℕ) where
       then fitting 9 refl (λ p q r. rw (unused-is-0 v k d p, unused-is-0 v k a q, unused-is-0 v k b r))
       then fitting 10 refl (λ p q r. rw (unused-is-0 v k d p, turns-above-0 v k a q, unused-is-0 v k b r))
       then fitting 11 refl (λ p q r. rw (unused-is-0 v k d p, unused-is-0 v k a q, unused-is-0 v k b r))
-      then end)
+      then gap (gap (gap (gap (gap (gap
+      (fitting 18 refl (λ p q r. refl)
+      then end)))))))
 
 pub row-back : (v k : ℕ) (r : Row) (kind : Kind) → kindOf (r .kind) ≡ some kind → wordsFit v k kind r ≡ true
     → sheetRowOf (kind .means (r .d) (r .a) (r .b)) ≡ r

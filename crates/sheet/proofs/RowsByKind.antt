@@ -4,7 +4,7 @@ use mathlib.Core.Path.{subst}
 use lib.ListN.{length}
 use native.Mathlib.Omega.{arith}
 use Rattle.sheet.specs.Tree.{basic, ifLine, elseLine, endIf, repeat, endRepeat}
-use Rattle.sheet.specs.Rows.{_≔_, copy, fixed, sum, difference, product, negation, less, SheetLine, Row, sheetRowOf, kinds}
+use Rattle.sheet.specs.Rows.{_≔_, copy, fixed, sum, difference, product, negation, quotient, less, SheetLine, Row, sheetRowOf, kinds}
 use Rattle.sheet.specs.inner.RowLines.{lineOfRow, SaysLine}
 
 line-kind : (l : SheetLine) → sheetRowOf l .kind ≤ length kinds
@@ -15,6 +15,7 @@ line-kind (basic (d ≔ sum a b)) = omega arith
 line-kind (basic (d ≔ difference a b)) = omega arith
 line-kind (basic (d ≔ product a b)) = omega arith
 line-kind (basic (d ≔ negation a)) = omega arith
+line-kind (basic (d ≔ quotient a b)) = omega arith
 line-kind (ifLine (less a b)) = omega arith
 line-kind elseLine = omega arith
 line-kind endIf = omega arith

@@ -3,13 +3,13 @@ use Prim.Native.Nat.{ℕ, _+_}
 use mathlib.Core.List.{List}
 use lib.ListN.{length}
 use Rattle.sheet.specs.Judging.{Answer, refused, given, _>>=_}
-use Rattle.sheet.specs.Refusals.{Refusal, wordsEnd, wordsLeft, countBeyond, roleAbove, badRow, badBlock, tooLong}
+use Rattle.sheet.specs.Refusals.{Refusal, wordsEnd, wordsLeft, countBeyond, roleAbove, badRow, badBlock, tooLong, holdsQuotient}
 use Rattle.sheet.specs.Rows.{Row}
 use Rattle.sheet.specs.Tree.{longestRun}
-use Rattle.sheet.specs.Sheets.{Sheet}
+use Rattle.sheet.specs.Sheets.{Sheet, firstRow}
 use Rattle.sheet.specs.Reading.{read}
 use Rattle.sheet.specs.declared.No.{No}
-use Rattle.sheet.specs.declared.No.the-variants.{WordsEnd, WordsLeft, CountBeyond, RoleAbove, BadRow, BadBlock, TooLong}
+use Rattle.sheet.specs.declared.No.the-variants.{WordsEnd, WordsLeft, CountBeyond, RoleAbove, BadRow, BadBlock, TooLong, HoldsQuotient}
 use Rattle.sheet.specs.declared.Shape.{Shape}
 use Rattle.sheet.specs.declared.RowWords.{RowWords}
 use Rattle.sheet.specs.declared.Reading.{Reading}
@@ -23,6 +23,7 @@ refusalOf (RoleAbove place) = roleAbove place
 refusalOf (BadRow place) = badRow place
 refusalOf (BadBlock place) = badBlock place
 refusalOf TooLong = tooLong
+refusalOf (HoldsQuotient place) = holdsQuotient place
 
 abbrev pub said : Reading → Answer Shape
 said (reading.Refused why) = refused (refusalOf why)
@@ -37,7 +38,7 @@ shapeOf sheet =
       constants = length (sheet .constants);
       rows = length (sheet .rows);
       «first_constant» = 2 + length (sheet .roles);
-      «first_row» = 3 + length (sheet .roles) + length (sheet .constants);
+      «first_row» = firstRow sheet;
       longest = longestRun (sheet .body);
     }
 

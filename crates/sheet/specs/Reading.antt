@@ -1,15 +1,15 @@
--- Reading words left to right: the sheet that they are, or refusals 1 to 7, each at its place.
+-- Reading words left to right: the sheet that they are, or refusals 1 to 7, each at its place; and 13, in audit.
 use Prim.Native.Nat.{ℕ, suc, _+_, _*_}
-use mathlib.Core.Bool.{Bool, _&&_}
+use mathlib.Core.Bool.{Bool, true, false, not, _&&_}
 use mathlib.Core.List.{List, [], _∷_}
 use mathlib.Core.Option.{Option, none, some}
 use lib.ListN.{length, getD, take, drop}
 use lib.Dec.{leb, ltb, eqb}
 use Rattle.sheet.specs.Bounds.{limit}
-use Rattle.sheet.specs.Refusals.{wordsEnd, wordsLeft, countBeyond, roleAbove, badRow, badBlock, tooLong}
+use Rattle.sheet.specs.Refusals.{wordsEnd, wordsLeft, countBeyond, roleAbove, badRow, badBlock, tooLong, holdsQuotient}
 use Rattle.sheet.specs.Tree.{Tree, done, one, fork, again, basic, ifLine, elseLine, endIf, repeat, endRepeat, longestRun}
-use Rattle.sheet.specs.Rows.{Assignment, Test, SheetLine, Row, Slot, variable, constant, turns, unused, Kind, kindOf}
-use Rattle.sheet.specs.Sheets.{Sheet, rowsAt}
+use Rattle.sheet.specs.Rows.{Assignment, Test, SheetLine, Row, Slot, variable, constant, turns, unused, Kind, kindOf, quotientKind}
+use Rattle.sheet.specs.Sheets.{Sheet, firstRow, rowsAt}
 use Rattle.sheet.specs.Judging.{Answer, refused, given, _>>=_, unless}
 
 -- ---- counts and sections
@@ -66,7 +66,7 @@ unfoldable pub wordsFit : (variables constants : ℕ) → Kind → Row → Bool
 unfolding fits
 wordsFit v k kind r = fits v k (kind .d) (r .d) && fits v k (kind .a) (r .a) && fits v k (kind .b) (r .b)
 
--- "kind not 1 to 11", or a word that doesn't fit its slot: 5
+-- "kind not 1 to 11", nor 18, or a word that doesn't fit its slot: 5
 unfoldable pub lineBy : (variables constants : ℕ) → Option Kind → Row → (place : ℕ) → Answer SheetLine
 unfolding wordsFit
 lineBy v k none r place = refused (badRow place)
@@ -143,3 +143,21 @@ read words = do
   _ ← unless (leb (length words) afterRows) (wordsLeft afterRows)
   _ ← unless (leb (longestRun body) (limit .longestRun)) tooLong
   given (record { roles = roles; constants = take k (drop (suc constantCount) words); rows = rows; body = body })
+
+-- ---- for an arithmetic without quotients (02 §4)
+
+-- "Audit refuses a sheet that holds kind 18 with a new 13, place the first such row's first word": rows whose first stands at this place
+unfoldable pub undivided : List Row → (place : ℕ) → Answer (Unit {0})
+undivided [] place = given tt
+undivided (r ∷ rs) place = do
+  _ ← unless (not (eqb (r .kind) quotientKind)) (holdsQuotient place)
+  undivided rs (place + limit .rowWords)
+
+-- "after 7 and before 8"
+unfoldable pub readIn : (divides : Bool) → List ℕ → Answer Sheet
+unfolding read undivided
+readIn true words = read words
+readIn false words = do
+  sheet ← read words
+  _ ← undivided (sheet .rows) (firstRow sheet)
+  given sheet

@@ -10,7 +10,7 @@ pub data Refusal : Type 0 where
   countBeyond : ℕ → Refusal
   -- role above 3
   roleAbove : ℕ → Refusal
-  -- kind not 1 to 11, absent variable or constant, repeat count not 1 to 1000, unused word not 0
+  -- kind not 1 to 11 and not 18, absent variable or constant, repeat count not 1 to 1000, unused word not 0
   badRow : ℕ → Refusal
   -- a block closed or split wrongly, never closed, or a ninth level opened
   badBlock : ℕ → Refusal
@@ -29,6 +29,8 @@ pub data Refusal : Type 0 where
   notFiniteGiven : ℕ → Refusal
   -- a result not finite (doubles)
   notFiniteResult : ℕ → Refusal
+  -- a row of kind 18 (audit; 02 §4)
+  holdsQuotient : ℕ → Refusal
 
 unfoldable pub numberOf : Refusal → ℕ
 numberOf (wordsEnd p) = 1
@@ -46,6 +48,7 @@ numberOf wrongSeeds = 10
 numberOf wrongResult = 10
 numberOf (notFiniteGiven p) = 11
 numberOf (notFiniteResult p) = 12
+numberOf (holdsQuotient p) = 13
 
 unfoldable pub placeOf : Refusal → ℕ
 placeOf (wordsEnd p) = p
@@ -63,3 +66,4 @@ placeOf wrongSeeds = 1
 placeOf wrongResult = 2
 placeOf (notFiniteGiven p) = p
 placeOf (notFiniteResult p) = p
+placeOf (holdsQuotient p) = p

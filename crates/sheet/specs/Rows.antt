@@ -2,8 +2,8 @@
 use Prim.Native.Nat.{ℕ, zero, suc, pred}
 use mathlib.Core.Bool.{Bool, _||_}
 use mathlib.Core.List.{List, [], _∷_, map}
-use mathlib.Core.Option.{Option, none}
-use lib.ListN.{getElem?}
+use mathlib.Core.Option.{Option, none, some}
+use lib.ListN.{getD}
 use lib.Dec.{eqb}
 use Rattle.sheet.specs.Tree.{Tree, flat, Line, basic, ifLine, elseLine, endIf, repeat, endRepeat}
 
@@ -22,6 +22,7 @@ pub data Source : Type 0 where
   difference : ℕ → ℕ → Source
   product : ℕ → ℕ → Source
   negation : ℕ → Source
+  quotient : ℕ → ℕ → Source
 
 infix 20 _≔_
 pub data Assignment : Type 0 where
@@ -57,25 +58,37 @@ pub record Kind : Type 0 where
   pub b : Slot
   pub means : (d a b : ℕ) → SheetLine
 
--- 01's table of kinds, from kind 1 on. "One fixed table says for each kind which of its three words name a variable."
-abbrev pub kinds : List Kind
+-- kind 18, "d := a / b, in doubles" (02 §4)
+abbrev pub quotientKind : ℕ
+quotientKind = 18
+
+-- 01's table of kinds, from kind 1 on, with 02's. "One fixed table says for each kind which of its three words name a variable." Kinds 12 to 17 are
+-- a table's own, and no sheet's.
+abbrev pub kinds : List (Option Kind)
 kinds =
-    record { d = variable; a = variable; b = unused; means = λ d a b. basic (d ≔ copy a) }
-    ∷ record { d = variable; a = constant; b = unused; means = λ d a b. basic (d ≔ fixed a) }
-    ∷ record { d = variable; a = variable; b = variable; means = λ d a b. basic (d ≔ sum a b) }
-    ∷ record { d = variable; a = variable; b = variable; means = λ d a b. basic (d ≔ difference a b) }
-    ∷ record { d = variable; a = variable; b = variable; means = λ d a b. basic (d ≔ product a b) }
-    ∷ record { d = variable; a = variable; b = unused; means = λ d a b. basic (d ≔ negation a) }
-    ∷ record { d = unused; a = variable; b = variable; means = λ d a b. ifLine (less a b) }
-    ∷ record { d = unused; a = unused; b = unused; means = λ d a b. elseLine }
-    ∷ record { d = unused; a = unused; b = unused; means = λ d a b. endIf }
-    ∷ record { d = unused; a = turns; b = unused; means = λ d a b. repeat (pred a) }
-    ∷ record { d = unused; a = unused; b = unused; means = λ d a b. endRepeat }
+    some (record { d = variable; a = variable; b = unused; means = λ d a b. basic (d ≔ copy a) })
+    ∷ some (record { d = variable; a = constant; b = unused; means = λ d a b. basic (d ≔ fixed a) })
+    ∷ some (record { d = variable; a = variable; b = variable; means = λ d a b. basic (d ≔ sum a b) })
+    ∷ some (record { d = variable; a = variable; b = variable; means = λ d a b. basic (d ≔ difference a b) })
+    ∷ some (record { d = variable; a = variable; b = variable; means = λ d a b. basic (d ≔ product a b) })
+    ∷ some (record { d = variable; a = variable; b = unused; means = λ d a b. basic (d ≔ negation a) })
+    ∷ some (record { d = unused; a = variable; b = variable; means = λ d a b. ifLine (less a b) })
+    ∷ some (record { d = unused; a = unused; b = unused; means = λ d a b. elseLine })
+    ∷ some (record { d = unused; a = unused; b = unused; means = λ d a b. endIf })
+    ∷ some (record { d = unused; a = turns; b = unused; means = λ d a b. repeat (pred a) })
+    ∷ some (record { d = unused; a = unused; b = unused; means = λ d a b. endRepeat })
+    ∷ none
+    ∷ none
+    ∷ none
+    ∷ none
+    ∷ none
+    ∷ none
+    ∷ some (record { d = variable; a = variable; b = variable; means = λ d a b. basic (d ≔ quotient a b) })
     ∷ []
 
 unfoldable pub kindOf : ℕ → Option Kind
 kindOf zero = none
-kindOf (suc n) = getElem? kinds n
+kindOf (suc n) = getD kinds n none
 
 -- the row that says a line: an adjoint table's rows begin as a sheet's do, so both are written through these
 unfoldable pub rowOfAssignment : Assignment → Row
@@ -85,6 +98,7 @@ rowOfAssignment (d ≔ sum a b) = record { kind = 3; d = d; a = a; b = b }
 rowOfAssignment (d ≔ difference a b) = record { kind = 4; d = d; a = a; b = b }
 rowOfAssignment (d ≔ product a b) = record { kind = 5; d = d; a = a; b = b }
 rowOfAssignment (d ≔ negation a) = record { kind = 6; d = d; a = a; b = 0 }
+rowOfAssignment (d ≔ quotient a b) = record { kind = quotientKind; d = d; a = a; b = b }
 
 unfoldable pub rowOfTest : Test → Row
 rowOfTest (less a b) = record { kind = 7; d = 0; a = a; b = b }

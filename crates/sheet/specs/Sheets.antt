@@ -16,6 +16,10 @@ pub record Sheet : Type 0 where
 abbrev pub variablesOf : Sheet → ℕ
 variablesOf sheet = length (sheet .roles)
 
+-- where its rows start: after V stand the roles, then K and the constants, then N
+abbrev pub firstRow : Sheet → ℕ
+firstRow sheet = 3 + length (sheet .roles) + length (sheet .constants)
+
 unfoldable pub rowAt : List ℕ → ℕ → Row
 rowAt words place =
     record { kind = getD words place 0; d = getD words (place + 1) 0; a = getD words (place + 2) 0; b = getD words (place + 3) 0 }

@@ -25,8 +25,11 @@ pub const REPEAT: u16 = 10;
 
 pub const END_REPEAT: u16 = 11;
 
-// They are 1 to 11: as many as `kinds` in specs/Rows.antt has.
-pub const LAST: usize = 11;
+// 12 to 17 are a table's own (crate table).
+pub const QUOTIENT: u16 = 18;
+
+// As many numbers as `kinds` in specs/Rows.antt has.
+pub const LAST: usize = 18;
 
 // What a word of a row may be.
 pub enum Slot {
@@ -34,6 +37,7 @@ pub enum Slot {
     Constant,
     Turns,
     Unused,
+    Nothing,
 }
 
 // What a row is to the blocks.
@@ -49,8 +53,13 @@ pub enum Part {
 // What the three words after the kind are, d, a and b, and what the row is to the blocks.
 pub struct Form(pub Slot, pub Slot, pub Slot, pub Part);
 
-// What a number that is no kind's is taken for: its words name nothing, and it opens and closes no block.
-const NO_FORM: Form = Form(Slot::Unused, Slot::Unused, Slot::Unused, Part::Assignment);
+// What a number that is no kind's is taken for: no word fits it, its words name nothing, and it opens and closes no block.
+const NO_FORM: Form = Form(
+    Slot::Nothing,
+    Slot::Nothing,
+    Slot::Nothing,
+    Part::Assignment,
+);
 
 // One fixed table, for every layer: for each kind, in its own place, which of its three words name a variable, what the others are, and what its
 // rows are to the blocks.
@@ -97,6 +106,18 @@ const FORMS: [Form; LAST + 1] = [
     Form(Slot::Unused, Slot::Unused, Slot::Unused, Part::EndIf),
     Form(Slot::Unused, Slot::Turns, Slot::Unused, Part::Repeat),
     Form(Slot::Unused, Slot::Unused, Slot::Unused, Part::EndRepeat),
+    NO_FORM,
+    NO_FORM,
+    NO_FORM,
+    NO_FORM,
+    NO_FORM,
+    NO_FORM,
+    Form(
+        Slot::Variable,
+        Slot::Variable,
+        Slot::Variable,
+        Part::Assignment,
+    ),
 ];
 
 // The table, to be taken once a pass: a constant array that a loop looks up is made anew at each turn.
@@ -126,6 +147,7 @@ pub fn names_variable(slot: Slot) -> bool
         Slot::Constant => false,
         Slot::Turns => false,
         Slot::Unused => false,
+        Slot::Nothing => false,
     }
 }
 

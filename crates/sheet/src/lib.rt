@@ -40,7 +40,7 @@ pub struct Variable(pub usize);
 
 pub struct RowNumber(pub usize);
 
-// Refusals 1 to 7 with their places; 7 has place 0.
+// Refusals 1 to 7 with their places, 7 at place 0; and 13, which the reader itself never gives.
 pub enum No {
     WordsEnd(usize),
     WordsLeft(usize),
@@ -49,6 +49,7 @@ pub enum No {
     BadRow(usize),
     BadBlock(usize),
     TooLong,
+    HoldsQuotient(usize),
 }
 
 // An accepted sheet: V, K, N, where the constants and the rows start (the roles start at word 1), and W.
@@ -211,6 +212,7 @@ pub fn number_of(why: No) -> u16
         No::BadRow(_) => 5,
         No::BadBlock(_) => 6,
         No::TooLong => 7,
+        No::HoldsQuotient(_) => 13,
     }
 }
 
@@ -225,6 +227,7 @@ pub fn place_of(why: No) -> usize
         No::BadRow(place) => place,
         No::BadBlock(place) => place,
         No::TooLong => 0,
+        No::HoldsQuotient(place) => place,
     }
 }
 

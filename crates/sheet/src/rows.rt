@@ -19,6 +19,7 @@ fn least(slot: Slot) -> u16
         Slot::Constant => 0,
         Slot::Turns => 1,
         Slot::Unused => 0,
+        Slot::Nothing => 0,
     }
 }
 
@@ -31,6 +32,7 @@ fn beyond(slot: Slot, variables: u16, constants: u16) -> u16
         Slot::Constant => constants,
         Slot::Turns => (MAX_TURNS + 1) as u16,
         Slot::Unused => 1,
+        Slot::Nothing => 0,
     }
 }
 
@@ -56,7 +58,7 @@ fn rule_of(form: Form, variables: u16, constants: u16) -> Rule
     }
 }
 
-// No row is of kind 0.
+// No row fits a number that is no kind's.
 const NO_RULE: Rule = Rule {
     least_d: 0,
     d: 0,

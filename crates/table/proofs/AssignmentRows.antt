@@ -6,11 +6,11 @@ use mathlib.Core.List.{List, [], _∷_, _++_, append-assoc}
 use native.Mathlib.Decide.{ℕ-discrete}
 use native.Mathlib.Omega.{arith}
 use Rattle.sheet.specs.Tree.{flat, done, RowNumber}
-use Rattle.sheet.specs.Rows.{Row, kindOf, rowOf, rowOfAssignment}
+use Rattle.sheet.specs.Rows.{Row, kindOf, rowOf, rowOfAssignment, quotientKind}
 use Rattle.sheet.specs.inner.RowLines.{lineOfRow}
 use Rattle.table.specs.TableRows.{t, Table, Action, Operation, linesOf, tableRowOf, rowOfAction}
 use Rattle.table.specs.Adjoint.{put, putIf, partsOf, derivativeRows, backwardOf}
-use Rattle.table.specs.inner.MarkedRows.{rowWith, rowIf, rowsIn, knownBy, savedBy, anyRow, sourceOf, scaledRows, partRows, derivativesOf, assignmentBack}
+use Rattle.table.specs.inner.MarkedRows.{rowWith, rowIf, rowsIn, knownBy, savedBy, anyRow, sourceOf, scaledRows, dividedRows, partRows, derivativesOf, assignmentBack}
 
 pub rows-of-put : (row : RowNumber) (operation : Operation) (action : Action) (rest : Table)
     → rowsIn (put row operation action rest) ≡ rowOfAction action ∷ rowsIn rest
@@ -73,6 +73,12 @@ module _ (v : ℕ) (r : Row) (mark : ℕ) where
       product-rows e =
           rw (varied-a, varied-b, kind-is r 5 e, rows-of-put-if (knownBy mark .variedA), rows-of-put-if (knownBy mark .variedA), rows-of-put-if (knownBy mark .variedB))
           (rw (last-if (knownBy mark .variedB)) (simp append-assoc))
+
+      pub quotient-rows : r .kind ≡ quotientKind → partRows v r mark ≡ dividedRows v first second (r .a) (r .b)
+      unfolding partRows sourceOf lineOfRow kindOf partsOf rowOfAction rowOfAssignment
+      quotient-rows e =
+          rw (varied-a, varied-b, kind-is r quotientKind e, rows-of-put, rows-of-put-if (knownBy mark .variedA), rows-of-put-if (knownBy mark .variedB), rows-of-put-if (knownBy mark .variedB))
+          (rw (last-if (knownBy mark .variedB)))
 
 -- ---- what stands around them
 

@@ -5,7 +5,7 @@ use mathlib.Core.Bool.{Bool}
 use mathlib.Core.List.{List, [], _∷_, _++_}
 use native.Mathlib.Omega.{arith}
 use Rattle.sheet.specs.Tree.{basic, ifLine, elseLine, endIf, repeat, endRepeat}
-use Rattle.sheet.specs.Rows.{Assignment, Source, copy, fixed, sum, difference, product, negation, Row, SheetLine, rowOf, rowOfAssignment, sheetRowOf, _≔_}
+use Rattle.sheet.specs.Rows.{Assignment, Source, copy, fixed, sum, difference, product, negation, quotient, Row, SheetLine, rowOf, rowOfAssignment, sheetRowOf, _≔_}
 use Rattle.sheet.specs.inner.RowLines.{lineOfRow, SaysLine}
 use Rattle.sheet.specs.inner.Kinds.{partOf, partFor}
 use Rattle.sheet.specs.declared.kinds.Part.{Part}
@@ -30,15 +30,17 @@ target-of d (sum a b) = refl
 target-of d (difference a b) = refl
 target-of d (product a b) = refl
 target-of d (negation a) = refl
+target-of d (quotient a b) = refl
 
 assigned-kind : (b : Assignment) → Assigns (sheetRowOf (basic b) .kind)
 unfolding sheetRowOf rowOf rowOfAssignment
-assigned-kind (d ≔ copy a) = record { some = omega arith; most = omega arith }
-assigned-kind (d ≔ fixed a) = record { some = omega arith; most = omega arith }
-assigned-kind (d ≔ sum a b) = record { some = omega arith; most = omega arith }
-assigned-kind (d ≔ difference a b) = record { some = omega arith; most = omega arith }
-assigned-kind (d ≔ product a b) = record { some = omega arith; most = omega arith }
-assigned-kind (d ≔ negation a) = record { some = omega arith; most = omega arith }
+assigned-kind (d ≔ copy a) = record { some = omega arith; most = λ other. omega arith }
+assigned-kind (d ≔ fixed a) = record { some = omega arith; most = λ other. omega arith }
+assigned-kind (d ≔ sum a b) = record { some = omega arith; most = λ other. omega arith }
+assigned-kind (d ≔ difference a b) = record { some = omega arith; most = λ other. omega arith }
+assigned-kind (d ≔ product a b) = record { some = omega arith; most = λ other. omega arith }
+assigned-kind (d ≔ negation a) = record { some = omega arith; most = λ other. omega arith }
+assigned-kind (d ≔ quotient a b) = record { some = omega arith; most = λ other. absurd (other refl) }
 
 module _ {r : Row} {p : Part} (s : SaysPart r p) where
   row-again : (l : SheetLine) → lineOfRow r ≡ l → sheetRowOf l ≡ r

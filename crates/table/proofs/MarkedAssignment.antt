@@ -4,11 +4,11 @@ use mathlib.Core.Path.{_≡_, refl, sym, ap, _∙_}
 use mathlib.Core.Bool.{Bool, true, false}
 use mathlib.Core.List.{List, [], _∷_, _++_, append-assoc, append-nil}
 use Rattle.sheet.specs.Tree.{done, basic, RowNumber}
-use Rattle.sheet.specs.Rows.{Assignment, Row, rowOfAssignment, _≔_, targetOf, Source, copy, fixed, sum, difference, product, negation}
+use Rattle.sheet.specs.Rows.{Assignment, Row, rowOfAssignment, _≔_, targetOf, Source, copy, fixed, sum, difference, product, negation, quotient}
 use Rattle.sets.specs.Marks.{Marked}
 use Rattle.sets.specs.Transfers.{Activity}
 use Rattle.table.specs.TableRows.{Table, rowOfAction, assign, clear, takeBack, t, u, adjointOf}
-use Rattle.table.specs.Adjoint.{forwardRow, addInto, subtractFrom, scaled, partsOf, derivativeRows, backwardOf}
+use Rattle.table.specs.Adjoint.{forwardRow, addInto, subtractFrom, scaled, scaledOn, dividedBy, partsOf, derivativeRows, backwardOf}
 use Rattle.table.specs.inner.MarkedRows.{rowWith, rowIf, rowsIn, forwardOfLine, MarkSays, backwardOfLine, anyRow, knownBy, savedBy}
 use Rattle.table.proofs.AssignmentRows.{rows-of-put, rows-of-put-if, rows-of-done}
 
@@ -38,6 +38,9 @@ module _ (v : ℕ) where
       rowIf (known .variedA) (rowOfAction (scaled v b)) ++ (rowIf (known .variedA) (rowOfAction (addInto v a (u v)))
       ++ (rowIf (known .variedB) (rowOfAction (scaled v a)) ++ rowIf (known .variedB) (rowOfAction (addInto v b (u v)))))
   partList (negation a) known = rowIf (known .variedA) (rowOfAction (subtractFrom v a (t v)))
+  partList (quotient a b) known =
+      rowOfAction (dividedBy v (t v) b) ∷ (rowIf (known .variedA) (rowOfAction (addInto v a (u v))) ++ (rowIf (known .variedB) (rowOfAction (scaledOn v a))
+      ++ (rowIf (known .variedB) (rowOfAction (dividedBy v (u v) b)) ++ rowIf (known .variedB) (rowOfAction (subtractFrom v b (u v))))))
 
   parts-before : (source : Source) (row : RowNumber) (known : Activity) (rest : Table)
       → rowsIn (partsOf v source row known rest) ≡ partList source known ++ rowsIn rest
@@ -50,6 +53,9 @@ module _ (v : ℕ) where
       rw (rows-of-put-if (known .variedA), rows-of-put-if (known .variedA), rows-of-put-if (known .variedB), rows-of-put-if (known .variedB))
       (simp append-assoc)
   parts-before (negation a) row known rest = rw (rows-of-put-if (known .variedA))
+  parts-before (quotient a b) row known rest =
+      rw (rows-of-put, rows-of-put-if (known .variedA), rows-of-put-if (known .variedB), rows-of-put-if (known .variedB), rows-of-put-if (known .variedB))
+      (simp append-assoc)
 
   derivativeList : Bool → ℕ → Source → Activity → List Row
   derivativeList false d source known = rowOfAction (clear (adjointOf v d)) ∷ []

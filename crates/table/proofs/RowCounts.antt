@@ -5,30 +5,39 @@ use mathlib.Core.Bool.{Bool, true, false, cond, not, _&&_, _||_}
 use mathlib.Core.List.{List, [], _∷_, _++_}
 use lib.ListN.{length, length-append, getD}
 use lib.Dec.{eqb}
+use native.Mathlib.Decide.{ℕ-discrete}
 use native.Mathlib.Omega.{arith}
-use Rattle.sheet.specs.Rows.{Row}
+use Rattle.sheet.specs.Rows.{Row, quotientKind}
 use Rattle.sheet.specs.inner.RowLines.{lineOfRow, numberedRow}
 use Rattle.sheet.specs.declared.kinds.Part.{Part}
 use Rattle.table.specs.inner.MarkedRows.{rowIf, knownBy, savedBy, Assigns, SaysPart, partRows, derivativesOf, assignmentBack, forwardOfLine, backwardOfLine, bothParts, countRows}
-use Rattle.table.proofs.AssignmentRows.{constant-rows, copy-rows, negation-rows, two-rows, product-rows, active-rows, inactive-rows, assignment-rows}
+use Rattle.table.proofs.AssignmentRows.{constant-rows, copy-rows, negation-rows, two-rows, product-rows, quotient-rows, active-rows, inactive-rows, assignment-rows}
 use Rattle.table.proofs.LineRows.{forwardFor, forward-by, backwardFor, backward-by}
 
 one-if : (b : Bool) (r : Row) → length (rowIf b r) ≡ cond b 1 0
 one-if true r = refl
 one-if false r = refl
 
--- the operands that name a varied variable: a constant has none, and a sum, a difference and a product have two
-abbrev pub operandsOf : (kind : ℕ) (first second : Bool) → ℕ
-operandsOf kind first second = cond (not (eqb kind 2) && first) 1 0 + cond (((eqb kind 3 || eqb kind 4) || eqb kind 5) && second) 1 0
+-- whether an operand names a varied variable: a constant has none, and a sum, a difference, a product and a quotient have two
+abbrev pub firstOf : (kind : ℕ) (first : Bool) → ℕ
+firstOf kind first = cond (not (eqb kind 2) && first) 1 0
+
+abbrev pub secondOf : (kind : ℕ) (second : Bool) → ℕ
+secondOf kind second = cond ((((eqb kind 3 || eqb kind 4) || eqb kind 5) || eqb kind quotientKind) && second) 1 0
+
+-- each has one row of the parts, and in a product two; in a quotient the first has one and the second three, after one for both
+abbrev pub partCount : (kind : ℕ) (first second : ℕ) → ℕ
+partCount kind first second = cond (eqb kind 5) (2 * (first + second)) (cond (eqb kind quotientKind) (1 + first + 3 * second) (first + second))
 
 module _ (v : ℕ) (r : Row) (mark : ℕ) where
-  -- each has one row of the parts, and in a product two
   pub parts-counted : {first second : Bool} → first ≡ knownBy mark .variedA → second ≡ knownBy mark .variedB → Assigns (r .kind)
-      → length (partRows v r mark) ≡ cond (eqb (r .kind) 5) (2 * operandsOf (r .kind) first second) (operandsOf (r .kind) first second)
-  parts-counted {first} {second} a-is b-is assigns = by (r .kind) refl (assigns .some) (assigns .most)
+      → length (partRows v r mark) ≡ partCount (r .kind) (firstOf (r .kind) first) (secondOf (r .kind) second)
+  parts-counted {first} {second} a-is b-is assigns = either (ℕ-discrete (r .kind) quotientKind)
     where
-      by : (kind : ℕ) → r .kind ≡ kind → 1 ≤ kind → kind ≤ 6
-          → length (partRows v r mark) ≡ cond (eqb kind 5) (2 * operandsOf kind first second) (operandsOf kind first second)
+      abbrev Count : ℕ → Type 0
+      Count kind = length (partRows v r mark) ≡ partCount kind (firstOf kind first) (secondOf kind second)
+
+      by : (kind : ℕ) → r .kind ≡ kind → 1 ≤ kind → kind ≤ 6 → Count kind
       by zero e l h = absurd (omega arith)
       by (suc zero) e l h = ap length (copy-rows v r mark a-is refl e) ∙ one-if first _ ∙ omega arith
       by (suc (suc zero)) e l h = ap length (constant-rows v r mark e)
@@ -40,6 +49,10 @@ module _ (v : ℕ) (r : Row) (mark : ℕ) where
           ap length (product-rows v r mark a-is b-is e) ∙ simp (length-append, one-if) (omega arith)
       by (suc (suc (suc (suc (suc (suc zero)))))) e l h = ap length (negation-rows v r mark a-is refl e) ∙ one-if first _ ∙ omega arith
       by (suc (suc (suc (suc (suc (suc (suc k))))))) e l h = absurd (omega arith)
+
+      either : Dec (r .kind ≡ quotientKind) → Count (r .kind)
+      either (yes e) = rw e (ap length (quotient-rows v r mark a-is b-is e) ∙ simp (length-append, one-if) (omega arith))
+      either (no other) = by (r .kind) refl (assigns .some) (assigns .most other)
 
   -- an assignment's rows backward: the take back if it is saved, two more where it is active
   module _ {saved : Bool} (is-saved : saved ≡ savedBy mark) where

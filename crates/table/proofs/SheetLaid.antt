@@ -73,7 +73,7 @@ sheet-lies words sheet e =
       short = parts .short;
     }
 
--- "Hence R is at most 9 × 512 + 1 = 4,609, and the table 18,437 words."
+-- "R's bound becomes 10 × 512 + 1 = 5,121" (02 §4), and the table 20,485 words
 pub table-rows-within : (words : List ℕ) (sheet : Sheet) → read words ≡ given sheet → rowsNeeded sheet ≤ mostTableRows
 unfolding marked markedBy
 table-rows-within words sheet e =

@@ -1,11 +1,11 @@
--- How large a table gets: R is at most 9 × N + 1; S and T are at most W; its blocks nest no deeper than the sheet's.
+-- How large a table gets: R is at most 10 × N + 1; S and T are at most W; its blocks nest no deeper than the sheet's.
 use Prim.Native.Nat.{ℕ, suc, _+_, _*_, _≤_}
 use mathlib.Core.Path.{_≡_, refl}
 use mathlib.Core.Bool.{Bool, true, false, cond}
 use native.Mathlib.Nat.{mul-le-mul-left}
 use native.Mathlib.Omega.{arith}
 use Rattle.sheet.specs.Tree.{Tree, done, one, fork, again, rows, RowNumber, longestRun}
-use Rattle.sheet.specs.Rows.{Assignment, Test, _≔_, Source, copy, fixed, sum, difference, product, negation}
+use Rattle.sheet.specs.Rows.{Assignment, Test, _≔_, Source, copy, fixed, sum, difference, product, negation, quotient}
 use Rattle.sheet.proofs.Depth.{deep}
 use Rattle.sets.specs.Transfers.{Activity}
 use Rattle.sets.specs.Marks.{Marked, numbered}
@@ -52,6 +52,10 @@ module _ (weight : ℕ) (count : Table → ℕ) (each : EachRow weight count) wh
       (at-most-if (known .variedA) row _ _ (at-most-if (known .variedA) row _ _
       (at-most-if (known .variedB) row _ _ (at-most-if (known .variedB) row _ _ at-most-none))))
   parts-rows v (negation a) row known = at-most-more {n = weight + 0} (mostParts * weight) (omega arith) (at-most-if (known .variedA) row _ _ at-most-none)
+  parts-rows v (quotient a b) row known =
+      at-most-more {n = weight + (weight + (weight + (weight + (weight + 0))))} (mostParts * weight) (omega arith)
+      (at-most-if true row _ _ (at-most-if (known .variedA) row _ _
+      (at-most-if (known .variedB) row _ _ (at-most-if (known .variedB) row _ _ (at-most-if (known .variedB) row _ _ at-most-none)))))
 
   derivative-rows : (v : ℕ) (active : Bool) (d : ℕ) (source : Source) (row : RowNumber) (known : Activity)
       → AtMost count ((2 + mostParts) * weight) (derivativeRows v active d source row known)
@@ -104,7 +108,7 @@ forward-rows (fork f a b k) rest =
     omega (arith, forward-rows k rest, forward-rows a a-turn, forward-rows b b-turn)
 forward-rows (again n a k) rest = omega (arith, forward-rows k rest, forward-rows a done)
 
--- "Hence R is at most 9 × 512 + 1"
+-- "R's bound becomes 10 × 512 + 1"
 pub table-rows-bound : (v : ℕ) (t : Body) → tableRows v t ≤ mostRowsEach * rows t + 1
 unfolding tableRows adjointTable rows
 table-rows-bound v t =

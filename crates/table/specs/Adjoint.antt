@@ -2,11 +2,11 @@
 use Prim.Native.Nat.{ℕ}
 use mathlib.Core.Bool.{Bool, true, false}
 use Rattle.sheet.specs.Tree.{Tree, done, one, fork, again, RowNumber}
-use Rattle.sheet.specs.Rows.{Assignment, _≔_, targetOf, Source, copy, fixed, sum, difference, product, negation}
+use Rattle.sheet.specs.Rows.{Assignment, _≔_, targetOf, Source, copy, fixed, sum, difference, product, negation, quotient}
 use Rattle.sheet.specs.Sheets.{Sheet, variablesOf}
 use Rattle.sets.specs.Transfers.{Activity}
 use Rattle.sets.specs.Marks.{Sets, Marked, MarkedTest, markedBy}
-use Rattle.table.specs.TableRows.{adjointOf, t, u, Action, assign, save, takeBack, saveTurn, clear, turnRound, whether, onTurn, Operation, saving, itself, turning, takingBack, holding, clearing, scalingForA, addingToA, scalingForB, addingToB, ofRow, ofTurningRound, Table}
+use Rattle.table.specs.TableRows.{adjointOf, t, u, Action, assign, save, takeBack, saveTurn, clear, turnRound, whether, onTurn, Operation, saving, itself, turning, takingBack, holding, clearing, scalingForA, addingToA, scalingForB, addingToB, dividing, dividingForB, ofRow, ofTurningRound, Table}
 
 abbrev pub Body : Type 0
 Body = Tree Marked MarkedTest
@@ -47,7 +47,15 @@ module _ (variables : ℕ) where
   abbrev pub scaled : ℕ → Action
   scaled i = assign (u variables ≔ product i (t variables))
 
-  -- "then for a first and b second, each only if varied before the row": copy, sum, difference, negation, product
+  -- u := a × u and u := .. / b, of a quotient
+  abbrev pub scaledOn : ℕ → Action
+  scaledOn a = assign (u variables ≔ product a (u variables))
+
+  abbrev pub dividedBy : (dividend b : ℕ) → Action
+  dividedBy dividend b = assign (u variables ≔ quotient dividend b)
+
+  -- "then for a first and b second, each only if varied before the row": copy, sum, difference, negation, product. Of a quotient (02 §4): "u := t / b; if
+  -- a is varied ā := ā + u; if b is varied u := a × u, u := u / b, b̄ := b̄ − u"
   unfoldable pub partsOf : Source → RowNumber → Activity → Table → Table
   partsOf (copy a) row known rest = putIf (known .variedA) row addingToA (addInto a (t variables)) rest
   partsOf (fixed c) row known rest = rest
@@ -61,6 +69,12 @@ module _ (variables : ℕ) where
       (putIf (known .variedB) row scalingForB (scaled a)
       (putIf (known .variedB) row addingToB (addInto b (u variables)) rest)))
   partsOf (negation a) row known rest = putIf (known .variedA) row addingToA (subtractFrom a (t variables)) rest
+  partsOf (quotient a b) row known rest =
+      put row dividing (dividedBy (t variables) b)
+      (putIf (known .variedA) row addingToA (addInto a (u variables))
+      (putIf (known .variedB) row scalingForB (scaledOn a)
+      (putIf (known .variedB) row dividingForB (dividedBy (u variables) b)
+      (putIf (known .variedB) row addingToB (subtractFrom b (u variables)) rest))))
 
   -- "If not active: d̄ := 0. If active: t := d̄; d̄ := 0; then" the parts
   unfoldable pub derivativeRows : Bool → ℕ → Source → RowNumber → Activity → Table → Table

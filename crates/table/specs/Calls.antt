@@ -1,12 +1,13 @@
 -- What the calls check and write answer, and what the lent table buffer then holds, as it is computed from the words.
 use Prim.Native.Nat.{ℕ}
+use mathlib.Core.Bool.{Bool, true}
 use mathlib.Core.List.{List, _++_}
 use lib.ListN.{length, drop}
 use lib.Dec.{leb}
 use Rattle.sheet.specs.Judging.{Answer, refused, given, _>>=_, numberIn, placeIn, unless}
 use Rattle.sheet.specs.Refusals.{smallTable}
 use Rattle.sheet.specs.Sheets.{Sheet}
-use Rattle.sheet.specs.Reading.{read}
+use Rattle.sheet.specs.Reading.{read, readIn}
 use Rattle.sheet.specs.Tree.{longestRun}
 use Rattle.sets.specs.Rounds.{marked}
 use Rattle.table.specs.TableRows.{Table, tableWords}
@@ -31,11 +32,12 @@ check words = let answer = read words in record { number = numberIn answer; plac
 
 -- ---- write
 
--- the sheet, where its table, which needs so many rows, fits a buffer of so many words: refusals 1 to 8
-unfoldable pub readFor : (needs : Sheet → Needs) → List ℕ → (room : ℕ) → Answer Sheet
-unfolding read
-readFor needs words room = do
-  sheet ← read words
+-- the sheet, where its table, which needs so many rows, fits a buffer of so many words: refusals 1 to 8, and 13 between 7 and 8 where it is to be run in
+-- an arithmetic that doesn't divide
+unfoldable pub readFor : (divides : Bool) → (needs : Sheet → Needs) → List ℕ → (room : ℕ) → Answer Sheet
+unfolding readIn
+readFor divides needs words room = do
+  sheet ← readIn divides words
   _ ← unless (leb (tableRoom (needs sheet .rows)) room) smallTable
   given sheet
 
@@ -49,11 +51,11 @@ unfolding tableWords overwritten
 tableIn table (refused r) buffer = buffer
 tableIn table (given sheet) buffer = overwritten (tableWords (table sheet)) buffer
 
--- what a sheet needs and which table is written of it are said by who calls
+-- what a sheet needs and which table is written of it are said by who calls; a writer has no part in arithmetic, and accepts kind 18
 unfoldable pub writeBy : (needs : Sheet → Needs) → (table : Sheet → Table) → List ℕ → (buffer : List ℕ) → Written
 unfolding numberIn placeIn readFor tableIn
 writeBy needs table words buffer =
-    let answer = readFor needs words (length buffer) in
+    let answer = readFor true needs words (length buffer) in
     record { number = numberIn answer; place = placeIn answer; table = tableIn table answer buffer }
 
 -- "Writing a table uses 1 to 8"

@@ -2,13 +2,13 @@
 use Prim.Native.Nat.{ℕ, _+_, _*_}
 use Rattle.sheet.specs.Bounds.{limit}
 
--- "Hence R is at most 9 × 512 + 1": for each of a sheet's rows, and row 17. Forward a save and the row itself
+-- "R's bound becomes 10 × 512 + 1" (02 §4): for each of a sheet's rows, and row 17. Forward a save and the row itself
 abbrev pub mostForward : ℕ
 mostForward = 2
 
--- of an assignment's parts: two rows for each of a product's operands
+-- of an assignment's parts: a quotient's u := t / b, the row into ā, and three rows for b̄
 abbrev pub mostParts : ℕ
-mostParts = 4
+mostParts = 5
 
 -- backward: d taken back, t := d̄, d̄ := 0 and the parts
 abbrev pub mostBackward : ℕ

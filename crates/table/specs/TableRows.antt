@@ -45,10 +45,16 @@ pub data Operation : Type 0 where
   addingToA : Operation
   scalingForB : Operation
   addingToB : Operation
+  -- a quotient's besides: u := t / b; for b̄, after u := a × u, u := u / b
+  dividing : Operation
+  dividingForB : Operation
   -- in a tangent table, before the assignment: u := b × ȧ; t := a × ḃ; ḋ := ..
   ratingA : Operation
   ratingB : Operation
   rating : Operation
+  -- a quotient's besides, of its second term: t := t / b, and once more
+  ratingOverB : Operation
+  ratingOverBAgain : Operation
 
 -- "A stop is compared by the sheet row and the operation it comes from": row 17 comes from no sheet row
 pub data Origin : Type 0 where

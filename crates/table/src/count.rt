@@ -20,22 +20,29 @@ pub fn one_if(given: bool) -> usize
     0
 }
 
-// How many rows an assignment's parts are: for each operand that names a varied variable one, and in a product two.
+// How many rows an assignment's parts are: for each operand that names a varied variable one, and in a product two; in a quotient one for u := t / b, one
+// for the dividend and three for the divisor.
 fn parts_count(row: RowWords, mark: u8) -> usize
     requires { ⌜ Assigns (row .kind) ⌝ }
     ensures { λ r. ⌜ Counted mostParts r (λ v. partRows v (rowSaid row) mark) ⌝ }
 {
+    let divides = row.kind == kinds::QUOTIENT;
     let has_a = row.kind != kinds::CONSTANT;
     let has_b = (row.kind == kinds::SUM)
         | (row.kind == kinds::DIFFERENCE)
-        | (row.kind == kinds::PRODUCT);
+        | (row.kind == kinds::PRODUCT)
+        | divides;
     let first = has_a & marks::bit(mark, sets::VARIED_A);
     let second = has_b & marks::bit(mark, sets::VARIED_B);
-    let operands = one_if(first) + one_if(second);
+    let of_a = one_if(first);
+    let of_b = one_if(second);
     if row.kind == kinds::PRODUCT {
-        return 2 * operands;
+        return 2 * (of_a + of_b);
     }
-    operands
+    if divides {
+        return 1 + of_a + 3 * of_b;
+    }
+    of_a + of_b
 }
 
 // How many rows an assignment has in the backward part.

@@ -14,12 +14,15 @@ mod count;
 pub mod kinds;
 pub mod marks;
 mod needs;
+mod quotients;
 mod sizes;
+
+pub use quotients::undivided;
 
 // "Hence R is at most": for each of a sheet's rows these forward and backward, the parts among the latter, and row 17.
 const MAX_FORWARD: usize = 2;
 
-const MAX_PARTS: usize = 4;
+const MAX_PARTS: usize = 5;
 
 const MAX_BACKWARD: usize = 3 + MAX_PARTS;
 

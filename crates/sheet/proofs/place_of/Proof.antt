@@ -25,6 +25,9 @@ enum-known-why-6 c = search needs
 enum-told : tie.Need-enum-told
 enum-told c = search needs
 
+enum-known-why-7 : tie.Need-enum-known-why-7
+enum-known-why-7 c = search needs
+
 returns : tie.Need-returns
 unfolding placeOf
 returns c = rw (c .before .why .given .1)
@@ -53,6 +56,10 @@ returns-7 : tie.Need-returns-7
 unfolding placeOf
 returns-7 c = rw (c .enum-told .given .1)
 
+returns-8 : tie.Need-returns-8
+unfolding placeOf
+returns-8 c = rw (c .before .why7 .given .1)
+
 pub place-of-spec : {M : Type 1} → statement M
 place-of-spec =
     tie.close
@@ -64,10 +71,12 @@ place-of-spec =
     enum-known-why-5
     enum-known-why-6
     enum-told
+    enum-known-why-7
     returns
     returns-2
     returns-3
     returns-4
     returns-5
     returns-6
-    returns-7)
+    returns-7
+    returns-8)

@@ -24,6 +24,7 @@ namesVariable slot.Variable = true
 namesVariable slot.Constant = false
 namesVariable slot.Turns = false
 namesVariable slot.Unused = false
+namesVariable slot.Nothing = false
 
 abbrev pub assigns : Part → Bool
 assigns part.Assignment = true
@@ -46,9 +47,9 @@ partOf endRepeat = part.EndRepeat
 abbrev pub formOf : Kind → Form
 formOf kind = record { 0 = slotOf (kind .d); 1 = slotOf (kind .a); 2 = slotOf (kind .b); 3 = partOf (kind .means 0 0 0) }
 
--- of a number that is no kind's
+-- of a number that is no kind's: nothing fits it
 abbrev pub noForm : Form
-noForm = record { 0 = slot.Unused; 1 = slot.Unused; 2 = slot.Unused; 3 = part.Assignment }
+noForm = record { 0 = slot.Nothing; 1 = slot.Nothing; 2 = slot.Nothing; 3 = part.Assignment }
 
 abbrev pub formBy : Option Kind → Form
 formBy none = noForm
@@ -60,7 +61,7 @@ formFor n = formBy (kindOf n)
 
 -- the code's table: what each number up to the last kind's stands for
 abbrev pub allForms : List Form
-allForms = noForm ∷ map formOf kinds
+allForms = noForm ∷ map formBy kinds
 
 -- what a row of a kind is to the blocks
 abbrev pub partFor : ℕ → Part

@@ -30,7 +30,7 @@ use Rattle.sheet.specs.declared.kinds.Form.{Form}
 use Rattle.sheet.specs.declared.kinds.Part.{Part}
 use Rattle.sheet.specs.declared.kinds.Part.the-variants as part
 use Rattle.sheet.specs.declared.Rule.{Rule}
-use Rattle.sheet.specs.inner.Kinds.{formOf}
+use Rattle.sheet.specs.inner.Kinds.{formFor}
 use Rattle.sheet.specs.declared.Open.{Open}
 use Rattle.sheet.specs.declared.Open.the-variants as block
 use Rattle.sheet.specs.declared.Level.{Level}
@@ -73,12 +73,14 @@ leastOf slot.Variable = 0
 leastOf slot.Constant = 0
 leastOf slot.Turns = 1
 leastOf slot.Unused = 0
+leastOf slot.Nothing = 0
 
 abbrev pub beyondOf : (variables constants : ℕ) → Slot → ℕ
 beyondOf v k slot.Variable = v
 beyondOf v k slot.Constant = k
 beyondOf v k slot.Turns = suc (limit .turns)
 beyondOf v k slot.Unused = 1
+beyondOf v k slot.Nothing = 0
 
 abbrev pub ruleOf : (variables constants : ℕ) → Form → Rule
 ruleOf v k form =
@@ -91,17 +93,13 @@ ruleOf v k form =
       part = form .3;
     }
 
--- no row is of kind 0
+-- a number that is no kind's: no row fits it
 abbrev pub noRule : Rule
 noRule = record { «least_d» = 0; d = 0; «least_a» = 0; a = 0; b = 0; part = part.Assignment }
 
-abbrev pub ruleBy : (variables constants : ℕ) → Option Kind → Rule
-ruleBy v k none = noRule
-ruleBy v k (some kind) = ruleOf v k (formOf kind)
-
--- each kind's rule, by its number
+-- each number's rule
 abbrev pub RulesFor : (variables constants : ℕ) → List Rule → Type 0
-RulesFor v k rules = (n : ℕ) → n ≤ length kinds → getD rules n noRule ≡ ruleBy v k (kindOf n)
+RulesFor v k rules = (n : ℕ) → n ≤ length kinds → getD rules n noRule ≡ ruleOf v k (formFor n)
 
 abbrev pub inRange : (least beyond word : ℕ) → Bool
 inRange least beyond word = leb least word && ltb word beyond

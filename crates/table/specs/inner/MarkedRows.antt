@@ -2,13 +2,14 @@
 -- partners hold of a sheet's tree.
 use Prim.Native.Nat.{ℕ, zero, suc, _+_, _*_, _≤_, _<_}
 use mathlib.Core.Path.{_≡_}
+use mathlib.Core.Logic.{_≢_}
 use mathlib.Core.Bool.{Bool, true, false}
 use mathlib.Core.List.{List, [], _∷_, _++_, map}
 use lib.ListN.{length, getD}
 use Rattle.sheet.specs.Sheets.{rowAt}
 use Rattle.sheet.specs.Bounds.{limit}
 use Rattle.sheet.specs.Tree.{Tree, done, one, fork, again, rows, RowNumber, basic, ifLine, elseLine, endIf, repeat, endRepeat}
-use Rattle.sheet.specs.Rows.{Assignment, Test, _≔_, Source, fixed, SheetLine, Row, rowOfTest}
+use Rattle.sheet.specs.Rows.{Assignment, Test, _≔_, Source, fixed, SheetLine, Row, rowOfTest, quotientKind}
 use Rattle.sheet.specs.inner.RowLines.{lineOfRow, SaysLine, numberedRow}
 use Rattle.sheet.specs.inner.Kinds.{partOf}
 use Rattle.sheet.specs.declared.Shape.{Shape}
@@ -72,7 +73,7 @@ sourceSaid endRepeat = fixed 0
 -- an assignment's kinds
 pub record Assigns (kind : ℕ) : Type 0 where
   pub some : 1 ≤ kind
-  pub most : kind ≤ 6
+  pub most : kind ≢ quotientKind → kind ≤ 6
 
 -- what an assignment's row reads
 unfoldable pub sourceOf : Row → Source
@@ -88,6 +89,13 @@ partRows v r mark = rowsIn (partsOf v (sourceOf r) anyRow (knownBy mark) done)
 abbrev pub scaledRows : (variables : ℕ) → Bool → (operand other : ℕ) → List Row
 scaledRows v test operand other =
     rowIf test (rowWith 5 (u v) operand (t v)) ++ rowIf test (rowWith 3 (adjointOf v other) (adjointOf v other) (u v))
+
+-- and those of a quotient: u := t / b; for a u into ā; for b u := a × u, u := u / b, and u out of b̄
+abbrev pub dividedRows : (variables : ℕ) → (first second : Bool) → (a b : ℕ) → List Row
+dividedRows v first second a b =
+    rowWith quotientKind (u v) (t v) b
+    ∷ (rowIf first (rowWith 3 (adjointOf v a) (adjointOf v a) (u v)) ++ (rowIf second (rowWith 5 (u v) a (u v))
+    ++ (rowIf second (rowWith quotientKind (u v) (u v) b) ++ rowIf second (rowWith 4 (adjointOf v b) (adjointOf v b) (u v)))))
 
 unfoldable pub derivativesOf : (variables : ℕ) → Row → (mark : ℕ) → List Row
 unfolding sourceOf derivativeRows rowsIn

@@ -1,16 +1,22 @@
 -- What is found out of a sheet before its table is written: R, S and T, every row's marks and every block row's partners.
-use Prim.Native.Nat.{ℕ}
+use Prim.Native.Nat.{ℕ, _+_, _*_, _≤_}
 use mathlib.Core.Path.{_≡_}
+use mathlib.Core.Bool.{Bool}
 use mathlib.Core.List.{List}
-use Rattle.sheet.specs.Judging.{refused, given}
+use lib.ListN.{length}
+use Rattle.sheet.specs.Judging.{Answer, refused, given}
+use Rattle.sheet.specs.Bounds.{limit}
+use Rattle.sheet.specs.Refusals.{holdsQuotient}
 use Rattle.sheet.specs.Sheets.{Sheet}
-use Rattle.sheet.specs.Reading.{read}
+use Rattle.sheet.specs.Reading.{read, readIn}
 use Rattle.sheet.specs.Answers.{refusalOf, shapeOf}
 use Rattle.sets.specs.Marks.{markBy}
 use Rattle.sets.specs.Rounds.{setsOf}
 use Rattle.table.specs.declared.Plan.{Plan}
 use Rattle.table.specs.declared.Planned.{Planned}
 use Rattle.table.specs.declared.Planned.the-variants as planned
+use Rattle.table.specs.declared.quotients.Quotients.{Quotients}
+use Rattle.table.specs.declared.quotients.Quotients.the-variants as quotients
 use Rattle.table.specs.Sizes.{Needs}
 use Rattle.table.specs.Computed.{needsOf}
 use Rattle.table.specs.inner.MarkedRows.{Noted}
@@ -36,6 +42,22 @@ pub record PlanMadeFor (needs : Sheet → Needs) (words : List ℕ) (plan : Plan
 abbrev pub PlanSaysFor : (needs : Sheet → Needs) (words marks came goes : List ℕ) → Planned → Type 0
 PlanSaysFor needs words marks came goes (planned.Refused why) = read words ≡ refused (refusalOf why)
 PlanSaysFor needs words marks came goes (planned.Made plan) = PlanMadeFor needs words plan marks came goes
+
+-- the same, planned for an arithmetic that divides or doesn't
+abbrev pub PlanSaysIn : (divides : Bool) (needs : Sheet → Needs) (words marks came goes : List ℕ) → Planned → Type 0
+PlanSaysIn divides needs words marks came goes (planned.Refused why) = readIn divides words ≡ refused (refusalOf why)
+PlanSaysIn divides needs words marks came goes (planned.Made plan) =
+    (made : PlanMadeFor needs words plan marks came goes) × (readIn divides words ≡ given (made .sheet))
+
+-- a planned sheet's rows lie within the words
+abbrev pub RowsWithin : (words : List ℕ) → Planned → Type 0
+RowsWithin words (planned.Refused why) = Unit {0}
+RowsWithin words (planned.Made plan) = plan .shape .«first_row» + plan .shape .rows * limit .rowWords ≤ length words
+
+-- 13, by the code's answer
+abbrev pub quotientsSaid : Quotients → Answer (Unit {0})
+quotientsSaid quotients.Nowhere = given tt
+quotientsSaid (quotients.At place) = refused (holdsQuotient place)
 
 -- of the adjoint table
 abbrev pub PlanOf : (sheet : Sheet) (plan : Plan) (marks came goes : List ℕ) → Type 0

@@ -1,4 +1,4 @@
--- `sets::transfers::adjoint_use` meets its contract: an active product's operands, each by its fellow's being varied.
+-- `sets::transfers::adjoint_use` meets its contract: an active product's or quotient's operands, each by its fellow's being varied, and the divisor.
 use borrow.Author.Needs.{needs}
 use Rattle.sets.proofs.OperationLaws.{use-said}
 use Rattle.sets.proofs.transfers.adjoint_use.Statement.{statement}
@@ -11,7 +11,9 @@ only-if-requires-2 : tie.Need-only-if-requires-2
 only-if-requires-2 c κs = search needs
 
 returns : tie.Need-returns
-returns c b performs = rw (use-said b performs _, c .before .before .if1 .taken, c .before .only-if .ensures, c .only-if2 .ensures)
+returns c b performs =
+    let second = c .before .before .before in
+    rw (use-said b performs _, c .if1 .taken, second .before .before .only-if .ensures, second .only-if2 .ensures)
 
 returns-2 : tie.Need-returns-2
 returns-2 c b performs = rw (use-said b performs _, c .if1 .left)
