@@ -13,3 +13,4 @@ pub mod NotedTree
 pub mod PlanLaws
 pub mod CallLaws
 pub mod CallsPinned
+pub mod QuotientLaws

@@ -34,7 +34,7 @@ module _ (v : ℕ) (r : Row) (mark : ℕ) where
       → length (partRows v r mark) ≡ partCount (r .kind) (firstOf (r .kind) first) (secondOf (r .kind) second)
   parts-counted {first} {second} a-is b-is assigns = either (ℕ-discrete (r .kind) quotientKind)
     where
-      abbrev Count : ℕ → Type 0
+      Count : ℕ → Type 0
       Count kind = length (partRows v r mark) ≡ partCount kind (firstOf kind first) (secondOf kind second)
 
       by : (kind : ℕ) → r .kind ≡ kind → 1 ≤ kind → kind ≤ 6 → Count kind
@@ -50,8 +50,11 @@ module _ (v : ℕ) (r : Row) (mark : ℕ) where
       by (suc (suc (suc (suc (suc (suc zero)))))) e l h = ap length (negation-rows v r mark a-is refl e) ∙ one-if first _ ∙ omega arith
       by (suc (suc (suc (suc (suc (suc (suc k))))))) e l h = absurd (omega arith)
 
+      quotient : (kind : ℕ) → r .kind ≡ kind → kind ≡ quotientKind → Count kind
+      quotient kind e divides = rw divides (ap length (quotient-rows v r mark a-is b-is (e ∙ divides)) ∙ simp (length-append, one-if) (omega arith))
+
       either : Dec (r .kind ≡ quotientKind) → Count (r .kind)
-      either (yes e) = rw e (ap length (quotient-rows v r mark a-is b-is e) ∙ simp (length-append, one-if) (omega arith))
+      either (yes e) = quotient (r .kind) refl e
       either (no other) = by (r .kind) refl (assigns .some) (assigns .most other)
 
   -- an assignment's rows backward: the take back if it is saved, two more where it is active
