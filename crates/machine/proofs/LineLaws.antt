@@ -8,7 +8,7 @@ use native.Mathlib.Omega.{arith}
 use borrow.Author.Tests.{ne-eqb}
 use lib.Dec.{eqb}
 use Rattle.sheet.specs.Tree.{basic, ifLine, elseLine, endIf, repeat, endRepeat}
-use Rattle.sheet.specs.Rows.{copy, fixed, sum, difference, product, negation, _≔_, less, Row, rowOf, rowOfAssignment, rowOfTest}
+use Rattle.sheet.specs.Rows.{copy, fixed, sum, difference, product, negation, quotient, _≔_, less, Row, rowOf, rowOfAssignment, rowOfTest, quotientKind}
 use Rattle.sheet.specs.Names.{SourcePresent, AssignmentPresent}
 use Rattle.table.specs.TableRows.{Action, assign, save, takeBack, saveTurn, clear, turnRound, whether, onTurn, TableLine, TableRow, rowOfAction, rowOfTableTest, tableRowOf}
 use Rattle.machine.specs.inner.RowWords.{actionOf, Named}
@@ -21,6 +21,7 @@ action-said (assign (d ≔ sum a b)) = refl
 action-said (assign (d ≔ difference a b)) = refl
 action-said (assign (d ≔ product a b)) = refl
 action-said (assign (d ≔ negation a)) = refl
+action-said (assign (d ≔ quotient a b)) = refl
 action-said (save d) = refl
 action-said (takeBack d) = refl
 action-said (saveTurn true) = refl
@@ -85,6 +86,10 @@ module _ (row : Row) where
   unfolding actionOf
   says-negation kind = rw kind
 
+  pub says-quotient : row .kind ≡ quotientKind → actionOf row ≡ some (assign (row .d ≔ quotient (row .a) (row .b)))
+  unfolding actionOf
+  says-quotient kind = rw kind
+
   pub says-save : row .kind ≡ 12 → actionOf row ≡ some (save (row .d))
   unfolding actionOf
   says-save kind = rw kind
@@ -109,9 +114,10 @@ module _ (row : Row) where
       → row .kind ≢ 14
       → row .kind ≢ 16
       → row .kind ≢ 17
+      → row .kind ≢ quotientKind
       → actionOf row ≡ none
   unfolding actionOf
-  says-none k₁ k₂ k₃ k₄ k₅ k₆ k₁₂ k₁₃ k₁₄ k₁₆ k₁₇ =
+  says-none k₁ k₂ k₃ k₄ k₅ k₆ k₁₂ k₁₃ k₁₄ k₁₆ k₁₇ k₁₈ =
       rw (
         ne-eqb (row .kind) 1 k₁,
         ne-eqb (row .kind) 2 k₂,
@@ -124,6 +130,7 @@ module _ (row : Row) where
         ne-eqb (row .kind) 14 k₁₄,
         ne-eqb (row .kind) 16 k₁₆,
         ne-eqb (row .kind) 17 k₁₇,
+        ne-eqb (row .kind) quotientKind k₁₈,
       )
 
 -- ---- what a kind names
@@ -152,6 +159,10 @@ module _ (row : Row) {v k : ℕ} (named : Named v k (actionOf row)) where
   pub names-negation : row .kind ≡ 6 → (row .d < v) × (row .a < v)
   unfolding AssignmentPresent SourcePresent
   names-negation kind = subst (Named v k) (says-negation row kind) named .present
+
+  pub names-quotient : row .kind ≡ quotientKind → (row .d < v) × ((row .a < v) × (row .b < v))
+  unfolding AssignmentPresent SourcePresent
+  names-quotient kind = subst (Named v k) (says-quotient row kind) named .present
 
   pub names-save : row .kind ≡ 12 → row .d < v
   names-save kind = subst (Named v k) (says-save row kind) named .present

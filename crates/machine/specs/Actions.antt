@@ -5,8 +5,8 @@ use mathlib.Core.List.{List, [], _∷_, _++_}
 use mathlib.Core.Option.{Option, none, some}
 use lib.ListN.{take, drop, getD, getElem?, length, set}
 use lib.Dec.{eqb, ltb}
-use Rattle.number.specs.Arithmetic.{Arithmetic, Outcome, value, stop, signed}
-use Rattle.sheet.specs.Rows.{_≔_, Source, copy, fixed, sum, difference, product, negation, Test, less, isDependent}
+use Rattle.number.specs.Arithmetic.{Arithmetic, Outcome, value, stop, over, signed}
+use Rattle.sheet.specs.Rows.{_≔_, Source, copy, fixed, sum, difference, product, negation, quotient, Test, less, isDependent}
 use Rattle.table.specs.TableRows.{Action, assign, save, takeBack, saveTurn, clear, turnRound, TableTest, whether, onTurn, turnWord, Origin}
 
 -- What trying a row comes to: it went through, the arithmetic stopped it, or it is stuck. Being stuck is an outcome of its own.
@@ -83,6 +83,12 @@ module _ (A : Arithmetic) where
   evaluated constants (negation a) store = do
     x ← look store a
     fromOutcome (A .negation x)
+  -- an arithmetic without quotients is stuck here, which 13 rules out (02 §4)
+  evaluated constants (quotient a b) store = do
+    x ← look store a
+    y ← look store b
+    outcome ← present (over (A .quotient) x y)
+    fromOutcome outcome
 
   abbrev pub withStore : Memory → List (A .Carrier) → Memory
   withStore memory store = record { store = store; values = memory .values; turns = memory .turns; copied = memory .copied }

@@ -6,8 +6,8 @@ use lib.ListN.{getD, drop}
 use lib.Dec.{ltb}
 use Rattle.number.specs.Arithmetic.{Arithmetic}
 use Rattle.sheet.specs.Tree.{basic, ifLine, elseLine, endIf, repeat, endRepeat}
-use Rattle.sheet.specs.Rows.{_≔_, Source, copy, fixed, sum, difference, product, negation}
-use Rattle.table.specs.TableRows.{TableRow, TableLine, Action, assign, save, takeBack, saveTurn, clear, turnRound, Operation, saving, itself, turning, takingBack, holding, clearing, scalingForA, addingToA, scalingForB, addingToB, ratingA, ratingB, rating, Origin, ofRow, ofTurningRound}
+use Rattle.sheet.specs.Rows.{_≔_, Source, copy, fixed, sum, difference, product, negation, quotient}
+use Rattle.table.specs.TableRows.{TableRow, TableLine, Action, assign, save, takeBack, saveTurn, clear, turnRound, Operation, saving, itself, turning, takingBack, holding, clearing, scalingForA, addingToA, scalingForB, addingToB, dividing, dividingForB, ratingA, ratingB, rating, ratingOverB, ratingOverBAgain, Origin, ofRow, ofTurningRound}
 use Rattle.machine.specs.Actions.{Attempt, through, halted, stuck, Memory, Setting}
 use Rattle.machine.specs.Machine.{State, Step, goesOn, ended, stops, sticks, stateAfter}
 
@@ -23,9 +23,13 @@ isDerivative scalingForA = true
 isDerivative addingToA = true
 isDerivative scalingForB = true
 isDerivative addingToB = true
+isDerivative dividing = true
+isDerivative dividingForB = true
 isDerivative ratingA = true
 isDerivative ratingB = true
 isDerivative rating = true
+isDerivative ratingOverB = true
+isDerivative ratingOverBAgain = true
 
 module _ (A : Arithmetic) where
   pub record Entry : Type 0 where
@@ -44,6 +48,7 @@ module _ (A : Arithmetic) where
   originalsRead v (difference a b) store = originalAt v a store ++ originalAt v b store
   originalsRead v (product a b) store = originalAt v a store ++ originalAt v b store
   originalsRead v (negation a) store = originalAt v a store
+  originalsRead v (quotient a b) store = originalAt v a store ++ originalAt v b store
 
   unfoldable pub readsOf : (variables : ℕ) → Action → List (A .Carrier) → List (A .Carrier)
   unfolding originalsRead

@@ -4,7 +4,7 @@ use Prim.Native.Nat.{ℕ, _<_}
 use mathlib.Core.Bool.{cond}
 use mathlib.Core.Option.{Option, none, some}
 use lib.Dec.{eqb}
-use Rattle.sheet.specs.Rows.{Source, copy, fixed, sum, difference, product, negation, _≔_, Row}
+use Rattle.sheet.specs.Rows.{Source, copy, fixed, sum, difference, product, negation, quotient, _≔_, Row, quotientKind}
 use Rattle.sheet.specs.Names.{AssignmentPresent}
 use Rattle.table.specs.TableRows.{Action, assign, save, takeBack, saveTurn, clear, turnRound}
 
@@ -15,7 +15,8 @@ sourceOf row =
     (cond (eqb (row .kind) 3) (some (sum (row .a) (row .b)))
     (cond (eqb (row .kind) 4) (some (difference (row .a) (row .b)))
     (cond (eqb (row .kind) 5) (some (product (row .a) (row .b)))
-    (cond (eqb (row .kind) 6) (some (negation (row .a))) none)))))
+    (cond (eqb (row .kind) 6) (some (negation (row .a)))
+    (cond (eqb (row .kind) quotientKind) (some (quotient (row .a) (row .b))) none))))))
 
 abbrev pub assignmentOf : (d : ℕ) → Option Source → Option Action
 assignmentOf d none = none
