@@ -7,7 +7,7 @@ ghost use Rattle.number.specs.Answers.{outcomeOf};
 ghost use Rattle.number.specs.Doubles.{doubles};
 ghost use Rattle.sheet.specs.Bounds.{limit};
 ghost use Rattle.sheet.specs.Answers.{rowSaid};
-ghost use Rattle.sheet.specs.Rows.{copy, sum, difference, product, negation, isDependent};
+ghost use Rattle.sheet.specs.Rows.{copy, sum, difference, product, negation, quotient, isDependent};
 ghost use Rattle.table.specs.TableRows.{save, takeBack};
 ghost use Rattle.machine.specs.inner.RowAnswers.{whetherDid};
 ghost use Rattle.machine.specs.Actions.{fromOutcome};
@@ -109,7 +109,17 @@ fn negated(store: &[f64], a: Variable) -> Outcome
     double::negation(store[first])
 }
 
-// Kinds 1 to 6, from what the right side came to.
+// Kind 18.
+fn divided(store: &[f64], a: Variable, b: Variable) -> Outcome
+    requires { ⌜ a .0 < length (now store) ⌝ ∗ ⌜ b .0 < length (now store) ⌝ }
+    ensures { λ r. ⌜ Evaluates doubles (quotient (a .0) (b .0)) (now (store .entry)) (fromOutcome (outcomeOf r)) ⌝ }
+{
+    let first = a.0;
+    let second = b.0;
+    double::quotient(store[first], store[second])
+}
+
+// Kinds 1 to 6 and 18, from what the right side came to.
 fn assign(store: &mut [f64], d: Variable, outcome: Outcome) -> Did
     requires { ⌜ d .0 < length (now store) ⌝ }
     ensures { λ r. ⌜ Assigns doubles (d .0) (fromOutcome (outcomeOf outcome)) (now (store .entry)) (now (store .exit)) (whetherDid r) ⌝ }
@@ -275,6 +285,11 @@ fn act(
         table::kinds::SAVE_TURN => turns_to(save_turn(is_first(word), turns, next.turns), next),
         table::kinds::CLEAR => went_to(clear(store, d), next),
         table::kinds::TURN_ROUND => went_to(turn_round(roles, seeds, store, copied), next),
+        kinds::QUOTIENT => did_to(
+            assign(store, d, divided(store, Variable(a), b)),
+            next,
+            Ahead::Sum,
+        ),
         _ => Acted::Block,
     }
 }

@@ -44,7 +44,7 @@ module _ {A : Arithmetic} where
   goes setting action before after sound is = record { meaning = is; sound = sound; unchanged = λ not. absurd (not refl) }
 
   module _ {d : ℕ} {store : List (A .Carrier)} where
-    -- ---- kinds 1 to 6
+    -- ---- kinds 1 to 6 and 18
 
     pub assign-goes : {x : A .Carrier} → d < length store → Assigns A d (through x) store (set store d x) (through tt)
     unfolding acted
@@ -63,6 +63,15 @@ module _ {A : Arithmetic} where
         record {
           does = λ setting source got values height turns turnHeight copied sound.
               record { meaning = rw (sym got); sound = sound; unchanged = λ _. refl };
+        }
+
+    -- and one that is stuck
+    pub assign-sticks : Assigns A d stuck store store stuck
+    unfolding acted
+    assign-sticks =
+        record {
+          does = λ setting source got values height turns turnHeight copied sound.
+              sticks setting (assign (d ≔ source)) _ sound (rw (sym got));
         }
 
     -- ---- kind 16

@@ -4,21 +4,21 @@ use mathlib.Core.Path.{_≡_, refl, sym, ap, _∙_, subst}
 use mathlib.Core.Bool.{Bool}
 use mathlib.Core.Logic.{_⊎_, inl, inr}
 use mathlib.Core.List.{List, [], _∷_}
-use mathlib.Core.Option.{none, some}
+use mathlib.Core.Option.{Option, none, some}
 use native.Mathlib.Omega.{arith}
 use native.Mathlib.Numerals.{add-one}
-use lib.ListN.{length, drop, drop-of-length-le}
+use lib.ListN.{length, drop, getElem?, drop-of-length-le}
 use lib.Dec.{eqb}
 use lib.Ieee.{Float}
-use Rattle.number.specs.Arithmetic.{Arithmetic}
+use Rattle.number.specs.Arithmetic.{Arithmetic, over}
 use Rattle.number.specs.Doubles.{doubles}
 use Rattle.number.specs.Residues.{residues}
 use Rattle.sheet.specs.Bounds.{limit}
 use Rattle.sheet.specs.Tree.{basic}
-use Rattle.sheet.specs.Rows.{Source, _≔_, Row, rowOf}
+use Rattle.sheet.specs.Rows.{Source, quotient, _≔_, Row, rowOf, quotientKind}
 use Rattle.sheet.specs.Sheets.{rowAt}
 use Rattle.table.specs.TableRows.{Action, assign, save, takeBack, saveTurn, clear, turnRound, TableLine, TableRow, rowOfAction, tableRowOf}
-use Rattle.machine.specs.Actions.{Attempt, through, halted, stuck, Memory, Setting, Try, stoppingAt, evaluated, acted}
+use Rattle.machine.specs.Actions.{Attempt, through, halted, stuck, _>>=_, fromOutcome, present, Memory, Setting, Try, stoppingAt, evaluated, acted}
 use Rattle.machine.specs.inner.RowAnswers.{whetherWent, whetherDid, whetherMoved, heightAfter}
 use Rattle.machine.specs.Machine.{Repeat, Step, step, stepAt, afterAction, goTo}
 use Rattle.machine.specs.inner.Buffers.{Buffers, Cells, cellsOf, memoryOf, Sound, Does, Assigns, MovesValues, SavesTurn, Clears, RoundSizes, TurnsRound}
@@ -37,7 +37,8 @@ use Rattle.machine.specs.declared.Ahead.the-variants as ahead-as
 use Rattle.machine.specs.declared.Acted.{Acted}
 use Rattle.machine.specs.declared.Acted.the-variants as acted-as
 use Rattle.machine.proofs.RowsPinned.{halted-apart, stuck-apart}
-use Rattle.machine.proofs.LineLaws.{action-said, straight-or-not, says-save, says-take-back, says-save-turn, says-clear, says-turn-round}
+use Rattle.machine.proofs.LineLaws.{action-said, straight-or-not, says-save, says-take-back, says-save-turn, says-clear, says-turn-round, says-quotient}
+use Rattle.machine.proofs.RowLaws.{assign-sticks}
 
 -- ---- the line that stands at a row
 
@@ -362,3 +363,20 @@ module _ {row : Row} {roles constants seeds store values copied storeAfter turns
       → Assigns residues (row .d) got store storeAfter (whetherWent w)
       → ActsBy residues row roles constants seeds next (cellsOf residues store values turns copied) (cellsOf residues storeAfter values turns copied) answer
   assigned-residue said answers reads assigns = assigned ahead-as.Any said (answers ∙ went-answers (residues .Why) w next) reads assigns
+
+-- ---- residues have no quotient
+
+no-quotient : (constants : List ℕ) (a b : ℕ) (store : List ℕ) → stuck ≡ evaluated residues constants (quotient a b) store
+unfolding evaluated
+no-quotient constants a b store = by (getElem? store a) (getElem? store b)
+  where
+    by : (x y : Option ℕ) → _≡_ {A = Try residues ℕ} stuck (present x >>= λ p. present y >>= λ q. present (over (residues .quotient) p q) >>= λ o. fromOutcome o)
+    by none y = refl
+    by (some x) none = refl
+    by (some x) (some y) = refl
+
+module _ {row : Row} {roles constants seeds store values copied turns : List ℕ} {next : Place} {answer : Acted} where
+  pub undivided-residue : row .kind ≡ quotientKind → answer ≡ acted-as.Stuck
+      → ActsBy residues row roles constants seeds next (cellsOf residues store values turns copied) (cellsOf residues store values turns copied) answer
+  undivided-residue kind answers =
+      assigned ahead-as.Any (says-quotient row kind) answers (no-quotient constants (row .a) (row .b) store) assign-sticks

@@ -238,6 +238,8 @@ fn act(
         table::kinds::SAVE_TURN => turns_to(save_turn(is_first(word), turns, next.turns), next),
         table::kinds::CLEAR => went_to(clear(store, d), next),
         table::kinds::TURN_ROUND => went_to(turn_round(roles, seeds, store, copied), next),
+        // No residue stands for a quotient: 13 refuses the sheet.
+        kinds::QUOTIENT => Acted::Stuck,
         _ => Acted::Block,
     }
 }

@@ -6,7 +6,7 @@ use mathlib.Core.List.{List, [], _∷_, _++_}
 use lib.ListN.{length, getD, set, length-append}
 use native.Mathlib.Omega.{arith}
 use Rattle.sheet.specs.Tree.{done, one, fork, again, flat, basic, ifLine, elseLine, endIf, repeat, endRepeat}
-use Rattle.sheet.specs.Rows.{Row, SheetLine, Assignment, rowOf, rowOfAssignment, rowOfTest, less, _≔_, copy, fixed, sum, difference, product, negation}
+use Rattle.sheet.specs.Rows.{Row, SheetLine, Assignment, rowOf, rowOfAssignment, rowOfTest, less, _≔_, copy, fixed, sum, difference, product, negation, quotient}
 use Rattle.sheet.specs.inner.RowLines.{lineOfRow}
 use Rattle.sheet.specs.inner.Kinds.{partOf}
 use Rattle.sheet.specs.declared.kinds.Part.{Part}
@@ -68,6 +68,7 @@ action-passes (assign (d ≔ sum x y)) p s = refl
 action-passes (assign (d ≔ difference x y)) p s = refl
 action-passes (assign (d ≔ product x y)) p s = refl
 action-passes (assign (d ≔ negation x)) p s = refl
+action-passes (assign (d ≔ quotient x y)) p s = refl
 action-passes (save d) p s = refl
 action-passes (takeBack d) p s = refl
 action-passes (saveTurn first) p s = refl

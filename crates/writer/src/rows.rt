@@ -6,7 +6,7 @@ ghost use Rattle.sheet.specs.inner.RowLines.{lineOfRow};
 ghost use Rattle.sheet.specs.Answers.{rowSaid};
 ghost use Rattle.sheet.specs.Bounds.{limit};
 ghost use Rattle.table.specs.TableRows.{t};
-ghost use Rattle.table.specs.inner.MarkedRows.{rowWith, rowIf, SmallWords, scaledRows, partRows, derivativesOf, assignmentBack, Assigns, SaysPart, forwardOfLine, backwardOfLine};
+ghost use Rattle.table.specs.inner.MarkedRows.{rowWith, rowIf, SmallWords, scaledRows, divisorRows, dividedRows, partRows, derivativesOf, assignmentBack, Assigns, SaysPart, forwardOfLine, backwardOfLine};
 ghost use Rattle.writer.specs.inner.RowsWritten.{RowRoom, Wrote};
 use sheet::RowWords;
 use sheet::kinds::Part;
@@ -70,6 +70,56 @@ fn scaled(
     put_if(given, table, added, sheet::kinds::SUM, adjoint, adjoint, u)
 }
 
+// A quotient's part for the divisor: u := a × u, u := u / b, and u out of b̄, only if given.
+fn over_divisor(
+    given: bool,
+    table: &mut [u16],
+    place: usize,
+    variables: u16,
+    a: u16,
+    b: u16,
+) -> usize
+    requires { ⌜ RowRoom (now table) place (divisorRows variables given a b) ⌝ ∗ ⌜ (variables ≤ limit .variables) × (b ≤ limit .turns) ⌝ }
+    ensures { λ r. ⌜ Wrote (now (table .entry)) place (divisorRows variables given a b) (now (table .exit)) r ⌝ }
+{
+    let t = t_of(variables);
+    let u = t + 1;
+    let adjoint = variables + b;
+    let scaled = put_if(given, table, place, sheet::kinds::PRODUCT, u, a, u);
+    let divided = put_if(given, table, scaled, sheet::kinds::QUOTIENT, u, u, b);
+    put_if(
+        given,
+        table,
+        divided,
+        sheet::kinds::DIFFERENCE,
+        adjoint,
+        adjoint,
+        u,
+    )
+}
+
+// A quotient's parts: u := t / b for both, u into ā before the divisor's part overwrites it.
+fn divided(
+    table: &mut [u16],
+    place: usize,
+    variables: u16,
+    first: bool,
+    second: bool,
+    a: u16,
+    b: u16,
+) -> usize
+    requires { ⌜ RowRoom (now table) place (dividedRows variables first second a b) ⌝
+        ∗ ⌜ (variables ≤ limit .variables) × ((a ≤ limit .turns) × (b ≤ limit .turns)) ⌝ }
+    ensures { λ r. ⌜ Wrote (now (table .entry)) place (dividedRows variables first second a b) (now (table .exit)) r ⌝ }
+{
+    let t = t_of(variables);
+    let u = t + 1;
+    let adjoint = variables + a;
+    let held = put(table, place, sheet::kinds::QUOTIENT, u, t, b);
+    let added = put_if(first, table, held, sheet::kinds::SUM, adjoint, adjoint, u);
+    over_divisor(second, table, added, variables, a, b)
+}
+
 // An assignment's parts, for a first and b second, each only if it is varied: t or u into the adjoint of what it reads.
 fn parts(table: &mut [u16], place: usize, variables: u16, row: RowWords, mark: u8) -> usize
     requires { ⌜ RowRoom (now table) place (partRows variables (rowSaid row) mark) ⌝ ∗ ⌜ SmallWords variables (rowSaid row) ⌝ ∗ ⌜ Assigns (row .kind) ⌝ }
@@ -92,6 +142,9 @@ fn parts(table: &mut [u16], place: usize, variables: u16, row: RowWords, mark: u
     if row.kind == sheet::kinds::PRODUCT {
         let added_to_a = scaled(first, table, place, variables, row.b, row.a);
         return scaled(second, table, added_to_a, variables, row.a, row.b);
+    }
+    if row.kind == sheet::kinds::QUOTIENT {
+        return divided(table, place, variables, first, second, row.a, row.b);
     }
     // A sum and a difference add into ā, and into b̄ do as they do themselves.
     let added = put_if(first, table, place, sheet::kinds::SUM, to_a, to_a, t);

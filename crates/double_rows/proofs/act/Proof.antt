@@ -2,8 +2,8 @@
 use mathlib.Core.Path.{refl}
 use borrow.Author.Needs.{needs}
 use Rattle.machine.specs.declared.Ahead.the-variants as ahead
-use Rattle.machine.proofs.LineLaws.{says-copy, says-constant, says-sum, says-difference, says-product, says-negation, says-none}
-use Rattle.machine.proofs.LineLaws.{names-copy, names-constant, names-sum, names-difference, names-product, names-negation, names-save, names-take-back, names-clear}
+use Rattle.machine.proofs.LineLaws.{says-copy, says-constant, says-sum, says-difference, says-product, says-negation, says-quotient, says-none}
+use Rattle.machine.proofs.LineLaws.{names-copy, names-constant, names-sum, names-difference, names-product, names-negation, names-quotient, names-save, names-take-back, names-clear}
 use Rattle.machine.proofs.StraightLaws.{none-acts, saved, taken-back, turn-saved, cleared, turned-round, assigned-double}
 use Rattle.double_rows.proofs.act.Statement.{statement}
 use Rattle.double_rows.proofs.act.Tie as tie
@@ -119,6 +119,17 @@ turn-round-requires c κs = search needs
 went-to-requires-2 : tie.Need-went-to-requires-2
 went-to-requires-2 c κs = search needs
 
+divided-requires : tie.Need-divided-requires
+divided-requires c κs =
+    names-quotient _ (c .before .before .before .before .before .before .before .before .before .before .before .before .pre) (c .before .before .match .keys12) .1
+
+assign-requires-7 : tie.Need-assign-requires-7
+assign-requires-7 c κs =
+    names-quotient _ (c .before .before .before .before .before .before .before .before .before .before .before .before .before .pre) (c .before .before .before .match .keys12) .0
+
+did-to-requires-7 : tie.Need-did-to-requires-7
+did-to-requires-7 c κs = search needs
+
 same-length : tie.Need-same-length
 same-length c = search needs
 
@@ -216,11 +227,20 @@ returns-11 c =
     turned-round (c .before .before .before .before .before .before .before .before .match .keys11) (c .went-to2 .ensures)
     (c .before .before .before .before .before .turn-round .ensures)
 
+same-length-15 : tie.Need-same-length-15
+same-length-15 c = search needs
+
 returns-12 : tie.Need-returns-12
 returns-12 c =
+    assigned-double (c .before .before .before .assign7 .result) ahead.Sum (says-quotient _ (c .before .before .before .before .before .before .before .match .keys12)) (c .did-to7 .ensures)
+    (c .before .before .before .before .divided .ensures _) (c .before .before .before .assign7 .ensures)
+
+returns-13 : tie.Need-returns-13
+returns-13 c =
     let other = c .match .rest in
     none-acts
     (says-none _
+    (other .0 .0 .0 .0 .0 .0 .0 .0 .0 .0 .0 .1)
     (other .0 .0 .0 .0 .0 .0 .0 .0 .0 .0 .1)
     (other .0 .0 .0 .0 .0 .0 .0 .0 .0 .1)
     (other .0 .0 .0 .0 .0 .0 .0 .0 .1)
@@ -270,6 +290,9 @@ act-spec =
     went-to-requires
     turn-round-requires
     went-to-requires-2
+    divided-requires
+    assign-requires-7
+    did-to-requires-7
     same-length
     returns
     same-length-2
@@ -295,4 +318,6 @@ act-spec =
     same-length-13
     same-length-14
     returns-11
-    returns-12)
+    same-length-15
+    returns-12
+    returns-13)

@@ -87,7 +87,7 @@ module _ (A : Arithmetic) where
   buffersOf store values height turns turnHeight copied =
       record { store = store; values = values; height = height; turns = turns; turnHeight = turnHeight; copied = copied }
 
-  -- the right sides, kinds 1 and 3 to 6, and kind 2
+  -- the right sides, kinds 1, 3 to 6 and 18, and kind 2
   abbrev pub Evaluates : Source → (store : List (A .Carrier)) → Try A (A .Carrier) → Type 0
   Evaluates source store got = (constants : List ℕ) → got ≡ evaluated A constants source store
 
@@ -101,7 +101,7 @@ module _ (A : Arithmetic) where
       → Sound setting (buffersOf store values height turns turnHeight copied)
       → Does setting action (buffersOf store values height turns turnHeight copied) (buffersOf after values height turns turnHeight copied) went
 
-  -- kinds 1 to 6, from what the right side came to
+  -- kinds 1 to 6 and 18, from what the right side came to
   pub record Assigns (d : ℕ) (got : Try A (A .Carrier)) (store after : List (A .Carrier)) (went : Try A (Unit {0})) : Type 0 where
     pub does : (setting : Setting A) (source : Source)
         → got ≡ evaluated A (setting .constants) source store

@@ -4,7 +4,7 @@ use borrow.Author.Needs.{needs}
 use Rattle.machine.proofs.LineLaws.{says-copy, says-constant, says-sum, says-difference, says-product, says-negation, says-none}
 use Rattle.machine.proofs.LineLaws.{names-copy, names-constant, names-sum, names-difference, names-product, names-negation, names-save, names-take-back, names-clear}
 use Rattle.machine.specs.declared.Ahead.the-variants as ahead
-use Rattle.machine.proofs.StraightLaws.{none-acts, saved, taken-back, turn-saved, cleared, turned-round, assigned-residue}
+use Rattle.machine.proofs.StraightLaws.{none-acts, saved, taken-back, turn-saved, cleared, turned-round, assigned-residue, undivided-residue}
 use Rattle.residue_rows.proofs.act.Statement.{statement}
 use Rattle.residue_rows.proofs.act.Tie as tie
 
@@ -217,10 +217,14 @@ returns-11 c =
     (c .before .before .before .before .before .turn-round .ensures)
 
 returns-12 : tie.Need-returns-12
-returns-12 c =
+returns-12 c = undivided-residue (c .match .keys12) refl
+
+returns-13 : tie.Need-returns-13
+returns-13 c =
     let other = c .match .rest in
     none-acts
     (says-none _
+    (other .0 .0 .0 .0 .0 .0 .0 .0 .0 .0 .0 .1)
     (other .0 .0 .0 .0 .0 .0 .0 .0 .0 .0 .1)
     (other .0 .0 .0 .0 .0 .0 .0 .0 .0 .1)
     (other .0 .0 .0 .0 .0 .0 .0 .0 .1)
@@ -295,4 +299,5 @@ act-spec =
     same-length-13
     same-length-14
     returns-11
-    returns-12)
+    returns-12
+    returns-13)

@@ -90,12 +90,16 @@ abbrev pub scaledRows : (variables : ℕ) → Bool → (operand other : ℕ) →
 scaledRows v test operand other =
     rowIf test (rowWith 5 (u v) operand (t v)) ++ rowIf test (rowWith 3 (adjointOf v other) (adjointOf v other) (u v))
 
--- and those of a quotient: u := t / b; for a u into ā; for b u := a × u, u := u / b, and u out of b̄
+-- and those of a quotient for the divisor: u := a × u, u := u / b, and u out of b̄
+abbrev pub divisorRows : (variables : ℕ) → Bool → (a b : ℕ) → List Row
+divisorRows v test a b =
+    rowIf test (rowWith 5 (u v) a (u v))
+    ++ (rowIf test (rowWith quotientKind (u v) (u v) b) ++ rowIf test (rowWith 4 (adjointOf v b) (adjointOf v b) (u v)))
+
+-- for both: u := t / b, u into ā, and the divisor's
 abbrev pub dividedRows : (variables : ℕ) → (first second : Bool) → (a b : ℕ) → List Row
 dividedRows v first second a b =
-    rowWith quotientKind (u v) (t v) b
-    ∷ (rowIf first (rowWith 3 (adjointOf v a) (adjointOf v a) (u v)) ++ (rowIf second (rowWith 5 (u v) a (u v))
-    ++ (rowIf second (rowWith quotientKind (u v) (u v) b) ++ rowIf second (rowWith 4 (adjointOf v b) (adjointOf v b) (u v)))))
+    rowWith quotientKind (u v) (t v) b ∷ (rowIf first (rowWith 3 (adjointOf v a) (adjointOf v a) (u v)) ++ divisorRows v second a b)
 
 unfoldable pub derivativesOf : (variables : ℕ) → Row → (mark : ℕ) → List Row
 unfolding sourceOf derivativeRows rowsIn

@@ -6,7 +6,7 @@ use native.Mathlib.Omega.{arith}
 use Rattle.sheet.specs.Answers.{rowSaid}
 use Rattle.table.specs.TableRows.{t}
 use Rattle.writer.proofs.WritingLaws.{wrote-none, wrote-then, room-first, room-after}
-use Rattle.table.proofs.AssignmentRows.{constant-rows, copy-rows, negation-rows, two-rows, product-rows}
+use Rattle.table.proofs.AssignmentRows.{constant-rows, copy-rows, negation-rows, two-rows, product-rows, quotient-rows}
 use Rattle.writer.proofs.rows.parts.Statement.{statement}
 use Rattle.writer.proofs.rows.parts.Tie as tie
 
@@ -17,8 +17,11 @@ is-t : (c : tie.After-bit2) → c .before .before .before .before .t-of .result 
 is-t c = c .before .before .before .before .t-of .ensures
 
 -- what is left of an assignment's kinds after the tests
-sum-or-difference : (c : tie.Else4) → let kind = start (c .before .before .before .before .before .before .before .before) .args .row .kind in (3 ≤ kind) × (kind ≤ 4)
-sum-or-difference c = (omega arith, omega arith)
+sum-or-difference : (c : tie.Else5) → let kind = start (c .before .before .before .before .before .before .before .before .before .before) .args .row .kind in (3 ≤ kind) × (kind ≤ 4)
+sum-or-difference c =
+    let known = c .before .before .before .before .before .before .before .before .before .before in
+    let most = start known .pre .1 .1 .most (c .if5 .left) in
+    (omega (arith, start known .pre .1 .1 .some), omega arith)
 
 t-of-requires : tie.Need-t-of-requires
 t-of-requires c κs = search needs
@@ -105,20 +108,13 @@ returns-4 c =
     let rows = product-rows (x .variables) (rowSaid (x .row)) (x .mark) (known .before .bit .ensures) (known .bit2 .ensures) (added .before .before .if4 .taken) in
     rw rows (wrote-then (added .scaled .ensures) (done .scaled2 .ensures))
 
-put-if-requires-3 : tie.Need-put-if-requires-3
-put-if-requires-3 c κs =
-    let known = c .before .before .before .before .before .before .before .before .before in
+divided-requires : tie.Need-divided-requires
+divided-requires c κs =
+    let known = c .before .before .before .before .before .before .before .before .before .before .before in
     let x = start known .args in
-    let rows = two-rows (x .variables) (rowSaid (x .row)) (x .mark) (known .before .bit .ensures) (known .bit2 .ensures) (is-t known) (sum-or-difference (c .before)) in
-    room-first _ _ (rw rows at (start known .pre .0))
-
-put-if-requires-4 : tie.Need-put-if-requires-4
-put-if-requires-4 c κs =
-    let added = c .before .before .before in
-    let known = added .before .before .before .before .before .before .before .before .before .before in
-    let x = start known .args in
-    let rows = two-rows (x .variables) (rowSaid (x .row)) (x .mark) (known .before .bit .ensures) (known .bit2 .ensures) (is-t known) (sum-or-difference (added .before .before)) in
-    room-after _ (added .put-if3 .ensures) (rw rows at (start known .pre .0))
+    let rows = quotient-rows (x .variables) (rowSaid (x .row)) (x .mark) (known .before .bit .ensures) (known .bit2 .ensures) (c .before .if5 .taken) in
+    let given = start known .pre in
+    (rw rows at (given .0), (given .1 .0 .few, (given .1 .0 .a, given .1 .0 .b)))
 
 same-length-4 : tie.Need-same-length-4
 same-length-4 c = search needs
@@ -126,8 +122,34 @@ same-length-4 c = search needs
 returns-5 : tie.Need-returns-5
 returns-5 c =
     let done = c .before .before in
+    let known = done .before .before .before .before .before .before .before .before .before .before .before .before in
+    let x = start known .args in
+    let rows = quotient-rows (x .variables) (rowSaid (x .row)) (x .mark) (known .before .bit .ensures) (known .bit2 .ensures) (done .before .before .if5 .taken) in
+    rw rows (done .divided .ensures)
+
+put-if-requires-3 : tie.Need-put-if-requires-3
+put-if-requires-3 c κs =
+    let known = c .before .before .before .before .before .before .before .before .before .before .before in
+    let x = start known .args in
+    let rows = two-rows (x .variables) (rowSaid (x .row)) (x .mark) (known .before .bit .ensures) (known .bit2 .ensures) (is-t known) (sum-or-difference (c .before)) in
+    room-first _ _ (rw rows at (start known .pre .0))
+
+put-if-requires-4 : tie.Need-put-if-requires-4
+put-if-requires-4 c κs =
+    let added = c .before .before .before in
+    let known = added .before .before .before .before .before .before .before .before .before .before .before .before in
+    let x = start known .args in
+    let rows = two-rows (x .variables) (rowSaid (x .row)) (x .mark) (known .before .bit .ensures) (known .bit2 .ensures) (is-t known) (sum-or-difference (added .before .before)) in
+    room-after _ (added .put-if3 .ensures) (rw rows at (start known .pre .0))
+
+same-length-5 : tie.Need-same-length-5
+same-length-5 c = search needs
+
+returns-6 : tie.Need-returns-6
+returns-6 c =
+    let done = c .before .before in
     let added = done .before .before .before .before in
-    let known = added .before .before .before .before .before .before .before .before .before .before in
+    let known = added .before .before .before .before .before .before .before .before .before .before .before .before in
     let x = start known .args in
     let rows = two-rows (x .variables) (rowSaid (x .row)) (x .mark) (known .before .bit .ensures) (known .bit2 .ensures) (is-t known) (sum-or-difference (added .before .before)) in
     rw rows (wrote-then (added .put-if3 .ensures) (done .put-if4 .ensures))
@@ -152,7 +174,10 @@ parts-spec =
     scaled-requires-2
     same-length-3
     returns-4
+    divided-requires
+    same-length-4
+    returns-5
     put-if-requires-3
     put-if-requires-4
-    same-length-4
-    returns-5)
+    same-length-5
+    returns-6)
