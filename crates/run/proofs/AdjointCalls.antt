@@ -7,7 +7,7 @@ use native.Mathlib.Omega.{arith}
 use lib.ListN.{length, take, drop, replicate, length-append, length-drop, length-replicate, replicate-append-replicate}
 use lib.Seq.{drop-at}
 use borrow.Rule.Slice.PartAt.{part-to-end}
-use Rattle.number.specs.Arithmetic.{Arithmetic}
+use Rattle.number.specs.Arithmetic.{Arithmetic, divides}
 use Rattle.sheet.specs.Judging.{refused, given}
 use Rattle.sheet.specs.Refusals.{Refusal}
 use Rattle.sheet.specs.Sheets.{Sheet, variablesOf}
@@ -77,11 +77,11 @@ module _ {words : List ℕ} {plan : Plan} {marks came goes : List ℕ} (made : P
 -- ---- refusals 1 to 11, and the run behind them
 
 module _ (A : Arithmetic) (words : List ℕ) (starts seeds : List (A .Carrier)) (lent : Lent A) where
-  pub adjoint-refused : {answer : Reply} → NoRoom needsOf words (roomsOf A starts seeds lent) answer → ranOf A answer lent ≡ run A words starts seeds lent
+  pub adjoint-refused : {answer : Reply} → NoRoom (divides A) needsOf words (roomsOf A starts seeds lent) answer → ranOf A answer lent ≡ run A words starts seeds lent
   unfolding run
   adjoint-refused = refused-run A needsOf words starts seeds lent (adjointJob A starts seeds lent)
 
-  module _ {marks came goes : List ℕ} {plan : Plan} (room : HasRoom needsOf words (roomsOf A starts seeds lent) marks came goes plan) where
+  module _ {marks came goes : List ℕ} {plan : Plan} (room : HasRoom (divides A) needsOf words (roomsOf A starts seeds lent) marks came goes plan) where
     pub adjoint-numbers-refused : {why : Refusal} {answer : Reply} → allAdmitted A (starts ++ seeds) 0 ≡ refused why → Answers answer why
         → ranOf A answer lent ≡ run A words starts seeds lent
     unfolding run

@@ -9,7 +9,7 @@ use native.Mathlib.Omega.{arith}
 use lib.ListN.{length}
 use Rattle.sheet.specs.Bounds.{limit}
 use Rattle.sheet.specs.Tree.{Tree, done, one, fork, again, rows, flat, basic, ifLine, elseLine, endIf, repeat, endRepeat}
-use Rattle.sheet.specs.Rows.{Assignment, _≔_, Source, copy, fixed, sum, difference, product, negation, Test, less, rowOf, rowOfTest}
+use Rattle.sheet.specs.Rows.{Assignment, _≔_, Source, copy, fixed, sum, difference, product, negation, quotient, Test, less, rowOf, rowOfTest}
 use Rattle.sheet.specs.Names.{SourcePresent, AssignmentPresent, TestPresent, Present}
 use Rattle.sheet.specs.Judging.{given}
 use Rattle.sheet.specs.Sheets.{Sheet, rowAt}
@@ -71,6 +71,7 @@ module _ (v k : ℕ) where
   widened (difference a b) (p, q) = (omega arith, omega arith)
   widened (product a b) (p, q) = (omega arith, omega arith)
   widened (negation a) p = omega arith
+  widened (quotient a b) (p, q) = (omega arith, omega arith)
 
   pub test-widened : (f : Test) → TestPresent v f → TestPresent (tableVariables v) f
   unfolding TestPresent
@@ -126,6 +127,7 @@ module _ (v k : ℕ) where
   action-no-comparison (assign (d ≔ difference a b)) is = omega arith
   action-no-comparison (assign (d ≔ product a b)) is = omega arith
   action-no-comparison (assign (d ≔ negation a)) is = omega arith
+  action-no-comparison (assign (d ≔ quotient a b)) is = omega arith
   action-no-comparison (save d) is = omega arith
   action-no-comparison (takeBack d) is = omega arith
   action-no-comparison (saveTurn first) is = omega arith

@@ -8,7 +8,7 @@ use lib.Seq.{set-append-left}
 use native.Mathlib.Omega.{arith}
 use borrow.Author.Tests.{lt-ltb}
 use Rattle.number.specs.Arithmetic.{Arithmetic}
-use Rattle.sheet.specs.Rows.{Source, copy, fixed, sum, difference, product, negation, Test, less}
+use Rattle.sheet.specs.Rows.{Source, copy, fixed, sum, difference, product, negation, quotient, Test, less}
 use Rattle.sheet.specs.Names.{SourcePresent, TestPresent}
 use Rattle.machine.specs.Actions.{through, replaced, evaluated, compared}
 use Rattle.machine.proofs.PlaceLaws.{place-there}
@@ -28,6 +28,7 @@ module _ (A : Arithmetic) where
     evaluated-originals constants (difference a b) p = rw (same-original a (p .0), same-original b (p .1))
     evaluated-originals constants (product a b) p = rw (same-original a (p .0), same-original b (p .1))
     evaluated-originals constants (negation a) p = rw (same-original a p)
+    evaluated-originals constants (quotient a b) p = rw (same-original a (p .0), same-original b (p .1))
 
     pub compared-originals : (f : Test) → TestPresent v f → compared A f (store ++ tail) ≡ compared A f store
     unfolding compared TestPresent

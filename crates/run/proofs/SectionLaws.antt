@@ -1,6 +1,7 @@
 -- The sections of an accepted sheet in its words, as the call hands them to the runner.
 use Prim.Native.Nat.{ℕ, suc, _+_, _*_, _-_, _≤_}
 use mathlib.Core.Path.{_≡_, sym, ap, _∙_}
+use mathlib.Core.Bool.{Bool}
 use mathlib.Core.List.{List}
 use native.Mathlib.Omega.{arith}
 use lib.ListN.{length, take, drop, replicate, length-drop, length-replicate, replicate-append-replicate}
@@ -63,8 +64,8 @@ sections words shape sheet read is =
     }
 
 -- what the plan's lengths leave room for
-pub sheet-room : {X : Type 0} {needs : Sheet → Needs} {words : List ℕ} {t n m : ℕ} {marks came goes : List ℕ} {plan : Plan} (starts seeds result : List X)
-    → HasRoom needs words
+pub sheet-room : {X : Type 0} {divides : Bool} {needs : Sheet → Needs} {words : List ℕ} {t n m : ℕ} {marks came goes : List ℕ} {plan : Plan} (starts seeds result : List X)
+    → HasRoom divides needs words
     (record { table = t; values = n; turns = m; starts = length starts; seeds = length seeds; result = length result }) marks came goes plan
     → SheetRoom words plan starts seeds result
 sheet-room {words = words} {plan = plan} starts seeds result room =

@@ -6,7 +6,7 @@ use mathlib.Core.List.{List}
 use native.Mathlib.Omega.{arith}
 use lib.ListN.{length}
 use Rattle.sheet.specs.Tree.{done, one, fork, again, RowNumber}
-use Rattle.sheet.specs.Rows.{Assignment, _≔_, Source, copy, fixed, sum, difference, product, negation}
+use Rattle.sheet.specs.Rows.{Assignment, _≔_, Source, copy, fixed, sum, difference, product, negation, quotient}
 use Rattle.sheet.specs.Names.{SourcePresent, AssignmentPresent}
 use Rattle.sheet.specs.Judging.{given}
 use Rattle.sheet.specs.Sheets.{Sheet}
@@ -64,6 +64,12 @@ module _ (v k : ℕ) where
       (put-if (known .variedB) row _ _ _ (omega arith, (omega arith, omega arith))
       (put-if (known .variedB) row _ _ rest (omega arith, (omega arith, omega arith)) later)))
   parts-known (negation a) row known rest p later = put-if (known .variedA) row _ _ rest (omega arith, (omega arith, omega arith)) later
+  parts-known (quotient a b) row known rest (p, q) later =
+      put-if true row _ _ _ (omega arith, (omega arith, omega arith))
+      (put-if (known .variedA) row _ _ _ (omega arith, (omega arith, omega arith))
+      (put-if (known .variedB) row _ _ _ (omega arith, (omega arith, omega arith))
+      (put-if (known .variedB) row _ _ _ (omega arith, (omega arith, omega arith))
+      (put-if (known .variedB) row _ _ rest (omega arith, (omega arith, omega arith)) later))))
 
   derivatives-known : (active : Bool) (d : ℕ) (source : Source) (row : RowNumber) (known : Activity) (rest : Table) → d < v → SourcePresent v k source
       → KnownIn v k rest

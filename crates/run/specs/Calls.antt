@@ -4,7 +4,7 @@ use Prim.Native.Nat.{ℕ, suc, _*_}
 use mathlib.Core.List.{List, [], _∷_, _++_}
 use lib.ListN.{length, replicate}
 use lib.Dec.{leb, eqb}
-use Rattle.number.specs.Arithmetic.{Arithmetic}
+use Rattle.number.specs.Arithmetic.{Arithmetic, divides}
 use Rattle.sheet.specs.Judging.{Answer, refused, given, _>>=_, unless}
 use Rattle.sheet.specs.Refusals.{numberOf, placeOf, smallValueStack, smallTurnStack, wrongStarts, wrongSeeds, wrongResult, notFiniteGiven, notFiniteResult}
 use Rattle.sheet.specs.Sheets.{Sheet, variablesOf}
@@ -24,11 +24,11 @@ module _ (A : Arithmetic) where
     _ ← unless (A .admits x) (notFiniteGiven place)
     allAdmitted xs (suc place)
 
-  -- refusals 1 to 11, "the rest in number order", where a sheet needs so much
+  -- refusals 1 to 11, "the rest in number order", where a sheet needs so much; and where the arithmetic doesn't divide 13, "after 7 and before 8"
   unfoldable pub readToRun : (needs : Sheet → Needs) → (words : List ℕ) → (starts seeds : List (A .Carrier)) → Lent A → Answer Sheet
   unfolding readFor allAdmitted
   readToRun needs words starts seeds lent = do
-    sheet ← readFor needs words (length (lent .table))
+    sheet ← readFor (divides A) needs words (length (lent .table))
     let v = variablesOf sheet
     _ ← unless (leb (needs sheet .values) (length (lent .values))) smallValueStack
     _ ← unless (leb (needs sheet .turns) (length (lent .turns))) smallTurnStack
@@ -68,7 +68,7 @@ module _ (A : Arithmetic) where
   abbrev pub ranBy : Job A → Lent A → Ran A
   ranBy job lent = ranTo job lent (runOf A (job .table) (job .setting) (job .start))
 
-  -- "Refusals 1 to 11 change no buffer."
+  -- "Refusals 1 to 11 change no buffer.", nor does 13
   unfoldable pub ranOn : (job : Sheet → Job A) → Answer Sheet → Lent A → Ran A
   unfolding numberOf placeOf runOf ranTo
   ranOn job (refused r) lent = record { number = numberOf r; place = placeOf r; lent = lent }

@@ -1,12 +1,13 @@
-// Refusals 1 to 11, judged one after another, and the numbers 9 to 12.
+// Refusals 1 to 11 and 13, judged one after another, and the numbers 9 to 12.
 ghost use mathlib.Core.Path.{_≡_};
+ghost use mathlib.Core.Bool.{Bool};
 ghost use mathlib.Core.List.{List, _++_};
 ghost use Prim.Native.Nat.{ℕ, _+_, _^_, _<_};
 ghost use lib.ListN.{length};
 ghost use Rattle.number.specs.Doubles.{doubles};
 ghost use Rattle.sheet.specs.Sheets.{Sheet};
 ghost use Rattle.table.specs.Sizes.{Needs};
-ghost use Rattle.table.specs.inner.Plans.{PlanSaysFor};
+ghost use Rattle.table.specs.inner.Plans.{PlanSaysIn};
 ghost use Rattle.run.specs.Calls.{allAdmitted};
 ghost use Rattle.run.specs.inner.CallSteps.{fitSaid, unfitRefusal, tableFits, stacksFit, lengthsFit, roomsFit, Answers, JudgedAs, answerAt};
 use super::Fit;
@@ -146,10 +147,10 @@ pub fn answer_no(why: Unfit) -> Reply
     }
 }
 
-// 1 to 10: what is lent is held against the sheet's plan, whatever its table needs.
+// 1 to 10, and 13 where the plan says it: what is lent is held against the sheet's plan, whatever its table needs.
 pub fn judge(planned: Planned, rooms: Rooms) -> Judged
-    ensures { λ r. ⌜ ((needs : Sheet → Needs) (words marks came goes : List ℕ) → PlanSaysFor needs words marks came goes planned
-        → JudgedAs needs words rooms marks came goes r) ⌝ }
+    ensures { λ r. ⌜ ((divides : Bool) (needs : Sheet → Needs) (words marks came goes : List ℕ) → PlanSaysIn divides needs words marks came goes planned
+        → JudgedAs divides needs words rooms marks came goes r) ⌝ }
 {
     match planned {
         Planned::Refused(why) => Judged::No(Reply {

@@ -57,11 +57,11 @@ roomsFit plan rooms = do
   _ ← stacksFit (plan .values) (rooms .values) (plan .turns) (rooms .turns)
   lengthsFit (plan .shape .variables) (rooms .starts) (rooms .seeds) (rooms .result)
 
--- 1 to 10, of the words themselves, where a sheet needs so much
-unfoldable pub readWithRoom : (needs : Sheet → Needs) → (words : List ℕ) → Rooms → Answer Sheet
+-- 1 to 10, and 13 between 7 and 8, of the words themselves, where a sheet needs so much
+unfoldable pub readWithRoom : (divides : Bool) → (needs : Sheet → Needs) → (words : List ℕ) → Rooms → Answer Sheet
 unfolding readFor
-readWithRoom needs words rooms = do
-  sheet ← readFor needs words (rooms .table)
+readWithRoom divides needs words rooms = do
+  sheet ← readFor divides needs words (rooms .table)
   _ ← stacksFit (needs sheet .values) (rooms .values) (needs sheet .turns) (rooms .turns)
   _ ← lengthsFit (variablesOf sheet) (rooms .starts) (rooms .seeds) (rooms .result)
   given sheet
@@ -85,24 +85,24 @@ pub record Answers (answer : answered.Reply) (why : Refusal) : Type 0 where
   pub number : answer .number ≡ numberOf why
   pub place : answer .place ≡ placeOf why
 
--- refused by one of 1 to 10, and answered so
-pub record NoRoom (needs : Sheet → Needs) (words : List ℕ) (rooms : Rooms) (answer : answered.Reply) : Type 0 where
+-- refused by one of these, and answered so
+pub record NoRoom (divides : Bool) (needs : Sheet → Needs) (words : List ℕ) (rooms : Rooms) (answer : answered.Reply) : Type 0 where
   pub why : Refusal
-  pub is : readWithRoom needs words rooms ≡ refused why
+  pub is : readWithRoom divides needs words rooms ≡ refused why
   pub answers : Answers answer why
 
 -- refused by none of them, and planned: the lengths are those that the plan asks
-pub record HasRoom (needs : Sheet → Needs) (words : List ℕ) (rooms : Rooms) (marks came goes : List ℕ) (plan : Plan) : Type 0 where
+pub record HasRoom (divides : Bool) (needs : Sheet → Needs) (words : List ℕ) (rooms : Rooms) (marks came goes : List ℕ) (plan : Plan) : Type 0 where
   pub made : PlanMadeFor needs words plan marks came goes
-  pub is : readWithRoom needs words rooms ≡ given (made .sheet)
+  pub is : readWithRoom divides needs words rooms ≡ given (made .sheet)
   pub tableFits : tableRoom (plan .rows) ≤ rooms .table
   pub startsFit : rooms .starts ≡ plan .shape .variables
   pub seedsFit : rooms .seeds ≡ plan .shape .variables
   pub resultFits : rooms .result ≡ 2 * plan .shape .variables
 
-abbrev pub JudgedAs : (needs : Sheet → Needs) (words : List ℕ) → Rooms → (marks came goes : List ℕ) → Judged → Type 0
-JudgedAs needs words rooms marks came goes (judged.No answer) = NoRoom needs words rooms answer
-JudgedAs needs words rooms marks came goes (judged.HasRoom plan) = HasRoom needs words rooms marks came goes plan
+abbrev pub JudgedAs : (divides : Bool) (needs : Sheet → Needs) (words : List ℕ) → Rooms → (marks came goes : List ℕ) → Judged → Type 0
+JudgedAs divides needs words rooms marks came goes (judged.No answer) = NoRoom divides needs words rooms answer
+JudgedAs divides needs words rooms marks came goes (judged.HasRoom plan) = HasRoom divides needs words rooms marks came goes plan
 
 -- ---- a run's end
 

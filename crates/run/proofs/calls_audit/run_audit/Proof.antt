@@ -1,7 +1,12 @@
 -- `run::calls_audit::run_audit` meets its contract.
+use Prim.Native.Nat.{ℕ}
 use mathlib.Core.Path.{subst}
+use mathlib.Core.Bool.{false}
+use mathlib.Core.List.{List}
 use Rattle.number.specs.Residues.{residues}
 use Rattle.table.specs.Computed.{needsOf}
+use Rattle.table.specs.inner.Plans.{PlanSaysIn}
+use Rattle.table.proofs.QuotientLaws.{rows-within}
 use Rattle.run.specs.inner.CallSteps.{JudgedAs}
 use Rattle.run.proofs.AdmittedLaws.{residues-admitted}
 use Rattle.run.proofs.SectionLaws.{sheet-room}
@@ -12,6 +17,27 @@ use Rattle.run.proofs.calls_audit.run_audit.Tie as tie
 
 plan-sheet-requires : tie.Need-plan-sheet-requires
 plan-sheet-requires c κs = search needs
+
+-- the words, and the marks and partners that the plan came with
+module _ (c : tie.After-plan-sheet) where
+  abbrev words : List ℕ
+  words = c .before .before .before .before .before .before .before .before .before .before .before .args .words .now
+
+  abbrev marks : List ℕ
+  marks = c .plan-sheet .last .1 .0
+
+  abbrev came : List ℕ
+  came = c .plan-sheet .last .1 .1 .0
+
+  abbrev goes : List ℕ
+  goes = c .plan-sheet .last .1 .1 .1 .0
+
+undivided-requires : tie.Need-undivided-requires
+undivided-requires c κs = rows-within needsOf (words c) (marks c) (came c) (goes c) (c .plan-sheet .result) (c .plan-sheet .ensures .0)
+
+-- the plan, of an arithmetic that doesn't divide
+allowed : (c : tie.After-undivided) → let at = c .before in PlanSaysIn false needsOf (words at) (marks at) (came at) (goes at) (c .undivided .result)
+allowed c = let at = c .before in c .undivided .ensures needsOf (marks at) (came at) (goes at) (at .plan-sheet .ensures .0)
 
 judge-requires : tie.Need-judge-requires
 judge-requires c κs = search needs
@@ -26,7 +52,7 @@ write-planned-requires : tie.Need-write-planned-requires
 write-planned-requires c κs =
     let planned = c .before .before .before .before .before .before in
     let judged = planned .before .before in
-    let room = subst (JudgedAs needsOf _ _ _ _ _) (planned .plan .given .1) (judged .judge .ensures needsOf _ _ _ _ (judged .before .plan-sheet .ensures .0)) in
+    let room = subst (JudgedAs false needsOf _ _ _ _ _) (planned .plan .given .1) (judged .judge .ensures false needsOf _ _ _ _ (allowed (judged .before))) in
     (room .made, room .tableFits)
 
 run-written-requires : tie.Need-run-written-requires
@@ -34,14 +60,14 @@ run-written-requires c κs =
     let wrote = c .before .before .before .before .before .before .before in
     let planned = wrote .before .before .before .before .before .before .before in
     let judged = planned .before .before in
-    let room = subst (JudgedAs needsOf _ _ _ _ _) (planned .plan .given .1) (judged .judge .ensures needsOf _ _ _ _ (judged .before .plan-sheet .ensures .0)) in
+    let room = subst (JudgedAs false needsOf _ _ _ _ _) (planned .plan .given .1) (judged .judge .ensures false needsOf _ _ _ _ (allowed (judged .before))) in
     (adjoint-indexed (room .made) (wrote .write-planned .ensures), sheet-room _ _ _ room)
 
 returns : tie.Need-returns
 returns c =
     let judged = c .before .before .before in
     adjoint-refused residues _ _ _ _
-    (subst (JudgedAs needsOf _ _ _ _ _) (c .before .answer .given .1) (judged .judge .ensures needsOf _ _ _ _ (judged .before .plan-sheet .ensures .0)))
+    (subst (JudgedAs false needsOf _ _ _ _ _) (c .before .answer .given .1) (judged .judge .ensures false needsOf _ _ _ _ (allowed (judged .before))))
 
 same-length : tie.Need-same-length
 same-length c = search needs
@@ -61,7 +87,7 @@ returns-2 c =
     let wrote = ran .before .before .before .before .before .before .before .before in
     let planned = wrote .before .before .before .before .before .before .before in
     let judged = planned .before .before in
-    let room = subst (JudgedAs needsOf _ _ _ _ _) (planned .plan .given .1) (judged .judge .ensures needsOf _ _ _ _ (judged .before .plan-sheet .ensures .0)) in
+    let room = subst (JudgedAs false needsOf _ _ _ _ _) (planned .plan .given .1) (judged .judge .ensures false needsOf _ _ _ _ (allowed (judged .before))) in
     adjoint-ran residues _ _ _ _ room (residues-admitted _ _) (wrote .write-planned .ensures) (ran .run-written .ensures)
 
 pub run-audit-spec : {M : Type 1} → statement M
@@ -69,6 +95,7 @@ run-audit-spec =
     tie.close
     (tie.spec
     plan-sheet-requires
+    undivided-requires
     judge-requires
     enum-known-answer
     enum-known-plan

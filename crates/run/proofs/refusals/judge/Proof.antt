@@ -1,6 +1,6 @@
 -- `run::refusals::judge` meets its contract.
 use mathlib.Core.Path.{subst}
-use Rattle.table.specs.inner.Plans.{PlanSaysFor}
+use Rattle.table.specs.inner.Plans.{PlanSaysIn}
 use Rattle.run.proofs.CallsJudged.{said, unread, rooms-refuse, rooms-fit}
 use borrow.Author.Needs.{needs}
 use Rattle.run.proofs.refusals.judge.Statement.{statement}
@@ -32,23 +32,23 @@ enum-told c = search needs
 
 returns : tie.Need-returns
 returns c =
-    λ sheetNeeds words marks came goes says.
-    unread _ (subst (PlanSaysFor sheetNeeds words marks came goes) (c .before .before .before .planned .given .1) says)
+    λ divides sheetNeeds words marks came goes says.
+    unread divides _ (subst (PlanSaysIn divides sheetNeeds words marks came goes) (c .before .before .before .planned .given .1) says)
     (record { number = c .before .number-of .ensures; place = c .place-of .ensures })
 
 returns-2 : tie.Need-returns-2
 returns-2 c =
     let judged = c .before .before .before .before in
-    λ sheetNeeds words marks came goes says.
-    rooms-refuse _ (subst (PlanSaysFor sheetNeeds words marks came goes) (judged .before .before .planned2 .given .1) says)
-    (said (judged .rooms-fit .ensures) (c .before .before .why .given .1)) (c .answer-no .ensures)
+    λ divides sheetNeeds words marks came goes says.
+    let made = subst (PlanSaysIn divides sheetNeeds words marks came goes) (judged .before .before .planned2 .given .1) says in
+    rooms-refuse divides _ (made .0) (made .1) (said (judged .rooms-fit .ensures) (c .before .before .why .given .1)) (c .answer-no .ensures)
 
 returns-3 : tie.Need-returns-3
 returns-3 c =
     let judged = c .before .before in
-    λ sheetNeeds words marks came goes says.
-    rooms-fit _ (subst (PlanSaysFor sheetNeeds words marks came goes) (judged .before .before .planned2 .given .1) says)
-    (said (judged .rooms-fit .ensures) (c .enum-told .given .1))
+    λ divides sheetNeeds words marks came goes says.
+    let made = subst (PlanSaysIn divides sheetNeeds words marks came goes) (judged .before .before .planned2 .given .1) says in
+    rooms-fit divides _ (made .0) (made .1) (said (judged .rooms-fit .ensures) (c .enum-told .given .1))
 
 pub judge-spec : {M : Type 1} → statement M
 judge-spec =
