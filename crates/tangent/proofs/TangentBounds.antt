@@ -1,4 +1,4 @@
--- A tangent table's blocks nest no deeper than its sheet's, and its run takes at most four steps for each that W counts: so the runner has room and
+-- A tangent table's blocks nest no deeper than its sheet's, and its run takes at most six steps for each that W counts: so the runner has room and
 -- steps enough for it.
 use Prim.Native.Nat.{ℕ, suc, _+_, _*_, _≤_}
 use mathlib.Core.Path.{_≡_, refl}

@@ -6,7 +6,7 @@ use native.Mathlib.Omega.{arith}
 use lib.ListN.{length, take, drop, replicate, length-append, length-drop, length-replicate, replicate-append-replicate}
 use lib.Seq.{drop-at, length-take-le}
 use borrow.Rule.Slice.PartAt.{part-to-end}
-use Rattle.number.specs.Arithmetic.{Arithmetic}
+use Rattle.number.specs.Arithmetic.{Arithmetic, divides}
 use Rattle.sheet.specs.Judging.{refused, given}
 use Rattle.sheet.specs.Refusals.{Refusal}
 use Rattle.sheet.specs.Rows.{isIndependent}
@@ -59,12 +59,12 @@ module _ (A : Arithmetic) (words : List ℕ) (starts rates : List (A .Carrier)) 
   abbrev lent : Lent A
   lent = withoutStacks A buffer result
 
-  pub tangent-refused : {answer : Reply} → NoRoom tangentNeedsOf words (roomsOf A starts rates lent) answer
+  pub tangent-refused : {answer : Reply} → NoRoom (divides A) tangentNeedsOf words (roomsOf A starts rates lent) answer
       → ranOf A answer lent ≡ runTangent A words starts rates lent
   unfolding runTangent
   tangent-refused = refused-run A tangentNeedsOf words starts rates lent (tangentJob A starts rates)
 
-  module _ {marks came goes : List ℕ} {plan : Plan} (room : HasRoom tangentNeedsOf words (roomsOf A starts rates lent) marks came goes plan) where
+  module _ {marks came goes : List ℕ} {plan : Plan} (room : HasRoom (divides A) tangentNeedsOf words (roomsOf A starts rates lent) marks came goes plan) where
     pub tangent-numbers-refused : {why : Refusal} {answer : Reply} → allAdmitted A (starts ++ rates) 0 ≡ refused why → Answers answer why
         → ranOf A answer lent ≡ runTangent A words starts rates lent
     unfolding runTangent

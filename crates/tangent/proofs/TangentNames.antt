@@ -7,7 +7,7 @@ use native.Mathlib.Omega.{arith}
 use lib.ListN.{length}
 use Rattle.sheet.specs.Judging.{given}
 use Rattle.sheet.specs.Tree.{done, one, fork, again, RowNumber}
-use Rattle.sheet.specs.Rows.{Assignment, _≔_, Source, copy, fixed, sum, difference, product, negation}
+use Rattle.sheet.specs.Rows.{Assignment, _≔_, Source, copy, fixed, sum, difference, product, negation, quotient}
 use Rattle.sheet.specs.Names.{SourcePresent, AssignmentPresent}
 use Rattle.sheet.specs.Sheets.{Sheet}
 use Rattle.sheet.specs.Reading.{read}
@@ -18,7 +18,7 @@ use Rattle.table.specs.RowBounds.{tableVariables}
 use Rattle.table.specs.TableRows.{Table, t, u, assign, itself}
 use Rattle.table.specs.Adjoint.{Body, put}
 use Rattle.run.proofs.KnownNames.{KnownIn, BodyKnown, widened, test-widened, sheet-known}
-use Rattle.tangent.specs.Tangent.{rateOf, setRate, noRate, bothTerms, fromVaried, activeRates, rateRows, tangentRow, tangentTable, tangentBy}
+use Rattle.tangent.specs.Tangent.{rateOf, setRate, noRate, bothTerms, secondTerm, bothQuotients, fromVaried, activeRates, rateRows, tangentRow, tangentTable, tangentBy}
 use Rattle.tangent.specs.Calls.{tangentOf}
 
 module _ (v k : ℕ) where
@@ -37,6 +37,21 @@ module _ (v k : ℕ) where
   unfolding KnownIn AssignmentPresent SourcePresent
   both-terms d a b row rest target p q later =
       ((omega arith, (omega arith, omega arith)), ((omega arith, (omega arith, omega arith)), set-rate d (sum (u v) (t v)) row rest target (omega arith, omega arith) later))
+
+  second-term : (a b : ℕ) (row : RowNumber) (rest : Table) → a < v → b < v → KnownIn v k rest → KnownIn v k (secondTerm v a b row rest)
+  unfolding KnownIn AssignmentPresent SourcePresent
+  second-term a b row rest p q later = (
+    (omega arith, (omega arith, omega arith)),
+    ((omega arith, (omega arith, omega arith)), ((omega arith, (omega arith, omega arith)), later)),
+  )
+
+  both-quotients : (d a b : ℕ) (row : RowNumber) (rest : Table) → d < v → a < v → b < v → KnownIn v k rest
+      → KnownIn v k (bothQuotients v d a b row rest)
+  unfolding KnownIn AssignmentPresent SourcePresent
+  both-quotients d a b row rest target p q later = (
+    (omega arith, (omega arith, omega arith)),
+    second-term a b row (setRate v d (difference (u v) (t v)) row rest) p q (set-rate d (difference (u v) (t v)) row rest target (omega arith, omega arith) later),
+  )
 
   -- whichever operands are varied
   any-varied : {X : Type 0} (Good : X → Type 0) (known : Activity) (both ofA ofB : X) → Good both → Good ofA → Good ofB → Good (fromVaried known both ofA ofB)
@@ -66,6 +81,11 @@ module _ (v k : ℕ) where
       (set-rate d (product b (rateOf v a)) row rest target (omega arith, omega arith) later)
       (set-rate d (product a (rateOf v b)) row rest target (omega arith, omega arith) later)
   active-known d (negation a) row known rest target p later = set-rate d _ row rest target (omega arith) later
+  active-known d (quotient a b) row known rest target (p, q) later =
+      any-varied (KnownIn v k) known (bothQuotients v d a b row rest) (setRate v d (quotient (rateOf v a) b) row rest)
+      (secondTerm v a b row (setRate v d (negation (t v)) row rest)) (both-quotients d a b row rest target p q later)
+      (set-rate d (quotient (rateOf v a) b) row rest target (omega arith, omega arith) later)
+      (second-term a b row (setRate v d (negation (t v)) row rest) p q (set-rate d (negation (t v)) row rest target (omega arith) later))
 
   rates-known : (b : Assignment) (row : RowNumber) (known : Activity) (rest : Table) → AssignmentPresent v k b → KnownIn v k rest
       → KnownIn v k (rateRows v b row known rest)

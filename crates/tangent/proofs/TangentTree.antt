@@ -6,7 +6,7 @@ use mathlib.Core.List.{List, [], _∷_, _++_, append-assoc, append-nil}
 use lib.ListN.{getD}
 use native.Mathlib.Omega.{arith}
 use Rattle.sheet.specs.Tree.{Tree, done, one, fork, again, basic, ifLine, elseLine, endIf, repeat, endRepeat, flat, rows}
-use Rattle.sheet.specs.Rows.{Assignment, Test, Source, copy, fixed, sum, difference, product, negation, SheetLine, Row, sheetRowOf, rowOf, rowOfTest, treeRows}
+use Rattle.sheet.specs.Rows.{Assignment, Test, Source, copy, fixed, sum, difference, product, negation, quotient, SheetLine, Row, sheetRowOf, rowOf, rowOfTest, treeRows}
 use Rattle.sheet.specs.inner.RowLines.{numberedRow, sourceOf}
 use Rattle.sheet.specs.Sheets.{rowsAt}
 use Rattle.sheet.proofs.RowsByNumber.{StandsAt, tree-stands, stands-after}
@@ -21,7 +21,7 @@ use Rattle.writer.specs.inner.RowsWritten.{rowsAlong}
 use Rattle.writer.proofs.TableTree.{fork-before, again-before}
 use Rattle.writer.proofs.PassOver.{along-step}
 use Rattle.tangent.specs.Tangent.{tangentTable, rateCount}
-use Rattle.tangent.specs.inner.TangentPlans.{mostLineCount}
+use Rattle.tangent.specs.inner.TangentPlans.{mostRates, mostLineCount, quotientCount}
 use Rattle.tangent.specs.inner.TangentRowsWritten.{tangentOfLine}
 use Rattle.tangent.proofs.TangentLines.{marked-tangent, assignment-counted}
 
@@ -97,7 +97,7 @@ module _ (v : ℕ) (words : List ℕ) (first : ℕ) (marks came goes : List ℕ)
 
 -- ---- how many they are at most
 
-pub most-rates : (source : Source) (known : Activity) → rateCount source known ≤ 3
+pub most-rates : (source : Source) (known : Activity) → rateCount source known ≤ mostRates
 unfolding rateCount
 most-rates (copy a) known = omega arith
 most-rates (fixed c) known = omega arith
@@ -105,12 +105,19 @@ most-rates (sum a b) known = omega arith
 most-rates (difference a b) known = omega arith
 most-rates (product a b) known = at-most (known .active) (known .variedA) (known .variedB)
   where
-    at-most : (active first second : Bool) → cond active (cond first (cond second 3 1) 1) 1 ≤ 3
+    at-most : (active first second : Bool) → cond active (cond first (cond second 3 1) 1) 1 ≤ mostRates
     at-most true true true = omega arith
     at-most true true false = omega arith
     at-most true false second = omega arith
     at-most false first second = omega arith
 most-rates (negation a) known = omega arith
+most-rates (quotient a b) known = at-most (known .active) (known .variedA) (known .variedB)
+  where
+    at-most : (active first second : Bool) → cond active (quotientCount first second) 1 ≤ mostRates
+    at-most true true true = omega arith
+    at-most true true false = omega arith
+    at-most true false second = omega arith
+    at-most false first second = omega arith
 
 pub tangent-rows-bound : (v : ℕ) (t : Body) → rows (tangentTable v t) ≤ mostLineCount * rows t
 unfolding tangentTable rows

@@ -2,11 +2,11 @@
 use Prim.Native.Nat.{ℕ, _+_}
 use mathlib.Core.Bool.{cond}
 use Rattle.sheet.specs.Tree.{done, one, fork, again, rows, RowNumber}
-use Rattle.sheet.specs.Rows.{_≔_, Source, copy, fixed, sum, difference, product, negation, Assignment}
+use Rattle.sheet.specs.Rows.{_≔_, Source, copy, fixed, sum, difference, product, negation, quotient, Assignment}
 use Rattle.sheet.specs.Sheets.{Sheet, variablesOf}
 use Rattle.sets.specs.Transfers.{Activity}
 use Rattle.sets.specs.Marks.{Sets, Marked, markedBy}
-use Rattle.table.specs.TableRows.{t, u, assign, clear, whether, itself, ratingA, ratingB, rating, Table}
+use Rattle.table.specs.TableRows.{t, u, assign, clear, whether, itself, ratingA, ratingB, rating, ratingOverB, ratingOverBAgain, Table}
 use Rattle.table.specs.Adjoint.{Body, put}
 use Rattle.table.specs.Sizes.{Needs}
 
@@ -33,6 +33,19 @@ module _ (variables : ℕ) where
       put row ratingA (assign (u variables ≔ product b (rateOf a)))
       (put row ratingB (assign (t variables ≔ product a (rateOf b))) (setRate d (sum (u variables) (t variables)) row rest))
 
+  -- a quotient's (02 §4): "t := a × ḃ, t := t / b, t := t / b"
+  abbrev pub secondTerm : (a b : ℕ) → RowNumber → Table → Table
+  secondTerm a b row rest =
+      put row ratingB (assign (t variables ≔ product a (rateOf b)))
+      (put row ratingOverB (assign (t variables ≔ quotient (t variables) b))
+      (put row ratingOverBAgain (assign (t variables ≔ quotient (t variables) b)) rest))
+
+  -- "u := ȧ / b, t := .., ḋ := u − t, each term only if varied; the first alone is ȧ / b straight into ḋ, the second alone the t rows, then ḋ := −t"
+  abbrev pub bothQuotients : (d a b : ℕ) → RowNumber → Table → Table
+  bothQuotients d a b row rest =
+      put row ratingA (assign (u variables ≔ quotient (rateOf a) b))
+      (secondTerm a b row (setRate d (difference (u variables) (t variables)) row rest))
+
   -- "Copy: ȧ. Negation: the rate negated. Sum and difference: the same operation on the rates, or copy or negation of the one varied."
   -- A constant has no rate.
   unfoldable pub activeRates : (d : ℕ) → Source → RowNumber → Activity → Table → Table
@@ -45,6 +58,9 @@ module _ (variables : ℕ) where
   activeRates d (product a b) row known rest =
       fromVaried known (bothTerms d a b row rest) (setRate d (product b (rateOf a)) row rest) (setRate d (product a (rateOf b)) row rest)
   activeRates d (negation a) row known rest = setRate d (negation (rateOf a)) row rest
+  activeRates d (quotient a b) row known rest =
+      fromVaried known (bothQuotients d a b row rest) (setRate d (quotient (rateOf a) b) row rest)
+      (secondTerm a b row (setRate d (negation (t variables)) row rest))
 
   -- "An inactive assignment's one rate row .. sets ḋ to 0."
   unfoldable pub rateRows : Assignment → RowNumber → Activity → Table → Table
@@ -64,7 +80,7 @@ module _ (variables : ℕ) where
   tangentTable (fork f a b k) = fork (whether (f .test)) (tangentTable a) (tangentTable b) (tangentTable k)
   tangentTable (again n a k) = again n (tangentTable a) (tangentTable k)
 
--- how many rate rows the table has before an assignment: three for both terms of a product, else one
+-- how many rate rows the table has before an assignment: three for both terms of a product, five for a quotient's, four for its second, else one
 unfoldable pub rateCount : Source → Activity → ℕ
 rateCount (copy a) known = 1
 rateCount (fixed c) known = 1
@@ -72,6 +88,7 @@ rateCount (sum a b) known = 1
 rateCount (difference a b) known = 1
 rateCount (product a b) known = cond (known .active) (fromVaried known 3 1 1) 1
 rateCount (negation a) known = 1
+rateCount (quotient a b) known = cond (known .active) (fromVaried known 5 1 4) 1
 
 -- and how many with the assignment's own row
 abbrev pub rowsOver : Assignment → Activity → ℕ

@@ -140,7 +140,8 @@ pub fn tangent_audit(
         result: result.len(),
     };
     let planned = super::plan_tangent(words, &mut marks, &mut came, &mut goes);
-    match refusals::judge(planned, rooms) {
+    let allowed = table::undivided(words, planned);
+    match refusals::judge(allowed, rooms) {
         Judged::No(answer) => answer,
         Judged::HasRoom(plan) => {
             let mut beyond = [0u16; MAX_TABLE_ROWS];

@@ -4,7 +4,7 @@ ghost use Rattle.sheet.specs.inner.RowLines.{lineOfRow};
 ghost use Rattle.sheet.specs.Answers.{rowSaid};
 ghost use Rattle.table.specs.inner.MarkedRows.{SmallWords, Assigns, SaysPart};
 ghost use Rattle.writer.specs.inner.RowsWritten.{RowRoom, Wrote};
-ghost use Rattle.tangent.specs.inner.TangentRowsWritten.{combinedRate, termRates, activeRatesOf, ratesOf, tangentOfLine};
+ghost use Rattle.tangent.specs.inner.TangentRowsWritten.{combinedRate, termRates, secondRates, quotientRates, activeRatesOf, ratesOf, tangentOfLine};
 use sheet::RowWords;
 use sheet::kinds;
 use sheet::kinds::Part;
@@ -64,6 +64,46 @@ fn term_rates(
     put(table, place, kinds::PRODUCT, d_rate, row.a, b_rate)
 }
 
+// The second term of a quotient's rate: t := a × ḃ, t := t / b, and once more.
+fn second_rates(table: &mut [u16], place: usize, variables: u16, row: RowWords) -> usize
+    requires { ⌜ RowRoom (now table) place (secondRates variables (rowSaid row)) ⌝ ∗ ⌜ SmallWords variables (rowSaid row) ⌝ }
+    ensures { λ r. ⌜ Wrote (now (table .entry)) place (secondRates variables (rowSaid row)) (now (table .exit)) r ⌝ }
+{
+    let t = 2 * variables;
+    let b_rate = variables + row.b;
+    let scaled = put(table, place, kinds::PRODUCT, t, row.a, b_rate);
+    let over = put(table, scaled, kinds::QUOTIENT, t, t, row.b);
+    put(table, over, kinds::QUOTIENT, t, t, row.b)
+}
+
+// The rate of a quotient: u := ȧ / b, the second term into t and ḋ := u − t; or ȧ / b straight into ḋ; or the second term and ḋ := −t.
+fn quotient_rates(
+    table: &mut [u16],
+    place: usize,
+    variables: u16,
+    row: RowWords,
+    first: bool,
+    second: bool,
+) -> usize
+    requires { ⌜ RowRoom (now table) place (quotientRates variables (rowSaid row) first second) ⌝ ∗ ⌜ SmallWords variables (rowSaid row) ⌝ }
+    ensures { λ r. ⌜ Wrote (now (table .entry)) place (quotientRates variables (rowSaid row) first second) (now (table .exit)) r ⌝ }
+{
+    let t = 2 * variables;
+    let u = t + 1;
+    let d_rate = variables + row.d;
+    let a_rate = variables + row.a;
+    if first {
+        if second {
+            let of_a = put(table, place, kinds::QUOTIENT, u, a_rate, row.b);
+            let of_b = second_rates(table, of_a, variables, row);
+            return put(table, of_b, kinds::DIFFERENCE, d_rate, u, t);
+        }
+        return put(table, place, kinds::QUOTIENT, d_rate, a_rate, row.b);
+    }
+    let of_b = second_rates(table, place, variables, row);
+    put(table, of_b, kinds::NEGATION, d_rate, t, 0)
+}
+
 // An active assignment's rate rows: ḋ from the operands that are varied before it.
 fn active_rates(table: &mut [u16], place: usize, variables: u16, row: RowWords, mark: u8) -> usize
     requires { ⌜ RowRoom (now table) place (activeRatesOf variables (rowSaid row) mark) ⌝ ∗ ⌜ SmallWords variables (rowSaid row) ⌝ ∗ ⌜ Assigns (row .kind) ⌝ }
@@ -82,6 +122,9 @@ fn active_rates(table: &mut [u16], place: usize, variables: u16, row: RowWords, 
     }
     if row.kind == kinds::CONSTANT {
         return put(table, place, table::kinds::CLEAR, variables + row.d, 0, 0);
+    }
+    if row.kind == kinds::QUOTIENT {
+        return quotient_rates(table, place, variables, row, first, second);
     }
     // A copy and a negation do to the rate as they do themselves.
     put(

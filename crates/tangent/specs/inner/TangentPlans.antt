@@ -1,5 +1,6 @@
 -- A tangent's plan, and what its writer leaves.
 use Prim.Native.Nat.{ℕ, zero, suc, _+_}
+use mathlib.Core.Bool.{Bool, cond}
 use mathlib.Core.List.{List}
 use lib.ListN.{getD}
 use Rattle.sheet.specs.Tree.{basic, ifLine, elseLine, endIf, repeat, endRepeat}
@@ -22,9 +23,16 @@ lineCount known endIf = 1
 lineCount known (repeat m) = 1
 lineCount known endRepeat = 1
 
--- the three rate rows of both terms of a product, and the row itself
+-- the rate rows of both terms of a quotient, and the row itself
+abbrev pub mostRates : ℕ
+mostRates = 5
+
 abbrev pub mostLineCount : ℕ
-mostLineCount = 3 + 1
+mostLineCount = mostRates + 1
+
+-- how many a quotient's are, by the operands that are varied
+abbrev pub quotientCount : (first second : Bool) → ℕ
+quotientCount first second = cond first (cond second 5 1) 4
 
 -- how many rows the tangent table has before those of a sheet's row
 unfoldable pub tableRowsBefore : (words : List ℕ) (first : ℕ) (marks : List ℕ) → (row : ℕ) → ℕ

@@ -1,10 +1,10 @@
 -- One sheet row's rows in the tangent table, from its words and its byte of marks; all of them, in one pass; and what the writer leaves.
 use Prim.Native.Nat.{ℕ, _<_, _≤_}
 use mathlib.Core.Bool.{Bool, cond}
-use mathlib.Core.List.{List, [], _∷_}
+use mathlib.Core.List.{List, [], _∷_, _++_}
 use Rattle.sheet.specs.Bounds.{limit}
 use Rattle.sheet.specs.Tree.{done, basic, ifLine, elseLine, endIf, repeat, endRepeat}
-use Rattle.sheet.specs.Rows.{_≔_, Row, SheetLine, sheetRowOf}
+use Rattle.sheet.specs.Rows.{_≔_, Row, SheetLine, sheetRowOf, quotientKind}
 use Rattle.sheet.specs.inner.RowLines.{numberedRow}
 use Rattle.sheet.specs.declared.Shape.{Shape}
 use Rattle.table.specs.TableRows.{t, u}
@@ -35,6 +35,23 @@ module _ (variables : ℕ) (r : Row) where
       ∷ [])
       (rowWith 5 (rateOf variables (r .d)) (r .b) (rateOf variables (r .a)) ∷ []))
       (rowWith 5 (rateOf variables (r .d)) (r .a) (rateOf variables (r .b)) ∷ [])
+
+  -- of a quotient: the second term's rows, and both terms with their difference, or the one term
+  abbrev pub secondRates : List Row
+  secondRates =
+      rowWith 5 (t variables) (r .a) (rateOf variables (r .b))
+      ∷ rowWith quotientKind (t variables) (t variables) (r .b)
+      ∷ rowWith quotientKind (t variables) (t variables) (r .b)
+      ∷ []
+
+  abbrev pub quotientRates : (first second : Bool) → List Row
+  quotientRates first second =
+      cond first
+      (cond second
+      (rowWith quotientKind (u variables) (rateOf variables (r .a)) (r .b)
+      ∷ (secondRates ++ (rowWith 4 (rateOf variables (r .d)) (u variables) (t variables) ∷ [])))
+      (rowWith quotientKind (rateOf variables (r .d)) (rateOf variables (r .a)) (r .b) ∷ []))
+      (secondRates ++ (rowWith 6 (rateOf variables (r .d)) (t variables) 0 ∷ []))
 
 -- where it is active, and either way
 unfoldable pub activeRatesOf : (variables : ℕ) → Row → (mark : ℕ) → List Row

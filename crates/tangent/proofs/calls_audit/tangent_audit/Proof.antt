@@ -1,6 +1,11 @@
 -- `tangent::calls_audit::tangent_audit` meets its contract.
+use Prim.Native.Nat.{ℕ}
 use mathlib.Core.Path.{subst}
+use mathlib.Core.Bool.{false}
+use mathlib.Core.List.{List}
 use Rattle.number.specs.Residues.{residues}
+use Rattle.table.specs.inner.Plans.{PlanSaysIn}
+use Rattle.table.proofs.QuotientLaws.{rows-within}
 use Rattle.run.specs.inner.CallSteps.{JudgedAs}
 use Rattle.run.proofs.AdmittedLaws.{residues-admitted}
 use Rattle.run.proofs.SectionLaws.{sheet-room}
@@ -12,6 +17,28 @@ use Rattle.tangent.proofs.calls_audit.tangent_audit.Tie as tie
 
 plan-tangent-requires : tie.Need-plan-tangent-requires
 plan-tangent-requires c κs = search needs
+
+-- the words, and the marks and partners that the plan came with
+module _ (c : tie.After-plan-tangent) where
+  abbrev words : List ℕ
+  words = c .before .before .before .before .before .before .before .before .before .args .words .now
+
+  abbrev marks : List ℕ
+  marks = c .plan-tangent .last .1 .0
+
+  abbrev came : List ℕ
+  came = c .plan-tangent .last .1 .1 .0
+
+  abbrev goes : List ℕ
+  goes = c .plan-tangent .last .1 .1 .1 .0
+
+undivided-requires : tie.Need-undivided-requires
+undivided-requires c κs = rows-within tangentNeedsOf (words c) (marks c) (came c) (goes c) (c .plan-tangent .result) (c .plan-tangent .ensures)
+
+-- the plan, of an arithmetic that doesn't divide
+allowed : (c : tie.After-undivided)
+    → let at = c .before in PlanSaysIn false tangentNeedsOf (words at) (marks at) (came at) (goes at) (c .undivided .result)
+allowed c = let at = c .before in c .undivided .ensures tangentNeedsOf (marks at) (came at) (goes at) (at .plan-tangent .ensures)
 
 judge-requires : tie.Need-judge-requires
 judge-requires c κs = search needs
@@ -26,7 +53,7 @@ write-planned-requires : tie.Need-write-planned-requires
 write-planned-requires c κs =
     let planned = c .before .before .before .before in
     let judged = planned .before .before in
-    let room = subst (JudgedAs tangentNeedsOf _ _ _ _ _) (planned .plan .given .1) (judged .judge .ensures tangentNeedsOf _ _ _ _ (judged .before .plan-tangent .ensures)) in
+    let room = subst (JudgedAs false tangentNeedsOf _ _ _ _ _) (planned .plan .given .1) (judged .judge .ensures false tangentNeedsOf _ _ _ _ (allowed (judged .before))) in
     (record { came = _; goes = _; made = room .made }, room .tableFits)
 
 run-written-requires : tie.Need-run-written-requires
@@ -34,14 +61,14 @@ run-written-requires c κs =
     let wrote = c .before .before .before .before .before in
     let planned = wrote .before .before .before .before .before in
     let judged = planned .before .before in
-    let room = subst (JudgedAs tangentNeedsOf _ _ _ _ _) (planned .plan .given .1) (judged .judge .ensures tangentNeedsOf _ _ _ _ (judged .before .plan-tangent .ensures)) in
+    let room = subst (JudgedAs false tangentNeedsOf _ _ _ _ _) (planned .plan .given .1) (judged .judge .ensures false tangentNeedsOf _ _ _ _ (allowed (judged .before))) in
     (tangent-indexed (room .made) (wrote .write-planned .ensures), sheet-room _ _ _ room)
 
 returns : tie.Need-returns
 returns c =
     let judged = c .before .before .before in
     tangent-refused residues _ _ _ _ _
-    (subst (JudgedAs tangentNeedsOf _ _ _ _ _) (c .before .answer .given .1) (judged .judge .ensures tangentNeedsOf _ _ _ _ (judged .before .plan-tangent .ensures)))
+    (subst (JudgedAs false tangentNeedsOf _ _ _ _ _) (c .before .answer .given .1) (judged .judge .ensures false tangentNeedsOf _ _ _ _ (allowed (judged .before))))
 
 same-length : tie.Need-same-length
 same-length c = search needs
@@ -55,7 +82,7 @@ returns-2 c =
     let wrote = ran .before .before .before .before .before .before in
     let planned = wrote .before .before .before .before .before in
     let judged = planned .before .before in
-    let room = subst (JudgedAs tangentNeedsOf _ _ _ _ _) (planned .plan .given .1) (judged .judge .ensures tangentNeedsOf _ _ _ _ (judged .before .plan-tangent .ensures)) in
+    let room = subst (JudgedAs false tangentNeedsOf _ _ _ _ _) (planned .plan .given .1) (judged .judge .ensures false tangentNeedsOf _ _ _ _ (allowed (judged .before))) in
     tangent-ran residues _ _ _ _ _ room (residues-admitted _ _) (wrote .write-planned .ensures) (ran .run-written .ensures)
 
 pub tangent-audit-spec : {M : Type 1} → statement M
@@ -63,6 +90,7 @@ tangent-audit-spec =
     tie.close
     (tie.spec
     plan-tangent-requires
+    undivided-requires
     judge-requires
     enum-known-answer
     enum-known-plan
