@@ -12,7 +12,7 @@ use Rattle.sheet.specs.Bounds.{limit}
 use Rattle.sheet.specs.Judging.{refused, given, _>>=_, unless}
 use Rattle.sheet.specs.Refusals.{Refusal, wrongStarts, wrongSeeds, wrongResult}
 use Rattle.sheet.specs.Sheets.{Sheet, variablesOf}
-use Rattle.sheet.specs.Reading.{read}
+use Rattle.sheet.specs.Reading.{read, readIn}
 use Rattle.sheet.specs.Answers.{shapeOf, shapeRead}
 use Rattle.sheet.specs.declared.RowNumber.{RowNumber}
 use Rattle.sheet.specs.declared.Shape.{Shape}
@@ -95,14 +95,14 @@ module _ {words : List ℕ} {shape : Shape} {marks goes : List ℕ} (found : Fou
 
 module _ (words : List ℕ) (starts rates result : List Float) where
   pub unread : {why : Refusal} {answer : Reply} → read words ≡ refused why → Answers answer why → carryOf doubles answer result ≡ plain doubles words starts rates result
-  unfolding plain readToCarry carriedOn
+  unfolding plain readToCarry readIn carriedOn
   unread e answers = rw (e, answers .number, answers .place)
 
   module _ {shape : Shape} {marks goes : List ℕ} (found : Found words shape marks goes) where
     judged : readToCarry doubles words starts rates result
         ≡ (lengthsFit (shape .variables) (length starts) (length rates) (length result) >>= λ _. allAdmitted doubles (starts ++ rates) 0
         >>= λ _. given (found .sheet))
-    unfolding readToCarry shapeOf
+    unfolding readToCarry readIn shapeOf
     judged =
         let variables = ap (λ (s : Shape). s .variables) (found .shapeIs) in
         rw (found .accepted, variables) (simp bind-assoc)

@@ -11,14 +11,14 @@ use Rattle.number.specs.Arithmetic.{Outcome, value, stop}
 use Rattle.number.specs.Doubles.{Reason, notFinite, doubles}
 use Rattle.sheet.specs.Bounds.{limit}
 use Rattle.sheet.specs.Tree.{basic}
-use Rattle.sheet.specs.Rows.{_≔_, Source, copy, fixed, sum, difference, product, negation, Row, rowOf, rowOfAssignment, sheetRowOf}
+use Rattle.sheet.specs.Rows.{_≔_, Source, copy, fixed, sum, difference, product, negation, quotient, Row, rowOf, rowOfAssignment, sheetRowOf}
 use Rattle.sheet.specs.Names.{SourcePresent, AssignmentPresent}
 use Rattle.sets.specs.Transfers.{Activity}
 use Rattle.machine.specs.Actions.{Attempt, through, halted, stuck, _>>=_, fromOutcome, evaluated, replaced}
 use Rattle.tangent.specs.Tangent.{rateCount}
 use Rattle.plain.specs.Plain.{Carried, StopAt, stoppingIn, activeRate, rateFor, carriedOver}
 use Rattle.plain.specs.declared.Rated.{Rated}
-use Rattle.plain.specs.inner.Working.{after, rateOn, activeRateOf, valueOn, operandOn, workedOn}
+use Rattle.plain.specs.inner.Working.{after, overOf, secondOver, rateOn, activeRateOf, valueOn, operandOn, workedOn}
 use Rattle.plain.specs.inner.Engine.{valueIn, rateIn, carriedIn, stopAt}
 use Rattle.plain.proofs.CellLaws.{field-there, value-replaced, rate-replaced}
 
@@ -38,13 +38,31 @@ at-row row n q e (stop notFinite) = rw e
 at-first : (row : ℕ) (o : Outcome Float Reason) → stoppingIn doubles row (fromOutcome o) ≡ stoppingFrom row (after 0 o)
 at-first row o = at-row row 0 row (omega arith) o
 
+-- one after another
+then-at : (row : ℕ) {m : Attempt (StopAt doubles) Float} (m′ : Attempt ℕ Float) (next : Float → Attempt (StopAt doubles) Float) (then : Float → Attempt ℕ Float)
+    → m ≡ stoppingFrom row m′ → ((x : Float) → next x ≡ stoppingFrom row (then x)) → (m >>= next) ≡ stoppingFrom row (m′ >>= then)
+then-at row (through x) next then e h = rw e (h x)
+then-at row (halted n) next then e h = rw e
+then-at row stuck next then e h = rw e
+
 both-at : (row : ℕ) (first second : Outcome Float Reason) (last : Float → Float → Outcome Float Reason)
     → (stoppingIn doubles row (fromOutcome first)
     >>= λ u. stoppingIn doubles (suc row) (fromOutcome second) >>= λ t. stoppingIn doubles (suc (suc row)) (fromOutcome (last u t)))
     ≡ stoppingFrom row (after 0 first >>= λ u. after 1 second >>= λ t. after 2 (last u t))
-both-at row (stop notFinite) second last = at-first row (stop notFinite)
-both-at row (value u) (stop notFinite) last = at-row row 1 (suc row) (omega arith) (stop notFinite)
-both-at row (value u) (value t) last = at-row row 2 (suc (suc row)) (omega arith) (last u t)
+both-at row first second last =
+    then-at row (after 0 first) _ _ (at-first row first)
+    (λ u. then-at row (after 1 second) _ _ (at-row row 1 (suc row) (omega arith) second)
+    (λ t. at-row row 2 (suc (suc row)) (omega arith) (last u t)))
+
+-- a quotient's second term, so many rows into the row's
+second-at : (row n q : ℕ) → q ≡ row + n → (scaled : Outcome Float Reason) (y : Float)
+    → (stoppingIn doubles q (fromOutcome scaled)
+    >>= λ t. stoppingIn doubles (suc q) (fromOutcome (overOf t y)) >>= λ once. stoppingIn doubles (suc (suc q)) (fromOutcome (overOf once y)))
+    ≡ stoppingFrom row (after n scaled >>= λ t. after (n + 1) (overOf t y) >>= λ once. after (n + 2) (overOf once y))
+second-at row n q e scaled y =
+    then-at row (after n scaled) _ _ (at-row row n q e scaled)
+    (λ t. then-at row (after (n + 1) (overOf t y)) _ _ (at-row row (n + 1) (suc q) (omega arith) (overOf t y))
+    (λ once. at-row row (n + 2) (suc (suc q)) (omega arith) (overOf once y)))
 
 -- ---- the rate and the value, from the pairs that a source reads
 
@@ -62,6 +80,9 @@ Reads constants now (product a b) x y =
     (getElem? (now .values) a ≡ some (x .value)) × (getElem? (now .rates) a ≡ some (x .rate))
     × (getElem? (now .values) b ≡ some (y .value)) × (getElem? (now .rates) b ≡ some (y .rate))
 Reads constants now (negation a) x y = (getElem? (now .values) a ≡ some (x .value)) × (getElem? (now .rates) a ≡ some (x .rate))
+Reads constants now (quotient a b) x y =
+    (getElem? (now .values) a ≡ some (x .value)) × (getElem? (now .rates) a ≡ some (x .rate))
+    × (getElem? (now .values) b ≡ some (y .value)) × (getElem? (now .rates) b ≡ some (y .rate))
 
 -- the words of an assignment's row
 abbrev rowFor : ℕ → Source → Row
@@ -86,6 +107,16 @@ module _ (constants : List ℕ) (now : Carried doubles) (d : ℕ) where
   active-rate (product a b) true false s row x y reads = rw (reads .2, reads .1) (at-first row (doubles .product (y .value) (x .rate)))
   active-rate (product a b) false q s row x y reads = rw (reads .0, reads .3) (at-first row (doubles .product (x .value) (y .rate)))
   active-rate (negation a) p q s row x y reads = rw (reads .1) (at-first row (doubles .negation (x .rate)))
+  active-rate (quotient a b) true true s row x y reads =
+      rw (reads .0, reads .1, reads .2, reads .3)
+      (then-at row (after 0 (overOf (x .rate) (y .value))) _ _ (at-first row (overOf (x .rate) (y .value)))
+      (λ u. then-at row (secondOver 1 x y) _ _ (second-at row 1 (suc row) (omega arith) (doubles .product (x .value) (y .rate)) (y .value))
+      (λ t. at-row row 4 (suc (suc (suc (suc row)))) (omega arith) (doubles .difference u t))))
+  active-rate (quotient a b) true false s row x y reads = rw (reads .1, reads .2) (at-first row (overOf (x .rate) (y .value)))
+  active-rate (quotient a b) false q s row x y reads =
+      rw (reads .0, reads .2, reads .3)
+      (then-at row (secondOver 0 x y) _ _ (second-at row 0 row (omega arith) (doubles .product (x .value) (y .rate)) (y .value))
+      (λ t. at-row row 3 (suc (suc (suc row))) (omega arith) (doubles .negation t)))
 
   rate-for : (source : Source) (p q s : Bool) (row : ℕ) (x y : Rated) → Reads constants now source x y
       → rateFor doubles source (record { variedA = p; variedB = q; active = s }) row now
@@ -103,6 +134,7 @@ module _ (constants : List ℕ) (now : Carried doubles) (d : ℕ) where
   value-for (difference a b) x y reads = rw (reads .0, reads .2)
   value-for (product a b) x y reads = rw (reads .0, reads .2)
   value-for (negation a) x y reads = rw (reads .0)
+  value-for (quotient a b) x y reads = rw (reads .0, reads .2)
 
 -- ---- both, set in the cells
 
@@ -143,6 +175,7 @@ module _ (words constants : List ℕ) (firstConstant : ℕ)
   reads-these d (sum a b) x y (_, (h, k)) at-a at-b = two a b x y h k (at-a (omega arith)) (at-b (omega arith))
   reads-these d (difference a b) x y (_, (h, k)) at-a at-b = two a b x y h k (at-a (omega arith)) (at-b (omega arith))
   reads-these d (product a b) x y (_, (h, k)) at-a at-b = two a b x y h k (at-a (omega arith)) (at-b (omega arith))
+  reads-these d (quotient a b) x y (_, (h, k)) at-a at-b = two a b x y h k (at-a (omega arith)) (at-b (omega arith))
   reads-these d (negation a) x y (_, h) at-a at-b =
       let e = at-a (omega arith) in rw e (field-there v cells room valueIn a z h, field-there v cells room rateIn a z h)
 

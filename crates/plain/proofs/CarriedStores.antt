@@ -8,13 +8,13 @@ use lib.Seq.{set-append-left}
 use native.Mathlib.Omega.{arith}
 use borrow.Author.Tests.{lt-ltb}
 use Rattle.number.specs.Arithmetic.{Arithmetic}
-use Rattle.sheet.specs.Rows.{Source, copy, fixed, sum, difference, product, negation}
+use Rattle.sheet.specs.Rows.{Source, copy, fixed, sum, difference, product, negation, quotient}
 use Rattle.sheet.specs.Names.{SourcePresent}
 use Rattle.table.specs.TableRows.{t, u}
 use Rattle.machine.specs.Actions.{through, replaced, evaluated, fromOutcome}
 use Rattle.tangent.specs.Tangent.{rateOf}
 use Rattle.run.proofs.Stores.{at-first-part, at-second-part, set-second-part}
-use Rattle.plain.specs.Plain.{Carried, term}
+use Rattle.plain.specs.Plain.{Carried, term, overValue, firstOver}
 
 -- the same source on the rates of what it names
 abbrev pub onRates : (variables : ℕ) → Source → Source
@@ -24,6 +24,7 @@ onRates v (sum a b) = sum (rateOf v a) (rateOf v b)
 onRates v (difference a b) = difference (rateOf v a) (rateOf v b)
 onRates v (product a b) = product (rateOf v a) (rateOf v b)
 onRates v (negation a) = negation (rateOf v a)
+onRates v (quotient a b) = quotient (rateOf v a) (rateOf v b)
 
 module _ (A : Arithmetic) (v : ℕ) where
   -- a number and a rate for each variable
@@ -85,6 +86,7 @@ module _ (A : Arithmetic) (v : ℕ) where
     evaluated-on-rates constants (difference a b) p = rw (rate-at a (p .0), rate-at b (p .1))
     evaluated-on-rates constants (product a b) p = rw (rate-at a (p .0), rate-at b (p .1))
     evaluated-on-rates constants (negation a) p = rw (rate-at a p)
+    evaluated-on-rates constants (quotient a b) p = rw (rate-at a (p .0), rate-at b (p .1))
 
     pub term-evaluated : (constants : List ℕ) (i j : ℕ) → i < v → j < v → evaluated A constants (product i (rateOf v j)) store ≡ term A i j now
     unfolding evaluated
@@ -94,6 +96,24 @@ module _ (A : Arithmetic) (v : ℕ) where
     pub terms-added : (constants : List ℕ) → evaluated A constants (sum (u v) (t v)) store ≡ fromOutcome (A .sum y x)
     unfolding evaluated
     terms-added constants = rw (u-at, t-at)
+
+    -- ȧ / b, and t / b
+    pub first-over-evaluated : (constants : List ℕ) (a b : ℕ) → a < v → b < v → evaluated A constants (quotient (rateOf v a) b) store ≡ firstOver A a b now
+    unfolding evaluated
+    first-over-evaluated constants a b p q = rw (rate-at a p, value-at b q)
+
+    pub over-value-evaluated : (constants : List ℕ) (b : ℕ) → b < v → evaluated A constants (quotient (t v) b) store ≡ overValue A x b now
+    unfolding evaluated
+    over-value-evaluated constants b q = rw (t-at, value-at b q)
+
+    -- u − t, and −t
+    pub terms-subtracted : (constants : List ℕ) → evaluated A constants (difference (u v) (t v)) store ≡ fromOutcome (A .difference y x)
+    unfolding evaluated
+    terms-subtracted constants = rw (u-at, t-at)
+
+    pub term-negated : (constants : List ℕ) → evaluated A constants (negation (t v)) store ≡ fromOutcome (A .negation x)
+    unfolding evaluated
+    term-negated constants = rw t-at
 
     -- ---- putting
 

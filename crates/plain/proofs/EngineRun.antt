@@ -9,7 +9,7 @@ use Rattle.number.specs.Doubles.{doubles}
 use Rattle.sheet.specs.Bounds.{limit}
 use Rattle.sheet.specs.Judging.{given}
 use Rattle.sheet.specs.Tree.{basic, rows, longestRun}
-use Rattle.sheet.specs.Rows.{Assignment, _≔_, Source, copy, fixed, sum, difference, product, negation, Row, SheetLine, rowOf, rowOfAssignment, sheetRowOf}
+use Rattle.sheet.specs.Rows.{Assignment, _≔_, Source, copy, fixed, sum, difference, product, negation, quotient, Row, SheetLine, rowOf, rowOfAssignment, sheetRowOf, quotientKind}
 use Rattle.sheet.specs.Names.{SourcePresent, AssignmentPresent}
 use Rattle.sheet.specs.Sheets.{Sheet, variablesOf}
 use Rattle.sheet.specs.Reading.{read}
@@ -184,6 +184,7 @@ module _ {words : List ℕ} {shape : Shape} {marks goes : List ℕ} {start cells
           by (difference a b) e present = other 4 (ap (λ (s : Row). s .kind) e) (λ f. omega arith)
           by (product a b) e present = other 5 (ap (λ (s : Row). s .kind) e) (λ f. omega arith)
           by (negation a) e present = other 6 (ap (λ (s : Row). s .kind) e) (λ f. omega arith)
+          by (quotient a b) e present = other quotientKind (ap (λ (s : Row). s .kind) e) (λ f. omega arith)
 
       abbrev known : Activity
       known = knownBy (getD marks row 0)

@@ -6,23 +6,24 @@ use mathlib.Core.Bool.{Bool, true, false, cond}
 use mathlib.Core.List.{List, []}
 use lib.ListN.{length, set, length-set}
 use native.Mathlib.Omega.{arith}
-use Rattle.number.specs.Arithmetic.{Arithmetic}
+use Rattle.number.specs.Arithmetic.{Arithmetic, divides}
 use Rattle.sheet.specs.Tree.{done, one, fork, again, rows, RowNumber}
-use Rattle.sheet.specs.Rows.{Assignment, _≔_, Source, copy, fixed, sum, difference, product, negation}
-use Rattle.sheet.specs.Names.{SourcePresent, AssignmentPresent}
+use Rattle.sheet.specs.Rows.{Assignment, _≔_, Source, copy, fixed, sum, difference, product, negation, quotient}
+use Rattle.sheet.specs.Names.{SourcePresent, AssignmentPresent, SourceFeasible, AssignmentFeasible}
 use Rattle.sets.specs.Transfers.{Activity}
-use Rattle.table.specs.TableRows.{t, u, Action, assign, clear, Operation, itself, ratingA, ratingB, rating, Origin, ofRow, Table}
+use Rattle.table.specs.TableRows.{t, u, Action, assign, clear, Operation, itself, ratingA, ratingB, rating, ratingOverB, ratingOverBAgain, Origin, ofRow, Table}
 use Rattle.table.specs.Adjoint.{Body, put}
 use Rattle.machine.specs.Actions.{Attempt, through, halted, stuck, _>>=_, fromOutcome, replaced, Memory, Setting, Try, evaluated, withStore, acted, Stop, tested}
 use Rattle.machine.proofs.AttemptLaws.{bind-assoc, bind-same, Ready, gives, stops, from-outcome-ready}
 use Rattle.machine.proofs.PlaceLaws.{look-there}
 use Rattle.run.proofs.Originals.{evaluated-originals, compared-originals, replaced-original, replaced-alone}
-use Rattle.run.proofs.RowsReady.{evaluated-ready, compared-ready}
+use Rattle.run.proofs.RowsReady.{evaluated-ready, quotient-ready, compared-ready}
 use Rattle.run.proofs.RowsInTheLarge.{ResultAt, tableRunAt}
 use Rattle.run.proofs.KnownNames.{BodyKnown}
-use Rattle.tangent.specs.Tangent.{fromVaried, setRate, noRate, bothTerms, activeRates, rateRows, tangentRow, tangentTable, tangentRows, rateCount, rowsOver}
-use Rattle.plain.specs.Plain.{Carried, StopAt, stoppingIn, term, activeRate, rateFor, carriedOver, plainRun}
-use Rattle.plain.proofs.CarriedStores.{onRates, Sized, storeOf, withRate, evaluated-on-rates, term-evaluated, terms-added, rate-replaced, t-replaced, u-replaced}
+use Rattle.tangent.specs.Tangent.{fromVaried, setRate, noRate, bothTerms, secondTerm, bothQuotients, activeRates, rateRows, tangentRow, tangentTable, tangentRows, rateCount, rowsOver}
+use Rattle.plain.specs.Plain.{Carried, StopAt, stoppingIn, term, overValue, firstOver, secondOver, activeRate, rateFor, carriedOver, plainRun}
+use Rattle.plain.proofs.FeasibleBodies.{BodyFeasible}
+use Rattle.plain.proofs.CarriedStores.{onRates, Sized, storeOf, withRate, evaluated-on-rates, term-evaluated, terms-added, first-over-evaluated, over-value-evaluated, terms-subtracted, term-negated, rate-replaced, t-replaced, u-replaced}
 
 -- ---- one of three, by which operands are varied
 
@@ -36,11 +37,11 @@ picked-on-rates v known both ofA ofB = by-varied (known .variedA) (known .varied
     by-varied true false = refl
     by-varied false b = refl
 
-picked-present : (v k : ℕ) (known : Activity) (both ofA ofB : Source) → SourcePresent v k both → SourcePresent v k ofA → SourcePresent v k ofB
-    → SourcePresent v k (fromVaried known both ofA ofB)
-picked-present v k known both ofA ofB p q r = by-varied (known .variedA) (known .variedB)
+picked-holds : (Holds : Source → Type 0) (known : Activity) (both ofA ofB : Source) → Holds both → Holds ofA → Holds ofB
+    → Holds (fromVaried known both ofA ofB)
+picked-holds Holds known both ofA ofB p q r = by-varied (known .variedA) (known .variedB)
   where
-    by-varied : (a b : Bool) → SourcePresent v k (cond a (cond b both ofA) ofB)
+    by-varied : (a b : Bool) → Holds (cond a (cond b both ofA) ofB)
     by-varied true true = p
     by-varied true false = q
     by-varied false b = r
@@ -53,6 +54,7 @@ activeCount (sum a b) known = 1
 activeCount (difference a b) known = 1
 activeCount (product a b) known = fromVaried known 3 1 1
 activeCount (negation a) known = 1
+activeCount (quotient a b) known = fromVaried known 5 1 4
 
 count-active : (source : Source) (known : Activity) → known .active ≡ true → rateCount source known ≡ activeCount source known
 unfolding rateCount
@@ -62,6 +64,7 @@ count-active (sum a b) known e = refl
 count-active (difference a b) known e = refl
 count-active (product a b) known e = rw e
 count-active (negation a) known e = refl
+count-active (quotient a b) known e = rw e
 
 count-inactive : (source : Source) (known : Activity) → known .active ≡ false → rateCount source known ≡ 1
 unfolding rateCount
@@ -71,6 +74,7 @@ count-inactive (sum a b) known e = refl
 count-inactive (difference a b) known e = refl
 count-inactive (product a b) known e = rw e
 count-inactive (negation a) known e = refl
+count-inactive (quotient a b) known e = rw e
 
 module _ (A : Arithmetic) where
   abbrev pub CarriedResult : Type 0
@@ -149,6 +153,34 @@ module _ (A : Arithmetic) where
           let rate = look-there {Why = A .Why} (now .rates) j (A .zero) (omega (arith, sized .rates)) in
           rw (value, rate) (from-outcome-ready (A .product _ _))
 
+      over-ready : divides A ≡ true → (z : A .Carrier) (b : ℕ) → b < v → Ready (overValue A z b now)
+      over-ready has z b q = rw (look-there {Why = A .Why} (now .values) b (A .zero) (omega (arith, sized .values))) (quotient-ready A has z _)
+
+      first-over-ready : divides A ≡ true → (a b : ℕ) → a < v → b < v → Ready (firstOver A a b now)
+      first-over-ready has a b p q = rw (look-there {Why = A .Why} (now .rates) a (A .zero) (omega (arith, sized .rates))) (over-ready has _ b q)
+
+      -- "t := a × ḃ, t := t / b, t := t / b", and what follows them from row p + 3 on
+      second-term : (p : ℕ) (x y : A .Carrier) (a b : ℕ) → a < v → b < v → divides A ≡ true → (after : Table) (then : A .Carrier → CarriedResult)
+          → ((z : A .Carrier) → Agree v left (tableRunAt A setting after (suc (suc (suc p))) (memory now z y)) (then z))
+          → Agree v left (tableRunAt A setting (secondTerm v a b row after) p (memory now x y)) (secondOver A a b p now >>= then)
+      second-term p x y a b first second has after then h =
+          subst (Agree v left _)
+          (sym (bind-assoc (stoppingIn A p (term A a b now)) _ then
+          ∙ bind-same (stoppingIn A p (term A a b now)) _ _ (λ z is. bind-assoc (stoppingIn A (suc p) (overValue A z b now)) _ then)))
+          (assignment-row row ratingB (t v) (product a (v + b)) _ p (suc p) (storeOf A v now x y) (term A a b now) (λ z. storeOf A v now z y) _ refl
+          (term-evaluated A v now sized x y (setting .constants) a b first second) (term-ready a b first second)
+          (λ z. t-replaced A v now sized x y z)
+          (λ z.
+          assignment-row row ratingOverB (t v) (quotient (t v) b) _ (suc p) (suc (suc p)) (storeOf A v now z y) (overValue A z b now)
+          (λ once. storeOf A v now once y) _ refl
+          (over-value-evaluated A v now sized z y (setting .constants) b second) (over-ready has z b second)
+          (λ once. t-replaced A v now sized z y once)
+          (λ once.
+          assignment-row row ratingOverBAgain (t v) (quotient (t v) b) after (suc (suc p)) (suc (suc (suc p))) (storeOf A v now once y) (overValue A once b now)
+          (λ twice. storeOf A v now twice y) then refl
+          (over-value-evaluated A v now sized once y (setting .constants) b second) (over-ready has once b second)
+          (λ twice. t-replaced A v now sized once y twice) h)))
+
       module _ (q : ℕ) (then : A .Carrier → CarriedResult) (h : Follows q then) where
         -- the rate rows from row p on, with x and y in t and u, and what the plain engine does for them
         abbrev RatesAgree : (p : ℕ) → (x y : A .Carrier) → Table → CarriedResult → Type 0
@@ -171,21 +203,22 @@ module _ (A : Arithmetic) where
             assignment-row row rating (v + d) source rest p q (storeOf A v now x y) m (λ z. storeOf A v (withRate A v now d z) x y) then next e ready
             (λ z. rate-replaced A v now sized x y d z target) (λ z. h z x y)
 
-        rate-from-rates : (p : ℕ) (x y : A .Carrier) (source : Source) → SourcePresent v 0 source → q ≡ suc p
+        rate-from-rates : (p : ℕ) (x y : A .Carrier) (source : Source) → SourcePresent v 0 source → SourceFeasible (divides A) source → q ≡ suc p
             → RatesAgree p x y (setRate v d (onRates v source) row rest) (stoppingIn A p (evaluated A [] source (now .rates)) >>= then)
-        rate-from-rates p x y source named next =
+        rate-from-rates p x y source named feasible next =
             rate-row p x y (onRates v source) (evaluated A [] source (now .rates)) next
             (evaluated-on-rates A v now sized x y (setting .constants) source named)
-            (evaluated-ready A [] v source (now .rates) (sized .rates) named)
+            (evaluated-ready A [] v source (now .rates) (sized .rates) named feasible)
 
         -- "or copy or negation of the one varied"
         rate-from-varied : (p : ℕ) (x y : A .Carrier) (known : Activity) (both ofA ofB : Source) → SourcePresent v 0 both → SourcePresent v 0 ofA
-            → SourcePresent v 0 ofB → q ≡ suc p
+            → SourcePresent v 0 ofB → SourceFeasible (divides A) both → SourceFeasible (divides A) ofA → SourceFeasible (divides A) ofB → q ≡ suc p
             → RatesAgree p x y (setRate v d (fromVaried known (onRates v both) (onRates v ofA) (onRates v ofB)) row rest)
             (stoppingIn A p (evaluated A [] (fromVaried known both ofA ofB) (now .rates)) >>= then)
-        rate-from-varied p x y known both ofA ofB inBoth inA inB next =
+        rate-from-varied p x y known both ofA ofB inBoth inA inB doneBoth doneA doneB next =
             rw (picked-on-rates v known both ofA ofB)
-            (rate-from-rates p x y (fromVaried known both ofA ofB) (picked-present v 0 known both ofA ofB inBoth inA inB) next)
+            (rate-from-rates p x y (fromVaried known both ofA ofB) (picked-holds (SourcePresent v 0) known both ofA ofB inBoth inA inB)
+            (picked-holds (SourceFeasible (divides A)) known both ofA ofB doneBoth doneA doneB) next)
 
         -- "the one term alone straight into ḋ"
         one-term : (p : ℕ) (x y : A .Carrier) (i j : ℕ) → i < v → j < v → q ≡ suc p
@@ -233,28 +266,78 @@ module _ (A : Arithmetic) where
         product-rates p x y a b first second true false next = one-term p x y b a second first (omega arith)
         product-rates p x y a b first second false variedB next = one-term p x y a b first second (omega arith)
 
-        active-agrees : (p : ℕ) (x y : A .Carrier) (source : Source) (known : Activity) → SourcePresent v k source
-            → q ≡ p + activeCount source known → RatesAgree p x y (activeRates v d source row known rest) (activeRate A source known p now >>= then)
-        unfolding activeRates activeRate SourcePresent
-        active-agrees p x y (copy a) known named next = rate-from-rates p x y (copy a) named (omega arith)
-        active-agrees p x y (fixed c) known named next = no-rate p x y (omega arith)
-        active-agrees p x y (sum a b) known named next =
-            rate-from-varied p x y known (sum a b) (copy a) (copy b) named (named .0) (named .1) (omega arith)
-        active-agrees p x y (difference a b) known named next =
-            rate-from-varied p x y known (difference a b) (copy a) (negation b) named (named .0) (named .1) (omega arith)
-        active-agrees p x y (product a b) known named next =
-            product-rates p x y a b (named .0) (named .1) (known .variedA) (known .variedB) next
-        active-agrees p x y (negation a) known named next = rate-from-rates p x y (negation a) named (omega arith)
+        -- ḋ := u − t, once both terms stand, and ḋ := −t
+        quotients-subtracted : (p : ℕ) (x y : A .Carrier) (a b : ℕ) → a < v → b < v → divides A ≡ true → q ≡ p + 5
+            → RatesAgree p x y (bothQuotients v d a b row rest)
+            (stoppingIn A p (firstOver A a b now) >>= λ ofA. secondOver A a b (suc p) now
+            >>= λ ofB. stoppingIn A (suc (suc (suc (suc p)))) (fromOutcome (A .difference ofA ofB)) >>= then)
+        quotients-subtracted p x y a b first second has next =
+            assignment-row row ratingA (u v) (quotient (v + a) b) _ p (suc p) (storeOf A v now x y) (firstOver A a b now) (λ z. storeOf A v now x z) _ refl
+            (first-over-evaluated A v now sized x y (setting .constants) a b first second) (first-over-ready has a b first second)
+            (λ z. u-replaced A v now sized x y z)
+            (λ ofA.
+            second-term (suc p) x ofA a b first second has (setRate v d (difference (u v) (t v)) row rest) _
+            (λ ofB.
+            rate-row (suc (suc (suc (suc p)))) ofB ofA (difference (u v) (t v)) (fromOutcome (A .difference ofA ofB)) (omega arith)
+            (terms-subtracted A v now sized ofB ofA (setting .constants)) (from-outcome-ready (A .difference ofA ofB))))
 
-        rates-agree : (p : ℕ) (x y : A .Carrier) (source : Source) (known : Activity) → SourcePresent v k source → q ≡ p + rateCount source known
+        second-negated : (p : ℕ) (x y : A .Carrier) (a b : ℕ) → a < v → b < v → divides A ≡ true → q ≡ p + 4
+            → RatesAgree p x y (secondTerm v a b row (setRate v d (negation (t v)) row rest))
+            (secondOver A a b p now >>= λ ofB. stoppingIn A (suc (suc (suc p))) (fromOutcome (A .negation ofB)) >>= then)
+        second-negated p x y a b first second has next =
+            second-term p x y a b first second has (setRate v d (negation (t v)) row rest) _
+            (λ ofB.
+            rate-row (suc (suc (suc p))) ofB y (negation (t v)) (fromOutcome (A .negation ofB)) (omega arith)
+            (term-negated A v now sized ofB y (setting .constants)) (from-outcome-ready (A .negation ofB)))
+
+        quotient-rates : (p : ℕ) (x y : A .Carrier) (a b : ℕ) → a < v → b < v → divides A ≡ true → (variedA variedB : Bool)
+            → q ≡ p + cond variedA (cond variedB 5 1) 4
+            → RatesAgree p x y
+            (cond variedA (cond variedB (bothQuotients v d a b row rest) (setRate v d (quotient (v + a) b) row rest))
+            (secondTerm v a b row (setRate v d (negation (t v)) row rest)))
+            (cond variedA
+            (cond variedB
+            (stoppingIn A p (firstOver A a b now) >>= λ ofA. secondOver A a b (suc p) now
+            >>= λ ofB. stoppingIn A (suc (suc (suc (suc p)))) (fromOutcome (A .difference ofA ofB)))
+            (stoppingIn A p (firstOver A a b now)))
+            (secondOver A a b p now >>= λ ofB. stoppingIn A (suc (suc (suc p))) (fromOutcome (A .negation ofB)))
+            >>= then)
+        quotient-rates p x y a b first second has true true next =
+            subst (Agree v left _)
+            (sym (bind-assoc (stoppingIn A p (firstOver A a b now)) _ then
+            ∙ bind-same (stoppingIn A p (firstOver A a b now)) _ _ (λ ofA is. bind-assoc (secondOver A a b (suc p) now) _ then)))
+            (quotients-subtracted p x y a b first second has next)
+        quotient-rates p x y a b first second has true false next =
+            rate-row p x y (quotient (v + a) b) (firstOver A a b now) (omega arith)
+            (first-over-evaluated A v now sized x y (setting .constants) a b first second) (first-over-ready has a b first second)
+        quotient-rates p x y a b first second has false variedB next =
+            subst (Agree v left _) (sym (bind-assoc (secondOver A a b p now) _ then)) (second-negated p x y a b first second has next)
+
+        active-agrees : (p : ℕ) (x y : A .Carrier) (source : Source) (known : Activity) → SourcePresent v k source → SourceFeasible (divides A) source
+            → q ≡ p + activeCount source known → RatesAgree p x y (activeRates v d source row known rest) (activeRate A source known p now >>= then)
+        unfolding activeRates activeRate SourcePresent SourceFeasible
+        active-agrees p x y (copy a) known named feasible next = rate-from-rates p x y (copy a) named tt (omega arith)
+        active-agrees p x y (fixed c) known named feasible next = no-rate p x y (omega arith)
+        active-agrees p x y (sum a b) known named feasible next =
+            rate-from-varied p x y known (sum a b) (copy a) (copy b) named (named .0) (named .1) tt tt tt (omega arith)
+        active-agrees p x y (difference a b) known named feasible next =
+            rate-from-varied p x y known (difference a b) (copy a) (negation b) named (named .0) (named .1) tt tt tt (omega arith)
+        active-agrees p x y (product a b) known named feasible next =
+            product-rates p x y a b (named .0) (named .1) (known .variedA) (known .variedB) next
+        active-agrees p x y (negation a) known named feasible next = rate-from-rates p x y (negation a) named tt (omega arith)
+        active-agrees p x y (quotient a b) known named feasible next =
+            quotient-rates p x y a b (named .0) (named .1) feasible (known .variedA) (known .variedB) next
+
+        rates-agree : (p : ℕ) (x y : A .Carrier) (source : Source) (known : Activity) → SourcePresent v k source
+            → SourceFeasible (divides A) source → q ≡ p + rateCount source known
             → RatesAgree p x y (rateRows v (d ≔ source) row known rest) (rateFor A source known p now >>= then)
         unfolding rateRows rateFor
-        rates-agree p x y source known named next = by-activity (known .active) refl
+        rates-agree p x y source known named feasible next = by-activity (known .active) refl
           where
             by-activity : (active : Bool) → known .active ≡ active
                 → RatesAgree p x y (cond active (activeRates v d source row known rest) (noRate v d row rest))
                 (cond active (activeRate A source known p now) (through (A .zero)) >>= then)
-            by-activity true e = active-agrees p x y source known named (next ∙ ap (λ n. p + n) (count-active source known e))
+            by-activity true e = active-agrees p x y source known named feasible (next ∙ ap (λ n. p + n) (count-active source known e))
             by-activity false e = no-rate p x y (omega (arith, count-inactive source known e))
 
     -- ---- an assignment
@@ -266,15 +349,15 @@ module _ (A : Arithmetic) where
         >>= λ x. replaced (now .values) d x >>= λ values. replaced (now .rates) d rate >>= λ rates. through (record { values = values; rates = rates })
 
     value-agrees : (row : RowNumber) (rest : Table) (p q d : ℕ) (source : Source) (now : Carried A) (rate x y : A .Carrier)
-        (then : Carried A → CarriedResult) → Sized A v now → d < v → SourcePresent v k source → q ≡ suc p
+        (then : Carried A → CarriedResult) → Sized A v now → d < v → SourcePresent v k source → SourceFeasible (divides A) source → q ≡ suc p
         → ((next : Carried A) (x y : A .Carrier) → Sized A v next → Agree v left (tableRunAt A setting rest q (memory next x y)) (then next))
         → Agree v left (tableRunAt A setting (put row itself (assign (d ≔ source)) rest) p (memory (withRate A v now d rate) x y))
         (valued d source p now rate >>= then)
-    value-agrees row rest p q d source now rate x y then sized target named next h =
+    value-agrees row rest p q d source now rate x y then sized target named feasible next h =
         subst (Agree v left _) (sym (bind-assoc (stoppingIn A p (evaluated A (setting .constants) source (now .values))) _ then))
         (assignment-row row itself d source rest p q (storeOf A v (withRate A v now d rate) x y) (evaluated A (setting .constants) source (now .values))
         (λ z. storeOf A v (after z) x y) _ next (evaluated-originals A v k (now .values) _ (sized .values) (setting .constants) source named)
-        (evaluated-ready A (setting .constants) v source (now .values) (sized .values) named)
+        (evaluated-ready A (setting .constants) v source (now .values) (sized .values) named feasible)
         (λ z. replaced-original A v k (now .values) _ (sized .values) d z target) (λ z. rw (put-value z, put-rate) (h (after z) x y (still z))))
       where
         after : A .Carrier → Carried A
@@ -290,40 +373,42 @@ module _ (A : Arithmetic) where
         put-rate = replaced-alone A v k (now .rates) [] (sized .rates) d rate target
 
     assignment-agrees : (b : Assignment) (row : RowNumber) (known : Activity) (rest : Table) (p : ℕ) (now : Carried A) (x y : A .Carrier)
-        (then : Carried A → CarriedResult) → Sized A v now → AssignmentPresent v k b
+        (then : Carried A → CarriedResult) → Sized A v now → AssignmentPresent v k b → AssignmentFeasible (divides A) b
         → ((next : Carried A) (x y : A .Carrier) → Sized A v next
         → Agree v left (tableRunAt A setting rest (p + rowsOver b known) (memory next x y)) (then next))
         → Agree v left (tableRunAt A setting (rateRows v b row known (put row itself (assign b) rest)) p (memory now x y))
         (carriedOver A (setting .constants) b known p now >>= then)
     unfolding carriedOver AssignmentPresent
-    assignment-agrees (d ≔ source) row known rest p now x y then sized named h =
+    assignment-agrees (d ≔ source) row known rest p now x y then sized named feasible h =
         let own = p + rateCount source known in
         subst (Agree v left _) (sym (bind-assoc (rateFor A source known p now) (valued d source own now) then))
         (rates-agree now sized d (named .0) row (put row itself (assign (d ≔ source)) rest) own (λ rate. valued d source own now rate >>= then)
-        (λ rate x y. value-agrees row rest own (p + rowsOver (d ≔ source) known) d source now rate x y then sized (named .0) (named .1) (omega arith) h)
-        p x y source known (named .1) refl)
+        (λ rate x y. value-agrees row rest own (p + rowsOver (d ≔ source) known) d source now rate x y then sized (named .0) (named .1) feasible (omega arith) h)
+        p x y source known (named .1) feasible refl)
 
     -- ---- a body
 
-    pub agrees : (body : Body) (p : ℕ) (now : Carried A) (x y : A .Carrier) → BodyKnown v k body → Sized A v now
+    pub agrees : (body : Body) (p : ℕ) (now : Carried A) (x y : A .Carrier) → BodyKnown v k body → BodyFeasible (divides A) body → Sized A v now
         → Agree v left (tableRunAt A setting (tangentTable v body) p (memory now x y)) (plainRun A v (setting .constants) body p now)
-    unfolding tableRunAt tangentTable tangentRow plainRun BodyKnown tangentRows rows tested
-    agrees done p now x y named sized = bothGo now x y sized refl refl
-    agrees (one m kk) p now x y named sized =
-        assignment-agrees (m .assignment) (m .row) (m .known) (tangentTable v kk) p now x y _ sized (named .0)
-        (λ next x y still. agrees kk (p + rowsOver (m .assignment) (m .known)) next x y (named .1) still)
-    agrees (fork f a b kk) p now x y named sized =
+    unfolding tableRunAt tangentTable tangentRow plainRun BodyKnown BodyFeasible tangentRows rows tested
+    agrees done p now x y named feasible sized = bothGo now x y sized refl refl
+    agrees (one m kk) p now x y named feasible sized =
+        assignment-agrees (m .assignment) (m .row) (m .known) (tangentTable v kk) p now x y _ sized (named .0) (feasible .0)
+        (λ next x y still. agrees kk (p + rowsOver (m .assignment) (m .known)) next x y (named .1) (feasible .1) still)
+    agrees (fork f a b kk) p now x y named feasible sized =
         let way = compared-ready A (setting .constants) v (f .test) (now .values) (sized .values) (named .0) in
         let split = suc p + rows (tangentTable v a) in
         rw (compared-originals A v k (now .values) _ (sized .values) (f .test) (named .0), way .1)
         (agree-then v left _ _
-        (either-agrees v left (way .0) (agrees a (suc p) now x y (named .1) sized) (agrees b (suc split) now x y (named .2) sized))
-        (λ next x y still. agrees kk (suc (suc split + rows (tangentTable v b))) next x y (named .3) still))
-    agrees (again zero a kk) p now x y named sized =
-        agree-then v left _ _ (agrees a (suc p) now x y (named .0) sized) (λ next x y still. agrees kk _ next x y (named .1) still)
-    agrees (again (suc m) a kk) p now x y named sized =
-        agree-then v left _ _ (agrees a (suc p) now x y (named .0) sized) (λ next x y still. agrees (again m a kk) p next x y named still)
+        (either-agrees v left (way .0) (agrees a (suc p) now x y (named .1) (feasible .0) sized) (agrees b (suc split) now x y (named .2) (feasible .1) sized))
+        (λ next x y still. agrees kk (suc (suc split + rows (tangentTable v b))) next x y (named .3) (feasible .2) still))
+    agrees (again zero a kk) p now x y named feasible sized =
+        agree-then v left _ _ (agrees a (suc p) now x y (named .0) (feasible .0) sized)
+        (λ next x y still. agrees kk _ next x y (named .1) (feasible .1) still)
+    agrees (again (suc m) a kk) p now x y named feasible sized =
+        agree-then v left _ _ (agrees a (suc p) now x y (named .0) (feasible .0) sized)
+        (λ next x y still. agrees (again m a kk) p next x y named feasible still)
 
-    pub body-unstuck : (body : Body) (p : ℕ) (now : Carried A) → BodyKnown v k body → Sized A v now
+    pub body-unstuck : (body : Body) (p : ℕ) (now : Carried A) → BodyKnown v k body → BodyFeasible (divides A) body → Sized A v now
         → plainRun A v (setting .constants) body p now ≡ stuck → ⊥
-    body-unstuck body p now named sized = agree-unstuck v left (agrees body p now (A .zero) (A .zero) named sized)
+    body-unstuck body p now named feasible sized = agree-unstuck v left (agrees body p now (A .zero) (A .zero) named feasible sized)

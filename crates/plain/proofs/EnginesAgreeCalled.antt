@@ -5,11 +5,12 @@ use mathlib.Core.List.{List, _++_}
 use lib.ListN.{length}
 use lib.Dec.{eqb}
 use borrow.Author.Tests.{eqb-true, le-leb}
-use Rattle.number.specs.Arithmetic.{Arithmetic}
+use Rattle.number.specs.Arithmetic.{Arithmetic, divides}
 use Rattle.sheet.specs.Judging.{Answer, refused, given, unless}
 use Rattle.sheet.specs.Refusals.{wrongStarts, wrongSeeds, wrongResult}
 use Rattle.sheet.specs.Sheets.{Sheet, variablesOf}
-use Rattle.sheet.specs.Reading.{read}
+use Rattle.sheet.specs.Reading.{read, readIn}
+use Rattle.sheet.proofs.Feasibility.{ReadFor, read-for}
 use Rattle.sheet.proofs.ReadingParts.{bound, passed, same-given}
 use Rattle.sets.specs.Rounds.{setsOf}
 use Rattle.table.specs.Sizes.{tableRoom}
@@ -36,29 +37,29 @@ module _ (A : Arithmetic) (words : List ℕ) (starts rates : List (A .Carrier)) 
   -- without 8 and 9 both calls judge the same in turn
   same-judgement : TableFits → readToRun A tangentNeedsOf words starts rates lent ≡ readToCarry A words starts rates result
   unfolding readToRun readFor readToCarry
-  same-judgement room = by-reading (read words) refl
+  same-judgement room = by-reading (readIn (divides A) words) refl
     where
-      by-reading : (answer : Answer Sheet) → read words ≡ answer
+      by-reading : (answer : Answer Sheet) → readIn (divides A) words ≡ answer
           → readToRun A tangentNeedsOf words starts rates lent ≡ readToCarry A words starts rates result
       by-reading (refused r) e = rw e
-      by-reading (given sheet) e = rw (e, le-leb _ _ (room sheet e))
+      by-reading (given sheet) e = rw (e, le-leb _ _ (room sheet (read-for (divides A) words sheet e .isRead)))
 
   -- what the plain engine's judgement lets through
   record Carries (sheet : Sheet) : Type 0 where
-    pub accepted : read words ≡ given sheet
+    pub isRead : ReadFor (divides A) words sheet
     pub startsFit : length starts ≡ variablesOf sheet
 
   let-through : (sheet : Sheet) → readToCarry A words starts rates result ≡ given sheet → Carries sheet
   unfolding readToCarry
   let-through sheet e =
-      let c₁ = bound (read words) _ sheet e in
+      let c₁ = bound (readIn (divides A) words) _ sheet e in
       let c₂ = bound (unless (eqb (length starts) (variablesOf (c₁ .0))) wrongStarts) _ sheet (c₁ .2) in
       let c₃ = bound (unless (eqb (length rates) (variablesOf (c₁ .0))) wrongSeeds) _ sheet (c₂ .2) in
       let c₄ = bound (unless (eqb (length result) (2 * variablesOf (c₁ .0))) wrongResult) _ sheet (c₃ .2) in
       let c₅ = bound (allAdmitted A (starts ++ rates) 0) _ sheet (c₄ .2) in
       let is : c₁ .0 ≡ sheet = same-given (c₅ .2) in
       record {
-        accepted = c₁ .1 ∙ ap given is;
+        isRead = read-for (divides A) words sheet (c₁ .1 ∙ ap given is);
         startsFit = eqb-true _ _ (passed _ wrongStarts (c₂ .1)) ∙ ap variablesOf is;
       }
 
@@ -82,4 +83,4 @@ module _ (A : Arithmetic) (words : List ℕ) (starts rates : List (A .Carrier)) 
           rw (same-judgement room, e)
           (ends-alike sheet (runOf A (tangentOf sheet) (settingOf A sheet rates 0 0) (tangentStart A sheet starts rates))
           (plainBy A (setsOf sheet) sheet starts rates)
-          (runs-agree A sheet starts rates words (is .accepted) (setsOf sheet) (is .startsFit)))
+          (runs-agree A sheet starts rates words (is .isRead) (setsOf sheet) (is .startsFit)))

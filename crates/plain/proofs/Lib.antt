@@ -1,6 +1,7 @@
 -- What is proved of the plain engine.
 
 -- it and the tangent table's run agree
+pub mod FeasibleBodies
 pub mod CarriedStores
 pub mod EnginesAgree
 pub mod WholeRunsAgree

@@ -7,13 +7,12 @@ use mathlib.Core.List.{List, [], _∷_, _++_, append-assoc}
 use lib.ListN.{length, take}
 use lib.Seq.{take-at, drop-at}
 use native.Mathlib.Omega.{arith}
-use Rattle.number.specs.Arithmetic.{Arithmetic}
-use Rattle.sheet.specs.Judging.{given}
+use Rattle.number.specs.Arithmetic.{Arithmetic, divides}
 use Rattle.sheet.specs.Tree.{RowNumber}
 use Rattle.sheet.specs.Rows.{isDependent, isIndependent}
 use Rattle.sheet.specs.Sheets.{Sheet, variablesOf}
-use Rattle.sheet.specs.Reading.{read}
 use Rattle.sheet.proofs.NamesPresent.{names-present}
+use Rattle.sheet.proofs.Feasibility.{ReadFor}
 use Rattle.sets.specs.Marks.{Sets, markBy, markedBy}
 use Rattle.machine.specs.Actions.{through, halted, stuck, Memory, Setting, Stop, counting}
 use Rattle.machine.specs.Machine.{State, Step, goesOn, ended, stops, sticks}
@@ -25,6 +24,7 @@ use Rattle.run.proofs.KnownNames.{BodyKnown, body-known}
 use Rattle.tangent.specs.Tangent.{tangentBy}
 use Rattle.tangent.specs.TangentRuns.{startingRates, tangentStart, tangentResult}
 use Rattle.plain.specs.Plain.{Carried, plainBy, plainResult}
+use Rattle.plain.proofs.FeasibleBodies.{BodyFeasible, body-feasible}
 use Rattle.plain.proofs.CarriedStores.{Sized, storeOf}
 use Rattle.plain.proofs.EnginesAgree.{CarriedResult, memoryOf, Agree, bothGo, bothStop, agrees, body-unstuck}
 
@@ -86,10 +86,14 @@ module _ (A : Arithmetic) where
         bothEnd (memoryOf A v begins now x y) now (subst (λ r. EndsAt A r out) e ends) f (values-left now x y sized) (same-result begins now x y sized)
     agree-ends out (bothStop row stop e f) ends = bothHalt row stop (subst (λ r. EndsAt A r out) e ends) f
 
-    module _ (words : List ℕ) (accepted : read words ≡ given sheet) (sets : Sets) (many : length starts ≡ v) where
+    module _ (words : List ℕ) (is : ReadFor (divides A) words sheet) (sets : Sets) (many : length starts ≡ v) where
       body-named : BodyKnown v (length (sheet .constants)) (markedBy sets sheet)
       unfolding markedBy markBy
-      body-named = body-known v (length (sheet .constants)) (markBy sets) (λ p b. refl) (sheet .body) 0 (names-present words sheet accepted)
+      body-named = body-known v (length (sheet .constants)) (markBy sets) (λ p b. refl) (sheet .body) 0 (names-present words sheet (is .isRead))
+
+      body-done : BodyFeasible (divides A) (markedBy sets sheet)
+      unfolding markedBy markBy
+      body-done = body-feasible (divides A) (markBy sets) (λ p b. refl) (sheet .body) 0 (is .feasible)
 
       abbrev ran : Step A
       ran = runOf A (tangentBy sets sheet) setting (tangentStart A sheet starts rates)
@@ -100,14 +104,14 @@ module _ (A : Arithmetic) where
           let start = memoryOf A v begins first (A .zero) (A .zero) in
           subst (λ s. SameEnd sheet (runOf A (tangentBy sets sheet) setting s) (plainBy A sets sheet starts rates)) (sym start-is)
           (agree-ends (runOf A (tangentBy sets sheet) setting (atRow A 0 [] start))
-          (agrees A setting begins (markedBy sets sheet) 0 first (A .zero) (A .zero) body-named (first-sized many))
+          (agrees A setting begins (markedBy sets sheet) 0 first (A .zero) (A .zero) body-named body-done (first-sized many))
           (run-follows-at A (tangentBy sets sheet) setting start))
 
       -- ---- what that says of each
 
       pub plain-unstuck : plainBy A sets sheet starts rates ≡ stuck → ⊥
       unfolding settingOf plainBy
-      plain-unstuck = body-unstuck A setting begins (markedBy sets sheet) 0 first body-named (first-sized many)
+      plain-unstuck = body-unstuck A setting begins (markedBy sets sheet) 0 first body-named body-done (first-sized many)
 
       -- a step that is no end and no stop is not what the run comes to
       only-ends : (out : Step A) → ((memory : Memory A) → out ≡ ended memory → ⊥) → ((row : RowNumber) (stop : Stop A) → out ≡ stops row stop → ⊥)

@@ -3,11 +3,11 @@ use Prim.Native.Nat.{ℕ, _*_}
 use mathlib.Core.List.{List, _++_}
 use lib.ListN.{length}
 use lib.Dec.{eqb}
-use Rattle.number.specs.Arithmetic.{Arithmetic}
+use Rattle.number.specs.Arithmetic.{Arithmetic, divides}
 use Rattle.sheet.specs.Judging.{Answer, refused, given, _>>=_, unless}
 use Rattle.sheet.specs.Refusals.{numberOf, placeOf, wrongStarts, wrongSeeds, wrongResult, notFiniteResult}
 use Rattle.sheet.specs.Sheets.{Sheet, variablesOf}
-use Rattle.sheet.specs.Reading.{read}
+use Rattle.sheet.specs.Reading.{readIn}
 use Rattle.sets.specs.Rounds.{setsOf, marked}
 use Rattle.machine.specs.Actions.{Attempt, through, halted, stuck}
 use Rattle.run.specs.Calls.{allAdmitted, stuckNumber}
@@ -15,11 +15,11 @@ use Rattle.plain.specs.Carries.{Carry}
 use Rattle.plain.specs.Plain.{Carried, StopAt, plainBy, plainResult}
 
 module _ (A : Arithmetic) where
-  -- refusals 1 to 7, 10 and 11: "without 8 in the plain engine", which has no stacks either
+  -- refusals 1 to 7, 10 and 11: "without 8 in the plain engine", which has no stacks either; 13 would be given where the arithmetic doesn't divide
   unfoldable pub readToCarry : (words : List ℕ) → (starts rates result : List (A .Carrier)) → Answer Sheet
-  unfolding read allAdmitted
+  unfolding readIn allAdmitted
   readToCarry words starts rates result = do
-    sheet ← read words
+    sheet ← readIn (divides A) words
     let v = variablesOf sheet
     _ ← unless (eqb (length starts) v) wrongStarts
     _ ← unless (eqb (length rates) v) wrongSeeds

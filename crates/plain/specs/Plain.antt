@@ -2,9 +2,9 @@
 use Prim.Native.Nat.{ℕ, zero, suc, _+_}
 use mathlib.Core.Bool.{cond}
 use mathlib.Core.List.{List, [], _++_}
-use Rattle.number.specs.Arithmetic.{Arithmetic}
+use Rattle.number.specs.Arithmetic.{Arithmetic, over}
 use Rattle.sheet.specs.Tree.{done, one, fork, again, RowNumber}
-use Rattle.sheet.specs.Rows.{Assignment, _≔_, Source, copy, fixed, sum, difference, product, negation, isDependent}
+use Rattle.sheet.specs.Rows.{Assignment, _≔_, Source, copy, fixed, sum, difference, product, negation, quotient, isDependent}
 use Rattle.sheet.specs.Sheets.{Sheet, variablesOf}
 use Rattle.sets.specs.Transfers.{Activity}
 use Rattle.sets.specs.Marks.{Sets, markedBy}
@@ -36,8 +36,27 @@ module _ (A : Arithmetic) where
     rate ← look (now .rates) j
     fromOutcome (A .product x rate)
 
+  -- of a quotient's rate (02 §4): x over the value of b; ȧ / b; and from this row of the table on "t := a × ḃ, t := t / b, t := t / b"
+  abbrev pub overValue : A .Carrier → (b : ℕ) → Carried → Try A (A .Carrier)
+  overValue x b now = do
+    y ← look (now .values) b
+    outcome ← present (over (A .quotient) x y)
+    fromOutcome outcome
+
+  abbrev pub firstOver : (a b : ℕ) → Carried → Try A (A .Carrier)
+  firstOver a b now = do
+    rate ← look (now .rates) a
+    overValue rate b now
+
+  abbrev pub secondOver : (a b row : ℕ) → Carried → Attempt StopAt (A .Carrier)
+  secondOver a b row now = do
+    t ← stoppingIn row (term a b now)
+    once ← stoppingIn (suc row) (overValue t b now)
+    stoppingIn (suc (suc row)) (overValue once b now)
+
   -- an active row's ḋ, whose rate rows begin at this row of the table. "Copy: ȧ. Negation: the rate negated. Sum and difference: the same
-  -- operation on the rates, or copy or negation of the one varied. Product: u := b × ȧ, t := a × ḃ, ḋ := u + t, or the one term alone"
+  -- operation on the rates, or copy or negation of the one varied. Product: u := b × ȧ, t := a × ḃ, ḋ := u + t, or the one term alone". A quotient:
+  -- "u := ȧ / b, .. ḋ := u − t", ȧ / b alone, or the second term negated
   unfoldable pub activeRate : Source → Activity → (row : ℕ) → Carried → Attempt StopAt (A .Carrier)
   unfolding evaluated
   activeRate (copy a) known row now = stoppingIn row (evaluated A [] (copy a) (now .rates))
@@ -53,6 +72,16 @@ module _ (A : Arithmetic) where
         stoppingIn (suc (suc row)) (fromOutcome (A .sum u t)))
       (stoppingIn row (term b a now)) (stoppingIn row (term a b now))
   activeRate (negation a) known row now = stoppingIn row (evaluated A [] (negation a) (now .rates))
+  activeRate (quotient a b) known row now =
+      fromVaried known
+      (do
+        u ← stoppingIn row (firstOver a b now)
+        t ← secondOver a b (suc row) now
+        stoppingIn (suc (suc (suc (suc row)))) (fromOutcome (A .difference u t)))
+      (stoppingIn row (firstOver a b now))
+      (do
+        t ← secondOver a b row now
+        stoppingIn (suc (suc (suc row))) (fromOutcome (A .negation t)))
 
   -- "An inactive assignment's .. sets ḋ to 0."
   unfoldable pub rateFor : Source → Activity → (row : ℕ) → Carried → Attempt StopAt (A .Carrier)

@@ -1,6 +1,6 @@
 // One assignment on the pairs that it reads: its rate, worked out first, and its value.
 ghost use mathlib.Core.Path.{_≡_};
-ghost use Prim.Native.Nat.{_+_, _-_, _<_};
+ghost use Prim.Native.Nat.{_+_, _-_, _<_, _≤_};
 ghost use lib.ListN.{length};
 ghost use Rattle.number.specs.Answers.{outcomeOf};
 ghost use Rattle.sheet.specs.Answers.{rowSaid};
@@ -8,7 +8,7 @@ ghost use Rattle.sheet.specs.inner.RowLines.{lineOfRow};
 ghost use Rattle.sheet.specs.declared.kinds.Part.the-variants.{Assignment};
 ghost use Rattle.table.specs.inner.MarkedRows.{knownBy, SaysPart};
 ghost use Rattle.tangent.specs.inner.TangentPlans.{lineCount};
-ghost use Rattle.plain.specs.inner.Working.{rateSaid, workedSaid, after, sumRate, differenceRate, twoTerms, productRate, activeRateOf, rateOn, valueOn, operandOn, workedOn};
+ghost use Rattle.plain.specs.inner.Working.{rateSaid, workedSaid, after, sumRate, differenceRate, twoTerms, productRate, secondOver, bothOver, secondAlone, quotientRate, activeRateOf, rateOn, valueOn, operandOn, workedOn};
 use super::Rated;
 use number::Outcome;
 use number::constant;
@@ -93,6 +93,58 @@ fn product_rate(vary_a: bool, vary_b: bool, a: Rated, b: Rated) -> Rate
     two_terms(a, b)
 }
 
+// A quotient's second term: "t := a × ḃ, t := t / b, t := t / b". So many of the row's table rows stand before it.
+fn second_over(rows: u8, a: Rated, b: Rated) -> Rate
+    requires { ⌜ rows ≤ 1 ⌝ }
+    ensures { λ r. ⌜ rateSaid r ≡ secondOver rows a b ⌝ }
+{
+    let t = match double::product(a.value, b.rate) {
+        Outcome::Value(t) => t,
+        Outcome::Stop => return Rate::Stopped(rows),
+    };
+    let once = match double::quotient(t, b.value) {
+        Outcome::Value(once) => once,
+        Outcome::Stop => return Rate::Stopped(rows + 1),
+    };
+    after(rows + 2, double::quotient(once, b.value))
+}
+
+// "u := ȧ / b, .. ḋ := u − t"
+fn both_over(a: Rated, b: Rated) -> Rate
+    ensures { λ r. ⌜ rateSaid r ≡ bothOver a b ⌝ }
+{
+    let u = match double::quotient(a.rate, b.value) {
+        Outcome::Value(u) => u,
+        Outcome::Stop => return Rate::Stopped(0),
+    };
+    match second_over(1, a, b) {
+        Rate::Is(t) => after(4, double::difference(u, t)),
+        Rate::Stopped(rows) => Rate::Stopped(rows),
+    }
+}
+
+// "the second alone the t rows, then ḋ := −t"
+fn second_alone(a: Rated, b: Rated) -> Rate
+    ensures { λ r. ⌜ rateSaid r ≡ secondAlone a b ⌝ }
+{
+    match second_over(0, a, b) {
+        Rate::Is(t) => after(3, double::negation(t)),
+        Rate::Stopped(rows) => Rate::Stopped(rows),
+    }
+}
+
+fn quotient_rate(vary_a: bool, vary_b: bool, a: Rated, b: Rated) -> Rate
+    ensures { λ r. ⌜ rateSaid r ≡ quotientRate «vary_a» «vary_b» a b ⌝ }
+{
+    if !vary_a {
+        return second_alone(a, b);
+    }
+    if !vary_b {
+        return after(0, double::quotient(a.rate, b.value));
+    }
+    both_over(a, b)
+}
+
 fn active_rate(kind: u16, vary_a: bool, vary_b: bool, a: Rated, b: Rated) -> Rate
     ensures { λ r. ⌜ rateSaid r ≡ activeRateOf kind «vary_a» «vary_b» a b ⌝ }
 {
@@ -101,6 +153,7 @@ fn active_rate(kind: u16, vary_a: bool, vary_b: bool, a: Rated, b: Rated) -> Rat
         kinds::DIFFERENCE => after(0, difference_rate(vary_a, vary_b, a.rate, b.rate)),
         kinds::PRODUCT => product_rate(vary_a, vary_b, a, b),
         kinds::NEGATION => after(0, double::negation(a.rate)),
+        kinds::QUOTIENT => quotient_rate(vary_a, vary_b, a, b),
         _ => Rate::Is(a.rate),
     }
 }
@@ -125,6 +178,7 @@ fn value_of(kind: u16, a: f64, b: f64) -> Outcome
         kinds::DIFFERENCE => double::difference(a, b),
         kinds::PRODUCT => double::product(a, b),
         kinds::NEGATION => double::negation(a),
+        kinds::QUOTIENT => double::quotient(a, b),
         _ => Outcome::Value(a),
     }
 }

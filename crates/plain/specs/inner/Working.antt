@@ -4,9 +4,10 @@ use mathlib.Core.Bool.{Bool, cond}
 use mathlib.Core.List.{List}
 use lib.ListN.{getD}
 use lib.Dec.{eqb}
-use lib.Ieee.{Float}
+use lib.Ieee.{Float, binary64, div}
 use Rattle.number.specs.Arithmetic.{Outcome, value, stop, signed}
-use Rattle.number.specs.Doubles.{Reason, doubles}
+use Rattle.number.specs.Doubles.{Reason, finiteOrStop, doubles}
+use Rattle.sheet.specs.Rows.{quotientKind}
 use Rattle.sets.specs.Transfers.{Activity}
 use Rattle.machine.specs.Actions.{Attempt, through, halted, _>>=_}
 use Rattle.plain.specs.declared.Rated.{Rated}
@@ -36,10 +37,15 @@ after rows (stop why) = halted rows
 abbrev pub byVaried : {X : Type 0} → (a b : Bool) → (both ofA ofB : X) → X
 byVaried a b both ofA ofB = cond a (cond b both ofA) ofB
 
--- by an assignment's kind: one that moves a number, a copy or a constant, is none of the four
-abbrev pub byKind : {X : Type 0} → (kind : ℕ) → (moved added subtracted multiplied negated : X) → X
-byKind kind moved added subtracted multiplied negated =
-    cond (eqb kind 3) added (cond (eqb kind 4) subtracted (cond (eqb kind 5) multiplied (cond (eqb kind 6) negated moved)))
+-- by an assignment's kind: one that moves a number, a copy or a constant, is none of the five
+abbrev pub byKind : {X : Type 0} → (kind : ℕ) → (moved added subtracted multiplied negated divided : X) → X
+byKind kind moved added subtracted multiplied negated divided =
+    cond (eqb kind 3) added
+    (cond (eqb kind 4) subtracted (cond (eqb kind 5) multiplied (cond (eqb kind 6) negated (cond (eqb kind quotientKind) divided moved))))
+
+-- x over y, which doubles have
+abbrev pub overOf : (x y : Float) → Outcome Float Reason
+overOf x y = finiteOrStop (div binary64 x y)
 
 abbrev pub sumRate : (varyA varyB : Bool) → (a b : Float) → Outcome Float Reason
 sumRate varyA varyB a b = byVaried varyA varyB (doubles .sum a b) (value a) (value b)
@@ -57,10 +63,31 @@ abbrev pub productRate : (varyA varyB : Bool) → (a b : Rated) → Attempt ℕ 
 productRate varyA varyB a b =
     byVaried varyA varyB (twoTerms a b) (after 0 (doubles .product (b .value) (a .rate))) (after 0 (doubles .product (a .value) (b .rate)))
 
+-- a quotient's second term, which so many rows stand before; both terms; the second alone
+abbrev pub secondOver : (rows : ℕ) → (a b : Rated) → Attempt ℕ Float
+secondOver rows a b = do
+  t ← after rows (doubles .product (a .value) (b .rate))
+  once ← after (rows + 1) (overOf t (b .value))
+  after (rows + 2) (overOf once (b .value))
+
+abbrev pub bothOver : (a b : Rated) → Attempt ℕ Float
+bothOver a b = do
+  u ← after 0 (overOf (a .rate) (b .value))
+  t ← secondOver 1 a b
+  after 4 (doubles .difference u t)
+
+abbrev pub secondAlone : (a b : Rated) → Attempt ℕ Float
+secondAlone a b = do
+  t ← secondOver 0 a b
+  after 3 (doubles .negation t)
+
+abbrev pub quotientRate : (varyA varyB : Bool) → (a b : Rated) → Attempt ℕ Float
+quotientRate varyA varyB a b = byVaried varyA varyB (bothOver a b) (after 0 (overOf (a .rate) (b .value))) (secondAlone a b)
+
 abbrev pub activeRateOf : (kind : ℕ) → (varyA varyB : Bool) → (a b : Rated) → Attempt ℕ Float
 activeRateOf kind varyA varyB a b =
     byKind kind (through (a .rate)) (after 0 (sumRate varyA varyB (a .rate) (b .rate))) (after 0 (differenceRate varyA varyB (a .rate) (b .rate)))
-    (productRate varyA varyB a b) (after 0 (doubles .negation (a .rate)))
+    (productRate varyA varyB a b) (after 0 (doubles .negation (a .rate))) (quotientRate varyA varyB a b)
 
 abbrev pub rateOn : (kind : ℕ) → Activity → (a b : Rated) → Attempt ℕ Float
 rateOn kind known a b = cond (known .active) (activeRateOf kind (known .variedA) (known .variedB) a b) (through (doubles .zero))
@@ -68,7 +95,7 @@ rateOn kind known a b = cond (known .active) (activeRateOf kind (known .variedA)
 -- ---- the value
 
 abbrev pub valueOn : (kind : ℕ) → (a b : Float) → Outcome Float Reason
-valueOn kind a b = byKind kind (value a) (doubles .sum a b) (doubles .difference a b) (doubles .product a b) (doubles .negation a)
+valueOn kind a b = byKind kind (value a) (doubles .sum a b) (doubles .difference a b) (doubles .product a b) (doubles .negation a) (overOf a b)
 
 -- ---- both
 

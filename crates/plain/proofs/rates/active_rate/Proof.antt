@@ -26,6 +26,9 @@ negation-requires c κs = search needs
 after-requires-3 : tie.Need-after-requires-3
 after-requires-3 c κs = search needs
 
+quotient-rate-requires : tie.Need-quotient-rate-requires
+quotient-rate-requires c κs = search needs
+
 returns : tie.Need-returns
 returns c = rw (c .before .before .match .keys1, sym (c .before .sum-rate .ensures)) (c .after .ensures)
 
@@ -39,9 +42,12 @@ returns-4 : tie.Need-returns-4
 returns-4 c = rw (c .before .before .match .keys4, sym (c .before .negation .ensures)) (c .after3 .ensures)
 
 returns-5 : tie.Need-returns-5
-returns-5 c =
+returns-5 c = rw (c .before .match .keys5) (c .quotient-rate .ensures)
+
+returns-6 : tie.Need-returns-6
+returns-6 c =
     let other = c .match .rest in
-    moves _ _ _ _ _ (other .0 .0 .0 .1) (other .0 .0 .1) (other .0 .1) (other .1)
+    moves _ _ _ _ _ _ (other .0 .0 .0 .0 .1) (other .0 .0 .0 .1) (other .0 .0 .1) (other .0 .1) (other .1)
 
 pub active-rate-spec : {M : Type 1} → statement M
 active-rate-spec =
@@ -54,8 +60,10 @@ active-rate-spec =
     product-rate-requires
     negation-requires
     after-requires-3
+    quotient-rate-requires
     returns
     returns-2
     returns-3
     returns-4
-    returns-5)
+    returns-5
+    returns-6)
