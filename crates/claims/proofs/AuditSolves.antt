@@ -8,10 +8,9 @@ use lib.Seq.{take-at, drop-at, getD-drop}
 use native.Mathlib.Nat.{not-suc-le-zero, le-of-suc-le-suc}
 use native.Mathlib.Omega.{arith}
 use Rattle.number.specs.Residues.{modulus, residues}
-use Rattle.sheet.specs.Judging.{given}
 use Rattle.sheet.specs.Rows.{isIndependent}
 use Rattle.sheet.specs.Sheets.{Sheet, variablesOf}
-use Rattle.sheet.specs.Reading.{read}
+use Rattle.sheet.proofs.Feasibility.{ReadFor}
 use Rattle.sheet.proofs.NamesPresent.{names-present}
 use Rattle.sets.specs.Rounds.{setsOf}
 use Rattle.sets.specs.Marks.{activityAt}
@@ -26,17 +25,18 @@ use Rattle.claims.specs.EquationTwo.{Instance, valueNo, EquationTwo}
 use Rattle.claims.specs.Demands.{AuditSolves}
 use Rattle.claims.proofs.Runs.{runs}
 use Rattle.claims.proofs.RunsKeepSizes.{runs-keep}
-use Rattle.claims.proofs.StartExactlyWhen.{accepted-to-run, OwnRunnable}
+use Rattle.claims.proofs.StartExactlyWhen.{reads-to-run, OwnRunnable}
 use Rattle.claims.proofs.RunsAnswer.{AnswersAs, run-answers}
 use Rattle.claims.proofs.EquationTwoSolved.{equation-two-solvable}
 use Rattle.claims.proofs.EquationTwoHolds.{Sound, Given, ideal-goes, ideal-solves}
 
-pub sound : (words : List ℕ) (sheet : Sheet) → read words ≡ given sheet → Sound sheet
-sound words sheet accepted =
+pub sound : (words : List ℕ) (sheet : Sheet) → ReadFor false words sheet → Sound sheet
+sound words sheet reads =
     record {
-      varies = varied-least words sheet accepted .satisfies;
-      uses = useful-least words sheet accepted .satisfies;
-      present = names-present words sheet accepted;
+      varies = varied-least words sheet (reads .isRead) .satisfies;
+      uses = useful-least words sheet (reads .isRead) .satisfies;
+      present = names-present words sheet (reads .isRead);
+      feasible = reads .feasible;
     }
 
 -- an independent's entry is its adjoint, any other's 0
@@ -62,7 +62,7 @@ module _ (words starts seeds : List ℕ) (lent : Lent residues) (sheet : Sheet)
   setting = settingOf residues sheet seeds values turns
 
   given-soundly : Sound sheet
-  given-soundly = sound words sheet (accepted-to-run residues needsBy words starts seeds lent sheet ready)
+  given-soundly = sound words sheet (reads-to-run residues needsBy words starts seeds lent sheet ready)
 
   begins : Given sheet starts seeds
   begins = record { started = ready .lengths .startValues; below = below }

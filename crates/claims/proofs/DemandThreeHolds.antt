@@ -5,11 +5,10 @@ use mathlib.Core.List.{List, []}
 use lib.ListN.{length, replicate}
 use lib.Seq.{take-at}
 use native.Mathlib.Omega.{arith}
-use Rattle.number.specs.Arithmetic.{Arithmetic}
+use Rattle.number.specs.Arithmetic.{Arithmetic, divides}
 use Rattle.sheet.specs.Tree.{done, one, rows, flat}
-use Rattle.sheet.specs.Judging.{given}
 use Rattle.sheet.specs.Sheets.{Sheet, variablesOf}
-use Rattle.sheet.specs.Reading.{read}
+use Rattle.sheet.proofs.Feasibility.{ReadFor}
 use Rattle.sets.specs.Rounds.{setsOf}
 use Rattle.sets.specs.Marks.{markBy, markedBy}
 use Rattle.table.specs.TableRows.{Table, ofTurningRound, turnRound, linesOf}
@@ -30,12 +29,12 @@ use Rattle.claims.proofs.MachineLogs.{table-log}
 use Rattle.claims.proofs.Heights.{Within, table-never-sticks, table-heights}
 use Rattle.claims.proofs.RunInTheLarge.{knownIn, marksOf, turningOf, memoryAt, Prepared, forward-part, forward-notes, ran, keeps-size, turning-notes}
 use Rattle.claims.proofs.WholeRunMatches.{own-run-matches}
-use Rattle.claims.proofs.StartExactlyWhen.{accepted-reads, by-own-sets}
+use Rattle.claims.proofs.StartExactlyWhen.{reads-for, by-own-sets}
 use Rattle.claims.proofs.RunsAnswer.{unstuck-run}
 use Rattle.claims.proofs.AtTurningRound.{forward-lines, saved-exactly}
 use Rattle.claims.proofs.SavesOnlyRecorded.{saves-only-recorded}
 
-module _ (A : Arithmetic) (words : List ℕ) (sheet : Sheet) (accepted : read words ≡ given sheet) (starts seeds : List (A .Carrier))
+module _ (A : Arithmetic) (words : List ℕ) (sheet : Sheet) (reads : ReadFor (divides A) words sheet) (starts seeds : List (A .Carrier))
     (n : length starts ≡ variablesOf sheet) where
   abbrev v : ℕ
   v = variablesOf sheet
@@ -46,7 +45,7 @@ module _ (A : Arithmetic) (words : List ℕ) (sheet : Sheet) (accepted : read wo
   module _ (valueRoom turnRoom : ℕ) (values : valuesNeeded (markedBy (setsOf sheet) sheet) ≤ valueRoom) (turns : turnsNeeded (markedBy (setsOf sheet) sheet) ≤ turnRoom) where
     matches : Matches A v (ideal A sheet (setsOf sheet) (settingIn valueRoom turnRoom) starts)
         (runOf A (tableBy (setsOf sheet) sheet) (settingIn valueRoom turnRoom) (startOf A sheet starts))
-    matches = own-run-matches A words sheet accepted starts seeds n valueRoom turnRoom values turns
+    matches = own-run-matches A words sheet reads starts seeds n valueRoom turnRoom values turns
 
     unstuck : runOf A (tableBy (setsOf sheet) sheet) (settingIn valueRoom turnRoom) (startOf A sheet starts) ≡ sticks → ⊥
     unstuck = unstuck-run A v (ideal A sheet (setsOf sheet) (settingIn valueRoom turnRoom) starts) _ matches
@@ -101,7 +100,7 @@ module _ (A : Arithmetic) (words : List ℕ) (sheet : Sheet) (accepted : read wo
     unfolding markBy
     prepared =
         record {
-          accepted = accepted;
+          reads = reads;
           covers = λ p b recorded. recorded;
           started = n;
           values = subst (λ t. valuesNeeded t ≤ valueRoom) is-marked values;
@@ -160,8 +159,8 @@ module _ (A : Arithmetic) (words : List ℕ) (sheet : Sheet) (accepted : read wo
       }
 
 pub demand-three : ThirdDemand
-demand-three A words sheet sets accepted starts seeds n valueRoom turnRoom values turns =
-    let mine = accepted-reads words sheet (accepted .isRead) in
+demand-three A words sheet sets accepted calculable starts seeds n valueRoom turnRoom values turns =
+    let mine = reads-for words sheet (divides A) (accepted .isRead) calculable in
     by-own-sets words sheet
     (λ s. needsBy s sheet .values ≤ valueRoom → needsBy s sheet .turns ≤ turnRoom → DemandThree A sheet s starts seeds valueRoom turnRoom)
     (all-of-it A words sheet mine starts seeds n valueRoom turnRoom) sets accepted values turns

@@ -4,11 +4,10 @@ use Prim.Native.Nat.{ℕ, _<_}
 use mathlib.Core.Path.{_≡_, sym, ap, ap₂, subst, _∙_}
 use mathlib.Core.List.{List, _++_}
 use lib.ListN.{length, getD, drop}
-use Rattle.number.specs.Arithmetic.{Arithmetic}
+use Rattle.number.specs.Arithmetic.{Arithmetic, divides}
 use Rattle.number.specs.Residues.{modulus, residues}
-use Rattle.sheet.specs.Judging.{given}
 use Rattle.sheet.specs.Sheets.{Sheet, variablesOf}
-use Rattle.sheet.specs.Reading.{read}
+use Rattle.sheet.proofs.Feasibility.{ReadFor}
 use Rattle.sets.specs.Marks.{Sets}
 use Rattle.sets.specs.Rounds.{setsOf}
 use Rattle.table.specs.Adjoint.{tableBy}
@@ -22,7 +21,7 @@ use Rattle.claims.specs.ExactlyWhen.{Runnable}
 use Rattle.claims.specs.WholeRun.{every, runSaving, StackRoom}
 use Rattle.claims.specs.Demands.{adjointBy, AuditSolves, AnswersLike, sameResult, sameStop, RunMeets, AuditMeets}
 use Rattle.claims.specs.ThreeDemands.{SameOutcome, bothEnd, bothStop, SameAsAllSaved, SecondDemand}
-use Rattle.claims.proofs.StartExactlyWhen.{own-sets, by-own-sets, OwnRunnable, own-run, accepted-to-run}
+use Rattle.claims.proofs.StartExactlyWhen.{own-sets, by-own-sets, OwnRunnable, own-run, reads-to-run}
 use Rattle.claims.proofs.WholeRunMatches.{noFurther, own-room, own-table-run}
 use Rattle.claims.proofs.RunsEnd.{stop-names-its-row}
 use Rattle.claims.proofs.RunsAnswer.{run-started, saved-rows-same}
@@ -31,11 +30,11 @@ use Rattle.claims.proofs.DemandOneHolds.{write-call, run-call}
 use Rattle.claims.proofs.DemandThreeHolds.{demand-three}
 
 module _ (A : Arithmetic) (words : List ℕ) (sheet : Sheet) (starts seeds : List (A .Carrier)) where
-  pub same-as-all-saved : read words ≡ given sheet → length starts ≡ variablesOf sheet → SameAsAllSaved A sheet (setsOf sheet) starts seeds
-  same-as-all-saved accepted n values turns allValues allTurns v t all =
+  pub same-as-all-saved : ReadFor (divides A) words sheet → length starts ≡ variablesOf sheet → SameAsAllSaved A sheet (setsOf sheet) starts seeds
+  same-as-all-saved reads n values turns allValues allTurns v t all =
       subst (λ ending. SameOutcome A (variablesOf sheet) ending (runSaving A every sheet (setsOf sheet) starts seeds allValues allTurns))
       (own-table-run A sheet starts seeds values turns)
-      (saved-rows-same A words sheet accepted noFurther every starts seeds n values turns allValues allTurns
+      (saved-rows-same A words sheet reads noFurther every starts seeds n values turns allValues allTurns
       (own-room A sheet values turns v t) all)
 
   same-result : (first second : Memory A) → first .copied ≡ second .copied
@@ -70,7 +69,7 @@ module _ (A : Arithmetic) (words : List ℕ) (sheet : Sheet) (starts seeds : Lis
     own-answers valueRoom turnRoom all =
         let stacks = ready .lengths .stacks in
         answers-like _
-        (same-as-all-saved (accepted-to-run A needsBy words starts seeds before sheet ready) (ready .lengths .startValues) _ _ valueRoom turnRoom
+        (same-as-all-saved (reads-to-run A needsBy words starts seeds before sheet ready) (ready .lengths .startValues) _ _ valueRoom turnRoom
         (stacks .values) (stacks .turns) all)
 
 -- ---- of any sets that are least
@@ -114,8 +113,8 @@ run-meets A words starts seeds before after answer contract =
       allSaved = λ sheet sets ready. answers-like-all-saved A words sheet sets starts seeds before ready _ contract;
       replays = λ sheet sets ready.
           let stacks = ready .lengths .stacks in
-          demand-three A words sheet sets (stacks .writable .accepted) starts seeds (ready .lengths .startValues) _ _ (stacks .values)
-          (stacks .turns);
+          demand-three A words sheet sets (stacks .writable .accepted) (stacks .writable .calculable) starts seeds (ready .lengths .startValues) _ _
+          (stacks .values) (stacks .turns);
     }
 
 pub audit-meets : (words starts seeds : List ℕ) (before after : Lent residues) (answer : Reply) → ((x : ℕ) → getD seeds x 0 < modulus)

@@ -3,21 +3,22 @@
 use Prim.Native.Nat.{ℕ, _+_, _-_, _≤_, _<_}
 use mathlib.Core.Path.{_≡_, refl, sym, ap, _∙_}
 use mathlib.Core.Logic.{_⊎_, inl, inr}
-use mathlib.Core.Bool.{cond}
+use mathlib.Core.Bool.{Bool, true, cond}
 use mathlib.Core.List.{List, [], _∷_, _++_}
 use mathlib.Core.Option.{some}
 use lib.ListN.{length, set, getElem?, length-append, length-set}
 use lib.Dec.{T, ltb}
 use native.Mathlib.Omega.{arith}
 use borrow.Author.Tests.{lt-ltb}
-use Rattle.number.specs.Arithmetic.{Arithmetic, Outcome}
-use Rattle.sheet.specs.Rows.{_≔_, Source, copy, fixed, sum, difference, product, negation}
+use Rattle.number.specs.Arithmetic.{Arithmetic, Outcome, divides}
+use Rattle.sheet.specs.Rows.{_≔_, Source, copy, fixed, sum, difference, product, negation, quotient}
 use Rattle.sets.specs.VariableSets.{VariableSet, has}
 use Rattle.table.specs.RowBounds.{tableVariables}
 use Rattle.table.specs.TableRows.{Action, assign, save, takeBack, saveTurn, clear, turnRound}
 use Rattle.machine.specs.Actions.{through, halted, _>>=_, fromOutcome, look, Memory, Setting, evaluated, acted, stored, withStore}
 use Rattle.machine.specs.RowReads.{originalAt, readsOf}
 use Rattle.machine.proofs.AttemptLaws.{Ready, gives, stops, from-outcome-ready}
+use Rattle.run.proofs.RowsReady.{quotient-ready}
 use Rattle.run.proofs.Stores.{same-default, at-known, at-first-part, at-second-part, set-second-part}
 
 -- ---- rows that work on the adjoints
@@ -26,21 +27,23 @@ use Rattle.run.proofs.Stores.{same-default, at-known, at-first-part, at-second-
 abbrev pub MayRead : (variables : ℕ) → VariableSet → ℕ → Type 0
 MayRead v needed i = ((i < v) × T (has needed i)) ⊎ ((v ≤ i) × (i < tableVariables v))
 
-abbrev pub SourceReadable : (variables : ℕ) → VariableSet → Source → Type 0
-SourceReadable v needed (copy a) = MayRead v needed a
-SourceReadable v needed (fixed c) = ⊥
-SourceReadable v needed (sum a b) = MayRead v needed a × MayRead v needed b
-SourceReadable v needed (difference a b) = MayRead v needed a × MayRead v needed b
-SourceReadable v needed (product a b) = MayRead v needed a × MayRead v needed b
-SourceReadable v needed (negation a) = MayRead v needed a
+-- and a quotient only where there are any
+abbrev pub SourceReadable : (quotients : Bool) (variables : ℕ) → VariableSet → Source → Type 0
+SourceReadable quotients v needed (copy a) = MayRead v needed a
+SourceReadable quotients v needed (fixed c) = ⊥
+SourceReadable quotients v needed (sum a b) = MayRead v needed a × MayRead v needed b
+SourceReadable quotients v needed (difference a b) = MayRead v needed a × MayRead v needed b
+SourceReadable quotients v needed (product a b) = MayRead v needed a × MayRead v needed b
+SourceReadable quotients v needed (negation a) = MayRead v needed a
+SourceReadable quotients v needed (quotient a b) = MayRead v needed a × MayRead v needed b × (quotients ≡ true)
 
-abbrev pub OnAdjoints : (variables : ℕ) → VariableSet → Action → Type 0
-OnAdjoints v needed (assign (d ≔ source)) = (v ≤ d) × (d < tableVariables v) × SourceReadable v needed source
-OnAdjoints v needed (save d) = ⊥
-OnAdjoints v needed (takeBack d) = ⊥
-OnAdjoints v needed (saveTurn first) = ⊥
-OnAdjoints v needed (clear d) = (v ≤ d) × (d < tableVariables v)
-OnAdjoints v needed turnRound = ⊥
+abbrev pub OnAdjoints : (quotients : Bool) (variables : ℕ) → VariableSet → Action → Type 0
+OnAdjoints quotients v needed (assign (d ≔ source)) = (v ≤ d) × (d < tableVariables v) × SourceReadable quotients v needed source
+OnAdjoints quotients v needed (save d) = ⊥
+OnAdjoints quotients v needed (takeBack d) = ⊥
+OnAdjoints quotients v needed (saveTurn first) = ⊥
+OnAdjoints quotients v needed (clear d) = (v ≤ d) × (d < tableVariables v)
+OnAdjoints quotients v needed turnRound = ⊥
 
 module _ (A : Arithmetic) where
   -- two stores that agree on a set
@@ -83,7 +86,7 @@ module _ (A : Arithmetic) where
           let y = readable-known b q in
           rw (x .1, y .1) (from-outcome-ready (f (x .0) (y .0)))
 
-      evaluated-ready : (constants : List ℕ) (source : Source) → SourceReadable v needed source
+      evaluated-ready : (constants : List ℕ) (source : Source) → SourceReadable (divides A) v needed source
           → Ready (evaluated A constants source (originals ++ adjoints))
       unfolding evaluated
       evaluated-ready constants (copy a) p = let x = readable-known a p in rw (x .1) (gives (x .0) refl)
@@ -92,6 +95,10 @@ module _ (A : Arithmetic) where
       evaluated-ready constants (difference a b) p = both-ready (A .difference) a b (p .0) (p .1)
       evaluated-ready constants (product a b) p = both-ready (A .product) a b (p .0) (p .1)
       evaluated-ready constants (negation a) p = let x = readable-known a p in rw (x .1) (from-outcome-ready (A .negation (x .0)))
+      evaluated-ready constants (quotient a b) p =
+          let x = readable-known a (p .0) in
+          let y = readable-known b (p .1) in
+          rw (x .1, y .1) (quotient-ready A (p .2) (x .0) (y .0))
 
       -- a number put among the adjoints
       stored-adjoint : (memory : Memory A) (d : ℕ) (x : A .Carrier) → v ≤ d → d < tableVariables v
@@ -109,7 +116,7 @@ module _ (A : Arithmetic) where
           at-first-part originals adjoints i (omega (arith, h .0)) ∙ agree i (h .1) ∙ sym (at-first-part others adjoints i (omega (arith, h .0)))
       same-at i (inr h) = at-adjoint originals adjoints i n (h .0) ∙ sym (at-adjoint others adjoints i k (h .0))
 
-      same-evaluated : (constants : List ℕ) (source : Source) → SourceReadable v needed source
+      same-evaluated : (constants : List ℕ) (source : Source) → SourceReadable (divides A) v needed source
           → evaluated A constants source (originals ++ adjoints) ≡ evaluated A constants source (others ++ adjoints)
       unfolding evaluated
       same-evaluated constants (copy a) p = rw (same-at a p)
@@ -118,12 +125,13 @@ module _ (A : Arithmetic) where
       same-evaluated constants (difference a b) p = rw (same-at a (p .0), same-at b (p .1))
       same-evaluated constants (product a b) p = rw (same-at a (p .0), same-at b (p .1))
       same-evaluated constants (negation a) p = rw (same-at a p)
+      same-evaluated constants (quotient a b) p = rw (same-at a (p .0), same-at b (p .1))
 
       same-original : (i : ℕ) → MayRead v needed i → originalAt A v i (originals ++ adjoints) ≡ originalAt A v i (others ++ adjoints)
       same-original i h = ap (λ x. cond (ltb i v) (x ∷ []) []) (same-default (originals ++ adjoints) (others ++ adjoints) i (A .zero) (same-at i h))
 
       -- what a row is noted to read
-      pub same-reads : (action : Action) → OnAdjoints v needed action
+      pub same-reads : (action : Action) → OnAdjoints (divides A) v needed action
           → readsOf A v action (originals ++ adjoints) ≡ readsOf A v action (others ++ adjoints)
       unfolding readsOf
       same-reads (assign (d ≔ copy a)) p = same-original a (p .2)
@@ -132,6 +140,7 @@ module _ (A : Arithmetic) where
       same-reads (assign (d ≔ difference a b)) p = rw (same-original a (p .2 .0), same-original b (p .2 .1))
       same-reads (assign (d ≔ product a b)) p = rw (same-original a (p .2 .0), same-original b (p .2 .1))
       same-reads (assign (d ≔ negation a)) p = same-original a (p .2)
+      same-reads (assign (d ≔ quotient a b)) p = rw (same-original a (p .2 .0), same-original b (p .2 .1))
       same-reads (save d) p = refl
       same-reads (takeBack d) p = refl
       same-reads (saveTurn first) p = refl
@@ -156,7 +165,7 @@ module _ (A : Arithmetic) where
 
     module _ (v : ℕ) (needed : VariableSet) (originals others : List (A .Carrier)) (n : length originals ≡ v) (k : length others ≡ v)
         (agree : Agree originals others needed) where
-      assign-alike : (adjoints : List (A .Carrier)) (m : AdjointSize v adjoints) (d : ℕ) (source : Source) → OnAdjoints v needed (assign (d ≔ source))
+      assign-alike : (adjoints : List (A .Carrier)) (m : AdjointSize v adjoints) (d : ℕ) (source : Source) → OnAdjoints (divides A) v needed (assign (d ≔ source))
           → Ready (evaluated A (setting .constants) source (originals ++ adjoints)) → Alike v originals others (assign (d ≔ source)) adjoints
       unfolding acted
       assign-alike adjoints m d source p (gives x e) =
@@ -168,7 +177,7 @@ module _ (A : Arithmetic) where
           let same = same-evaluated v needed originals others adjoints n k agree (setting .constants) source (p .2) in
           bothHalt why (λ memory. rw e refl) (λ memory. rw (sym same ∙ e) refl)
 
-      pub row-alike : (action : Action) (adjoints : List (A .Carrier)) → AdjointSize v adjoints → OnAdjoints v needed action
+      pub row-alike : (action : Action) (adjoints : List (A .Carrier)) → AdjointSize v adjoints → OnAdjoints (divides A) v needed action
           → Alike v originals others action adjoints
       unfolding acted
       row-alike (assign (d ≔ source)) adjoints m p =

@@ -7,15 +7,16 @@ use mathlib.Core.Bool.{Bool, true, false}
 use mathlib.Core.List.{List, [], _∷_, _++_}
 use lib.ListN.{length, drop}
 use lib.Seq.{drop-at}
-use lib.Dec.{T, eqb-refl}
+use lib.Dec.{T}
 use native.Mathlib.Omega.{arith}
-use Rattle.number.specs.Arithmetic.{Arithmetic}
+use Rattle.number.specs.Arithmetic.{Arithmetic, divides}
 use Rattle.sheet.specs.Tree.{done, one, RowNumber}
-use Rattle.sheet.specs.Rows.{_≔_, Source, copy, fixed, sum, difference, product, negation}
-use Rattle.sheet.specs.Names.{SourcePresent}
-use Rattle.sets.specs.VariableSets.{VariableSet, has, singleIf}
+use Rattle.sheet.specs.Rows.{_≔_, Source, copy, fixed, sum, difference, product, negation, quotient}
+use Rattle.sheet.specs.Names.{SourcePresent, SourceFeasible}
+use Rattle.sheet.proofs.Feasibility.{source-divided}
+use Rattle.sets.specs.VariableSets.{VariableSet, has, single, singleIf}
 use Rattle.sets.specs.Transfers.{Activity, adjointUse}
-use Rattle.sets.proofs.VariableSetLaws.{single-has, union-left, union-right}
+use Rattle.sets.proofs.VariableSetLaws.{has-single-if, union-left, union-right}
 use Rattle.table.specs.TableRows.{Table, TableRow, Action, assign, clear, adjointOf, t, u, Operation, Origin, ofRow, ofTurningRound}
 use Rattle.table.specs.Adjoint.{put, putIf, partsOf, derivativeRows}
 use Rattle.machine.specs.Actions.{Attempt, through, _>>=_, Memory, Setting, Stop, stoppingAt, acted, withStore}
@@ -31,23 +32,23 @@ puts : List TableRow → Table → Table
 puts [] rest = rest
 puts (r ∷ rs) rest = one r (puts rs rest)
 
-AllOnAdjoints : (variables : ℕ) → VariableSet → List TableRow → Type 0
-AllOnAdjoints v needed [] = Unit {0}
-AllOnAdjoints v needed (r ∷ rs) = OnAdjoints v needed (r .action) × AllOnAdjoints v needed rs
+AllOnAdjoints : (quotients : Bool) (variables : ℕ) → VariableSet → List TableRow → Type 0
+AllOnAdjoints quotients v needed [] = Unit {0}
+AllOnAdjoints quotients v needed (r ∷ rs) = OnAdjoints quotients v needed (r .action) × AllOnAdjoints quotients v needed rs
 
 -- what a part of the writer puts before the rest, as a list of rows on the adjoints
-record Listed (v : ℕ) (needed : VariableSet) (part : Table → Table) : Type 0 where
+record Listed (quotients : Bool) (v : ℕ) (needed : VariableSet) (part : Table → Table) : Type 0 where
   list : List TableRow
   is : (rest : Table) → part rest ≡ puts list rest
-  all : AllOnAdjoints v needed list
+  all : AllOnAdjoints quotients v needed list
 
-module _ (v : ℕ) (needed : VariableSet) where
-  listed-none : Listed v needed (λ rest. rest)
+module _ (quotients : Bool) (v : ℕ) (needed : VariableSet) where
+  listed-none : Listed quotients v needed (λ rest. rest)
   unfolding puts AllOnAdjoints
   listed-none = record { list = []; is = λ rest. refl; all = tt }
 
-  listed-put : (row : RowNumber) (operation : Operation) (action : Action) → OnAdjoints v needed action → {part : Table → Table}
-      → Listed v needed part → Listed v needed (λ rest. put row operation action (part rest))
+  listed-put : (row : RowNumber) (operation : Operation) (action : Action) → OnAdjoints quotients v needed action → {part : Table → Table}
+      → Listed quotients v needed part → Listed quotients v needed (λ rest. put row operation action (part rest))
   unfolding puts AllOnAdjoints
   listed-put row operation action on rest =
       record {
@@ -56,15 +57,15 @@ module _ (v : ℕ) (needed : VariableSet) where
         all = (on, rest .all);
       }
 
-  listed-if : (test : Bool) (row : RowNumber) (operation : Operation) (action : Action) → (T test → OnAdjoints v needed action)
-      → {part : Table → Table} → Listed v needed part → Listed v needed (λ rest. putIf test row operation action (part rest))
+  listed-if : (test : Bool) (row : RowNumber) (operation : Operation) (action : Action) → (T test → OnAdjoints quotients v needed action)
+      → {part : Table → Table} → Listed quotients v needed part → Listed quotients v needed (λ rest. putIf test row operation action (part rest))
   listed-if true row operation action on rest = listed-put row operation action (on tt) rest
   listed-if false row operation action on rest = rest
 
 -- ---- an assignment's derivative rows
 
 -- an adjoint, t and u can be read and written
-module _ (v : ℕ) (needed : VariableSet) where
+module _ (quotients : Bool) (v : ℕ) (needed : VariableSet) where
   reads-adjoint : (i : ℕ) → i < v → MayRead v needed (adjointOf v i)
   reads-adjoint i h = inr (omega arith, omega arith)
 
@@ -78,18 +79,21 @@ module _ (v : ℕ) (needed : VariableSet) where
   reads-original i h m = inl (h, m)
 
   -- into an adjoint, from itself and t or u
-  into : (i x : ℕ) → i < v → MayRead v needed x → OnAdjoints v needed (assign (adjointOf v i ≔ sum (adjointOf v i) x))
+  into : (i x : ℕ) → i < v → MayRead v needed x → OnAdjoints quotients v needed (assign (adjointOf v i ≔ sum (adjointOf v i) x))
   into i x h r = (omega arith, omega arith, (reads-adjoint i h, r))
 
-  from-it : (i x : ℕ) → i < v → MayRead v needed x → OnAdjoints v needed (assign (adjointOf v i ≔ difference (adjointOf v i) x))
+  from-it : (i x : ℕ) → i < v → MayRead v needed x → OnAdjoints quotients v needed (assign (adjointOf v i ≔ difference (adjointOf v i) x))
   from-it i x h r = (omega arith, omega arith, (reads-adjoint i h, r))
 
-  scaling : (i : ℕ) → i < v → T (has needed i) → OnAdjoints v needed (assign (u v ≔ product i (t v)))
+  scaling : (i : ℕ) → i < v → T (has needed i) → OnAdjoints quotients v needed (assign (u v ≔ product i (t v)))
   scaling i h m = (omega arith, omega arith, (reads-original i h m, reads-t))
 
-has-single-if : (there : Bool) (i : ℕ) → T there → T (has (singleIf there i) i)
-has-single-if true i h = rw (single-has i i) (eqb-refl i)
-has-single-if false i h = absurd h
+  -- u := a × u, and u over b, from t or u, of a quotient
+  scaling-on : (i : ℕ) → i < v → T (has needed i) → OnAdjoints quotients v needed (assign (u v ≔ product i (u v)))
+  scaling-on i h m = (omega arith, omega arith, (reads-original i h m, reads-u))
+
+  divided : (x i : ℕ) → MayRead v needed x → i < v → T (has needed i) → quotients ≡ true → OnAdjoints quotients v needed (assign (u v ≔ quotient x i))
+  divided x i r h m can = (omega arith, omega arith, (r, reads-original i h m, can))
 
 -- an active product needs each operand whose fellow is varied: the one law that looks inside the adjoint use
 product-needs : (a b : ℕ) (known : Activity) → known .active ≡ true
@@ -100,35 +104,52 @@ product-needs a b known e =
     let second = singleIf (known .variedA) b in
     rw e (λ h. union-left first second a (has-single-if (known .variedB) a h), λ h. union-right first second b (has-single-if (known .variedA) b h))
 
-parts-listed : (v k : ℕ) (source : Source) (row : RowNumber) (known : Activity) → SourcePresent v k source → known .active ≡ true
-    → Listed v (adjointUse source known) (partsOf v source row known)
-unfolding partsOf SourcePresent
-parts-listed v k (copy a) row known p e = listed-if v _ (known .variedA) row _ _ (λ h. into v _ a (t v) p (reads-t v _)) (listed-none v _)
-parts-listed v k (fixed c) row known p e = listed-none v _
-parts-listed v k (sum a b) row known p e =
-    listed-if v _ (known .variedA) row _ _ (λ h. into v _ a (t v) (p .0) (reads-t v _))
-    (listed-if v _ (known .variedB) row _ _ (λ h. into v _ b (t v) (p .1) (reads-t v _)) (listed-none v _))
-parts-listed v k (difference a b) row known p e =
-    listed-if v _ (known .variedA) row _ _ (λ h. into v _ a (t v) (p .0) (reads-t v _))
-    (listed-if v _ (known .variedB) row _ _ (λ h. from-it v _ b (t v) (p .1) (reads-t v _)) (listed-none v _))
-parts-listed v k (product a b) row known p e =
-    let needs = product-needs a b known e in
-    listed-if v _ (known .variedA) row _ _ (λ h. scaling v _ b (p .1) (needs .1 h))
-    (listed-if v _ (known .variedA) row _ _ (λ h. into v _ a (u v) (p .0) (reads-u v _))
-    (listed-if v _ (known .variedB) row _ _ (λ h. scaling v _ a (p .0) (needs .0 h))
-    (listed-if v _ (known .variedB) row _ _ (λ h. into v _ b (u v) (p .1) (reads-u v _)) (listed-none v _))))
-parts-listed v k (negation a) row known p e = listed-if v _ (known .variedA) row _ _ (λ h. from-it v _ a (t v) p (reads-t v _)) (listed-none v _)
+-- an active quotient needs its divisor, and its dividend where the divisor is varied
+quotient-needs : (a b : ℕ) (known : Activity) → known .active ≡ true
+    → (T (known .variedB) → T (has (adjointUse (quotient a b) known) a)) × T (has (adjointUse (quotient a b) known) b)
+unfolding adjointUse
+quotient-needs a b known e =
+    let first = singleIf (known .variedB) a in
+    rw e (λ h. union-left first (single b) a (has-single-if (known .variedB) a h), union-right first (single b) b (has-single-if true b tt))
 
-derivative-listed : (v k d : ℕ) (source : Source) (row : RowNumber) (known : Activity) → d < v → SourcePresent v k source
-    → Listed v (adjointUse source known) (derivativeRows v (known .active) d source row known)
+parts-listed : (quotients : Bool) (v k : ℕ) (source : Source) (row : RowNumber) (known : Activity) → SourcePresent v k source
+    → SourceFeasible quotients source → known .active ≡ true
+    → Listed quotients v (adjointUse source known) (partsOf v source row known)
+unfolding partsOf SourcePresent SourceFeasible
+parts-listed quotients v k (copy a) row known p f e = listed-if quotients v _ (known .variedA) row _ _ (λ h. into quotients v _ a (t v) p (reads-t quotients v _)) (listed-none quotients v _)
+parts-listed quotients v k (fixed c) row known p f e = listed-none quotients v _
+parts-listed quotients v k (sum a b) row known p f e =
+    listed-if quotients v _ (known .variedA) row _ _ (λ h. into quotients v _ a (t v) (p .0) (reads-t quotients v _))
+    (listed-if quotients v _ (known .variedB) row _ _ (λ h. into quotients v _ b (t v) (p .1) (reads-t quotients v _)) (listed-none quotients v _))
+parts-listed quotients v k (difference a b) row known p f e =
+    listed-if quotients v _ (known .variedA) row _ _ (λ h. into quotients v _ a (t v) (p .0) (reads-t quotients v _))
+    (listed-if quotients v _ (known .variedB) row _ _ (λ h. from-it quotients v _ b (t v) (p .1) (reads-t quotients v _)) (listed-none quotients v _))
+parts-listed quotients v k (product a b) row known p f e =
+    let needs = product-needs a b known e in
+    listed-if quotients v _ (known .variedA) row _ _ (λ h. scaling quotients v _ b (p .1) (needs .1 h))
+    (listed-if quotients v _ (known .variedA) row _ _ (λ h. into quotients v _ a (u v) (p .0) (reads-u quotients v _))
+    (listed-if quotients v _ (known .variedB) row _ _ (λ h. scaling quotients v _ a (p .0) (needs .0 h))
+    (listed-if quotients v _ (known .variedB) row _ _ (λ h. into quotients v _ b (u v) (p .1) (reads-u quotients v _)) (listed-none quotients v _))))
+parts-listed quotients v k (negation a) row known p f e = listed-if quotients v _ (known .variedA) row _ _ (λ h. from-it quotients v _ a (t v) p (reads-t quotients v _)) (listed-none quotients v _)
+parts-listed quotients v k (quotient a b) row known p f e =
+    let needs = quotient-needs a b known e in
+    listed-put quotients v _ row _ _ (divided quotients v _ (t v) b (reads-t quotients v _) (p .1) (needs .1) f)
+    (listed-if quotients v _ (known .variedA) row _ _ (λ h. into quotients v _ a (u v) (p .0) (reads-u quotients v _))
+    (listed-if quotients v _ (known .variedB) row _ _ (λ h. scaling-on quotients v _ a (p .0) (needs .0 h))
+    (listed-if quotients v _ (known .variedB) row _ _ (λ h. divided quotients v _ (u v) b (reads-u quotients v _) (p .1) (needs .1) f)
+    (listed-if quotients v _ (known .variedB) row _ _ (λ h. from-it quotients v _ b (u v) (p .1) (reads-u quotients v _)) (listed-none quotients v _)))))
+
+derivative-listed : (quotients : Bool) (v k d : ℕ) (source : Source) (row : RowNumber) (known : Activity) → d < v → SourcePresent v k source
+    → SourceFeasible quotients source
+    → Listed quotients v (adjointUse source known) (derivativeRows v (known .active) d source row known)
 unfolding derivativeRows
-derivative-listed v k d source row known h p = by-activity (known .active) refl
+derivative-listed quotients v k d source row known h p f = by-activity (known .active) refl
   where
-    by-activity : (active : Bool) → known .active ≡ active → Listed v (adjointUse source known) (derivativeRows v active d source row known)
-    by-activity false e = listed-put v _ row _ (clear (adjointOf v d)) (omega arith, omega arith) (listed-none v _)
+    by-activity : (active : Bool) → known .active ≡ active → Listed quotients v (adjointUse source known) (derivativeRows v active d source row known)
+    by-activity false e = listed-put quotients v _ row _ (clear (adjointOf v d)) (omega arith, omega arith) (listed-none quotients v _)
     by-activity true e =
-        listed-put v _ row _ (assign (t v ≔ copy (adjointOf v d))) (omega arith, omega arith, reads-adjoint v _ d h)
-        (listed-put v _ row _ (clear (adjointOf v d)) (omega arith, omega arith) (parts-listed v k source row known p e))
+        listed-put quotients v _ row _ (assign (t v ≔ copy (adjointOf v d))) (omega arith, omega arith, reads-adjoint quotients v _ d h)
+        (listed-put quotients v _ row _ (clear (adjointOf v d)) (omega arith, omega arith) (parts-listed quotients v k source row known p f e))
 
 -- ---- what they come to
 
@@ -206,7 +227,7 @@ module _ (A : Arithmetic) (setting : Setting A) where
             (row-stops r rs (originals ++ adjoints) reads h (originals ++ next) log at p f)
             (row-stops r rs (others ++ adjoints) reads l (others ++ next) log at q g)
 
-    puts-alike : (rs : List TableRow) → AllOnAdjoints v needed rs → (adjoints : List (A .Carrier)) → AdjointSize A v adjoints
+    puts-alike : (rs : List TableRow) → AllOnAdjoints (divides A) v needed rs → (adjoints : List (A .Carrier)) → AdjointSize A v adjoints
         → PartAlike originals others (puts rs) adjoints
     unfolding puts AllOnAdjoints
     puts-alike [] all adjoints m = bothReach adjoints m [] (λ memory rest. refl) (λ memory rest. refl)
@@ -215,7 +236,7 @@ module _ (A : Arithmetic) (setting : Setting A) where
         (row-alike A setting v needed originals others n k agree (r .action) adjoints m (all .0))
         (λ next z. puts-alike rs (all .1) next z)
 
-    listed-alike : (part : Table → Table) → Listed v needed part → (adjoints : List (A .Carrier)) → AdjointSize A v adjoints
+    listed-alike : (part : Table → Table) → Listed (divides A) v needed part → (adjoints : List (A .Carrier)) → AdjointSize A v adjoints
         → PartAlike originals others part adjoints
     listed-alike part listed adjoints m = along (puts-alike (listed .list) (listed .all) adjoints m)
       where
@@ -235,11 +256,12 @@ module _ (A : Arithmetic) (setting : Setting A) where
         → derived A setting (d ≔ source) row known before adjoints ≡ stopping A log at → Derives d source row known originals before adjoints
 
   pub derivatives-alike : (k d : ℕ) (source : Source) (row : RowNumber) (known : Activity) → d < v → SourcePresent v k source
+      → SourceFeasible (divides A) source
       → (originals before adjoints : List (A .Carrier)) → length originals ≡ v → length before ≡ v → AdjointSize A v adjoints
       → Agree A originals before (adjointUse source known) → Derives d source row known originals before adjoints
   unfolding tableRun tableLog
-  derivatives-alike k d source row known h p originals before adjoints n m z agree =
-      against (listed-alike (adjointUse source known) originals before n m agree _ (derivative-listed v k d source row known h p) adjoints z)
+  derivatives-alike k d source row known h p f originals before adjoints n m z agree =
+      against (listed-alike (adjointUse source known) originals before n m agree _ (derivative-listed (divides A) v k d source row known h p f) adjoints z)
     where
       alone : Memory A
       alone = record { store = []; values = []; turns = []; copied = [] }
@@ -274,5 +296,5 @@ module _ (A : Arithmetic) (setting : Setting A) where
       → (rest other : Table) → Same A setting rest other
       → Same A setting (derivativeRows v (known .active) d source row known rest) (derivativeRows v (known .active) d source row known other)
   derivative-rows-same k d source row known h p rest other same x =
-      let listed = derivative-listed v k d source row known h p in
+      let listed = derivative-listed true v k d source row known h p (source-divided source) in
       rw (listed .is rest, listed .is other) (puts-same (listed .list) rest other same x)

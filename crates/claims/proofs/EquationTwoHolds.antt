@@ -13,7 +13,7 @@ use lib.Seq.{getD-drop}
 use Rattle.number.specs.Residues.{modulus, residues}
 use Rattle.sheet.specs.Tree.{rows}
 use Rattle.sheet.specs.Rows.{isIndependent, isDependent}
-use Rattle.sheet.specs.Names.{Present}
+use Rattle.sheet.specs.Names.{Present, Feasible}
 use Rattle.sheet.specs.Sheets.{Sheet, variablesOf}
 use Rattle.sets.specs.VariableSets.{VariableSet, places}
 use Rattle.sets.specs.Rounds.{setsOf, setAt, varied, useful}
@@ -85,11 +85,12 @@ leanSweep sheet seeds valueRoom turnRoom trace =
     swept residues (settingOf residues sheet seeds valueRoom turnRoom) (activityAt (setsOf sheet .varied) (setsOf sheet .useful)) trace
     (firstAdjoints residues (sheet .roles) seeds)
 
--- what an accepted sheet gives: its sets satisfy 01's equations, and it names nothing that isn't there
+-- what a sheet that the audit run takes gives: its sets satisfy 01's equations, it names nothing that isn't there, and it holds no quotient
 pub record Sound (sheet : Sheet) : Type 0 where
   pub varies : Satisfy (variedEquations sheet) (setAt (varied sheet))
   pub uses : Satisfy (usefulEquations sheet) (setAt (useful sheet))
   pub present : Present (variablesOf sheet) (length (sheet .constants)) (sheet .body)
+  pub feasible : Feasible false (sheet .body)
 
 -- what a run is given: a start value for each variable, and seeds that are residues
 pub record Given (sheet : Sheet) (starts seeds : List ℕ) : Type 0 where
@@ -151,7 +152,7 @@ module _ (sheet : Sheet) (starts seeds : List ℕ) (valueRoom turnRoom : ℕ) (s
   pub ideal-goes : (i : Ideal residues) × (idealRun ≡ through i)
   unfolding ideal settingOf
   ideal-goes =
-      let run = execution-goes sheet starts (given .started) (sound .present) in
+      let run = execution-goes sheet starts (given .started) (sound .present) (sound .feasible) in
       let lean = lean-sweep-goes (run .0) (run .1) in
       (record { progress = run .0; adjoints = lean .0 }, rw (run .1, lean .1))
 

@@ -2,7 +2,7 @@
 use Prim.Native.Nat.{ℕ, suc, _+_, _*_, _<_}
 use mathlib.Core.Path.{_≡_, refl, sym, ap, _∙_}
 use mathlib.Core.Logic.{_≢_}
-use mathlib.Core.Bool.{true, false, _&&_, cond, and-true, and-false}
+use mathlib.Core.Bool.{Bool, true, false, _&&_, cond, and-true, and-false}
 use mathlib.Core.List.{List, [], _∷_}
 use mathlib.Core.Option.{Option, none, some}
 use lib.ListN.{getD}
@@ -13,7 +13,7 @@ use native.Mathlib.Omega.{arith}
 use borrow.Author.Tests.{eq-eqb, ne-eqb}
 use Rattle.number.specs.Residues.{modulus, residue, opposite}
 use Rattle.number.proofs.ResidueLaws.{residue-sum-left, residue-same}
-use Rattle.sheet.specs.Rows.{Assignment, _≔_, Source, copy, fixed, sum, difference, product, negation, isDependent}
+use Rattle.sheet.specs.Rows.{Assignment, _≔_, Source, copy, fixed, sum, difference, product, negation, quotient, isDependent}
 use Rattle.sets.specs.Transfers.{firstRead, secondRead}
 use Rattle.claims.specs.EquationTwo.{Instance, valueNo, sameInstance, Trace, assigns, timesAssigned, current, Node, partialsOf, nodeOf, nodesOf, termsOf, allTerms, startsAt, EquationTwo, Solvable}
 
@@ -37,6 +37,7 @@ others-unread (sum a b) before earlier x n bar h = rw (read-is-current earlier a
 others-unread (difference a b) before earlier x n bar h = rw (read-is-current earlier a x n h, read-is-current earlier b x n h)
 others-unread (product a b) before earlier x n bar h = rw (read-is-current earlier a x n h, read-is-current earlier b x n h)
 others-unread (negation a) before earlier x n bar h = rw (read-is-current earlier a x n h)
+others-unread (quotient a b) before earlier x n bar h = refl
 
 node-unread : (b : Assignment) (before : List ℕ) (earlier : Trace) (x n bar : ℕ) → timesAssigned earlier x ≢ n
     → termsOf (valueNo x n) bar (nodeOf b before earlier .partials) ≡ 0
@@ -131,7 +132,7 @@ equation-two-solvable roles seeds trace =
 
 -- ---- the full sweep: the adjoint of every variable's current value, at each point of the execution
 
--- c_ja and c_jb of an assignment, 0 for what isn't read
+-- c_ja and c_jb of an assignment, 0 for what isn't read and for a quotient, which no sheet in audit holds
 unfoldable pub firstFactor : Source → (before : List ℕ) → ℕ
 unfolding opposite
 firstFactor (copy a) before = 1
@@ -140,6 +141,7 @@ firstFactor (sum a b) before = 1
 firstFactor (difference a b) before = 1
 firstFactor (product a b) before = getD before b 0
 firstFactor (negation a) before = opposite 1
+firstFactor (quotient a b) before = 0
 
 unfoldable pub secondFactor : Source → (before : List ℕ) → ℕ
 unfolding opposite
@@ -149,6 +151,7 @@ secondFactor (sum a b) before = 1
 secondFactor (difference a b) before = opposite 1
 secondFactor (product a b) before = getD before a 0
 secondFactor (negation a) before = 0
+secondFactor (quotient a b) before = 0
 
 -- what an operand brings to x
 abbrev pub share : Option ℕ → (amount x : ℕ) → ℕ
@@ -181,6 +184,12 @@ read-now earlier a x = by-case (ℕ-discrete a x)
 two-terms : (m n : ℕ) → m + (n + 0) ≡ m + n
 two-terms m n = omega arith
 
+no-shares : (first second : Bool) (bar : ℕ) → cond first (0 * bar) 0 + cond second (0 * bar) 0 ≡ 0
+no-shares true true bar = omega arith
+no-shares true false bar = omega arith
+no-shares false true bar = omega arith
+no-shares false false bar = refl
+
 terms-are-gain : (source : Source) (before : List ℕ) (earlier : Trace) (bar x : ℕ)
     → termsOf (current earlier x) bar (partialsOf source before earlier) ≡ gain source before bar x
 unfolding termsOf partialsOf gain
@@ -190,6 +199,7 @@ terms-are-gain (sum a b) before earlier bar x = rw (read-now earlier a x, read-n
 terms-are-gain (difference a b) before earlier bar x = rw (read-now earlier a x, read-now earlier b x) (two-terms _ _)
 terms-are-gain (product a b) before earlier bar x = rw (read-now earlier a x, read-now earlier b x) (two-terms _ _)
 terms-are-gain (negation a) before earlier bar x = rw (read-now earlier a x)
+terms-are-gain (quotient a b) before earlier bar x = sym (no-shares (eqb a x) (eqb b x) bar)
 
 -- Going back through a trace, `full` keeps what the starts, with the terms of the later nodes, give each variable's current value;
 -- what a past value starts at is still 0, for it is read only before it is past.

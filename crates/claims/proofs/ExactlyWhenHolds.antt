@@ -3,7 +3,8 @@
 use Prim.Native.Nat.{ℕ, _≤_}
 use mathlib.Core.Path.{_≡_, refl, sym, ap, subst, _∙_}
 use mathlib.Core.List.{List}
-use mathlib.Core.Logic.{_⊎_, inl, inr}
+use mathlib.Core.Bool.{true}
+use mathlib.Core.Logic.{_⊎_, inl, inr, _≢_}
 use lib.ListN.{length, drop, length-append, length-drop}
 use lib.Seq.{take-append-seam, drop-append-seam}
 use native.Mathlib.Omega.{arith}
@@ -13,7 +14,7 @@ use Rattle.sheet.specs.Refusals.{Refusal, numberOf, placeOf}
 use Rattle.sheet.specs.Tree.{RowNumber}
 use Rattle.sheet.specs.Sheets.{Sheet}
 use Rattle.sheet.specs.Reading.{read}
-use Rattle.sheet.proofs.RefusalsApart.{same-refusal, from-1-to-12}
+use Rattle.sheet.proofs.RefusalsApart.{same-refusal, from-1-to-13}
 use Rattle.sheet.proofs.Settled.{refused-exactly, given-exactly, named-exactly, done-exactly, numbers-within}
 use Rattle.sets.specs.Marks.{Sets}
 use Rattle.sets.specs.Rounds.{setsOf, marked}
@@ -88,7 +89,7 @@ overwritten-starts table buffer room =
 module _ (needs : Sets → Sheet → Needs) (table : Sets → Sheet → Table)
     (long : (sheet : Sheet) → length (tableWords (table (setsOf sheet) sheet)) ≡ tableRoom (needed needs sheet .rows)) (words buffer : List ℕ) where
   abbrev Fits : Sheet → Type 0
-  Fits sheet = Writable needs words buffer sheet (setsOf sheet)
+  Fits sheet = Writable true needs words buffer sheet (setsOf sheet)
 
   abbrev ownTable : Sheet → Table
   ownTable sheet = table (setsOf sheet) sheet
@@ -99,24 +100,24 @@ module _ (needs : Sets → Sheet → Needs) (table : Sets → Sheet → Table)
   abbrev writtenBy : Answer Sheet → Written
   writtenBy answer = record { number = numberIn answer; place = placeIn answer; table = tableIn ownTable answer buffer }
 
-  write-answers : (answer : Answer Sheet) → readFor (needed needs) words (length buffer) ≡ answer → writtenNow ≡ writtenBy answer
+  write-answers : (answer : Answer Sheet) → readFor true (needed needs) words (length buffer) ≡ answer → writtenNow ≡ writtenBy answer
   unfolding writeBy
   write-answers answer e = ap writtenBy e
 
   kept-when-refused : 1 ≤ writtenNow .number → writtenNow .table ≡ buffer
   unfolding numberIn tableIn
-  kept-when-refused some = by (writing-settled needs words buffer .either)
+  kept-when-refused some = by (writing-settled true needs words buffer .either)
     where
-      by : ((sheet : Sheet) × Fits sheet) ⊎ ((r : Refusal) × WritingRefuses needs words buffer r) → writtenNow .table ≡ buffer
-      by (inl (sheet, is)) = absurd (omega (arith, ap (λ w. w .number) (write-answers _ (writing-settled needs words buffer .byResult sheet is))))
-      by (inr (r, rule)) = ap (λ w. w .table) (write-answers _ (writing-settled needs words buffer .byRule r rule))
+      by : ((sheet : Sheet) × Fits sheet) ⊎ ((r : Refusal) × WritingRefuses true needs words buffer r) → writtenNow .table ≡ buffer
+      by (inl (sheet, is)) = absurd (omega (arith, ap (λ w. w .number) (write-answers _ (writing-settled true needs words buffer .byResult sheet is))))
+      by (inr (r, rule)) = ap (λ w. w .table) (write-answers _ (writing-settled true needs words buffer .byRule r rule))
 
   -- with a sheet's own sets
   own-table : (sheet : Sheet) → Fits sheet
       → (writtenNow .place ≡ 0) × StartsWith (tableWords (ownTable sheet)) buffer (writtenNow .table)
   unfolding placeIn tableIn
   own-table sheet is =
-      let e = write-answers _ (writing-settled needs words buffer .byResult sheet is) in
+      let e = write-answers _ (writing-settled true needs words buffer .byResult sheet is) in
       let starts = overwritten-starts (tableWords (ownTable sheet)) buffer (omega (arith, long sheet, is .tableFits)) in
       (ap (λ w. w .place) e, subst (StartsWith (tableWords (ownTable sheet)) buffer) (sym (ap (λ w. w .table) e)) starts)
 
@@ -124,20 +125,20 @@ module _ (needs : Sets → Sheet → Needs) (table : Sets → Sheet → Table)
   unfolding writeBy
   writes-exactly =
       record {
-        refuses = named-exactly (writing-settled needs words buffer);
+        refuses = named-exactly (writing-settled true needs words buffer);
         done = (
-          λ none. let found = done-exactly (writing-settled needs words buffer) .0 none in (found .0, setsOf (found .0), found .1),
-          λ found. done-exactly (writing-settled needs words buffer) .1 (found .0, own (found .0) (found .1) (found .2)),
+          λ none. let found = done-exactly (writing-settled true needs words buffer) .0 none in (found .0, setsOf (found .0), found .1),
+          λ found. done-exactly (writing-settled true needs words buffer) .1 (found .0, own (found .0) (found .1) (found .2)),
         );
-        numbers = numbers-within (writing-settled needs words buffer) 8 (λ r. writing-numbers);
+        numbers = numbers-within (writing-settled true needs words buffer) 8 (λ r. writing-numbers);
         whenRefused = kept-when-refused;
         whenDone = λ sheet sets is.
             by-own-sets words sheet (λ s. (writtenNow .place ≡ 0) × StartsWith (tableWords (table s sheet)) buffer (writtenNow .table))
             (own-table sheet (own sheet sets is)) sets (is .accepted);
       }
     where
-      own : (sheet : Sheet) (sets : Sets) → Writable needs words buffer sheet sets → Fits sheet
-      own sheet sets is = subst (Writable needs words buffer sheet) (only-sets words sheet sets (is .accepted)) is
+      own : (sheet : Sheet) (sets : Sets) → Writable true needs words buffer sheet sets → Fits sheet
+      own sheet sets is = subst (Writable true needs words buffer sheet) (only-sets words sheet sets (is .accepted)) is
 
 -- the adjoint table
 pub write-exactly : (words buffer : List ℕ) → WriteExactly words buffer (write words buffer)
@@ -294,29 +295,29 @@ module _ (A : Arithmetic) (needs : Sets → Sheet → Needs) (job : Sets → She
     rule-of-name r (notStarted r′ rule) names = same-name r r′ (beforeStart rule) names
     rule-of-name r (stopping sheet row is) names = same-name r _ (resultNotFinite sheet (setsOf sheet) row (stopped-there sheet row is)) names
     rule-of-name r (finishing sheet memory is) names =
-        absurd (omega (arith, ap (λ r. r .number) (finished sheet memory is), names .0, from-1-to-12 r))
+        absurd (omega (arith, ap (λ r. r .number) (finished sheet memory is), names .0, from-1-to-13 r))
 
     finished-on-0 : Way → answer .number ≡ 0
         → (sheet : Sheet) × (sets : Sets) × (memory : Memory A) × Finishes A needs job words starts seeds lent sheet sets memory
-    finished-on-0 (notStarted r rule) e = absurd (omega (arith, named-by-rule (beforeStart rule) .0, from-1-to-12 r))
+    finished-on-0 (notStarted r rule) e = absurd (omega (arith, named-by-rule (beforeStart rule) .0, from-1-to-13 r))
     finished-on-0 (finishing sheet memory is) e = (sheet, setsOf sheet, memory, finished-there sheet memory is)
     finished-on-0 (stopping sheet row is) e = absurd (omega (arith, ap (λ r. r .number) (stopped sheet row is)))
 
     stopped-on-12 : Way → answer .number ≡ 12
         → (sheet : Sheet) × (sets : Sets) × (row : RowNumber) × Stops A needs job words starts seeds lent sheet sets row
-    stopped-on-12 (notStarted r rule) e = absurd (omega (arith, named-by-rule (beforeStart rule) .0, start-numbers rule))
+    stopped-on-12 (notStarted r rule) e = absurd (start-numbers rule (sym (named-by-rule (beforeStart rule) .0) ∙ e))
     stopped-on-12 (finishing sheet memory is) e = absurd (omega (arith, ap (λ r. r .number) (finished sheet memory is)))
     stopped-on-12 (stopping sheet row is) e = (sheet, setsOf sheet, row, stopped-there sheet row is)
 
-    numbers-of : Way → answer .number ≤ 12
-    numbers-of (notStarted r rule) = omega (arith, named-by-rule (beforeStart rule) .0, from-1-to-12 r)
+    numbers-of : Way → answer .number ≤ 13
+    numbers-of (notStarted r rule) = omega (arith, named-by-rule (beforeStart rule) .0, from-1-to-13 r)
     numbers-of (finishing sheet memory is) = omega (arith, ap (λ r. r .number) (finished sheet memory is))
     numbers-of (stopping sheet row is) = omega (arith, ap (λ r. r .number) (stopped sheet row is))
 
-    kept-on-1-to-11 : Way → 1 ≤ answer .number → answer .number ≤ 11 → answer .lent ≡ lent
-    kept-on-1-to-11 (notStarted r rule) low high = ap (λ r. r .lent) (not-started r rule)
-    kept-on-1-to-11 (finishing sheet memory is) low high = absurd (omega (arith, ap (λ r. r .number) (finished sheet memory is)))
-    kept-on-1-to-11 (stopping sheet row is) low high = absurd (omega (arith, ap (λ r. r .number) (stopped sheet row is)))
+    kept-unless-12 : Way → 1 ≤ answer .number → answer .number ≢ 12 → answer .lent ≡ lent
+    kept-unless-12 (notStarted r rule) low other = ap (λ r. r .lent) (not-started r rule)
+    kept-unless-12 (finishing sheet memory is) low other = absurd (omega (arith, ap (λ r. r .number) (finished sheet memory is)))
+    kept-unless-12 (stopping sheet row is) low other = absurd (other (ap (λ r. r .number) (stopped sheet row is)))
 
     left-on-12 : (sheet : Sheet) (sets : Sets) (row : RowNumber) → Stops A needs job words starts seeds lent sheet sets row
         → (answer .place ≡ row .index) × LeftBehind A (job sets sheet .table) lent (answer .lent) × (answer .lent .result ≡ lent .result)
@@ -346,7 +347,7 @@ module _ (A : Arithmetic) (needs : Sets → Sheet → Needs) (job : Sets → She
           );
           stopped = (stopped-on-12 way, λ (sheet, sets, row, is). ap (λ r. r .number) (stopped sheet row (own-stop sheet sets row is)));
           numbers = numbers-of way;
-          whenRefused = kept-on-1-to-11 way;
+          whenRefused = kept-unless-12 way;
           whenStopped = left-on-12;
           whenDone = left-on-0;
         }

@@ -18,7 +18,7 @@ use Rattle.sets.proofs.EquationsAlong.{ForwardAlong, BackwardAlong}
 use Rattle.machine.specs.Actions.{through, Setting}
 use Rattle.claims.specs.IdealSweep.{Executed, Progress, performed, swept}
 use Rattle.claims.specs.EquationTwo.{Trace}
-use Rattle.claims.proofs.Runs.{Runs, stay, row, left, right, last, more, was-performed}
+use Rattle.claims.proofs.Runs.{Runs, stay, row, left, right, last, more, was-performed, performed-feasible}
 use Rattle.claims.proofs.RunsKeepSizes.{performed-keeps, runs-keep}
 use Rattle.claims.proofs.EquationTwoSolved.{fullStep, fullSwept}
 use Rattle.claims.proofs.ResidueDerivatives.{derived-goes}
@@ -90,7 +90,7 @@ module _ (setting : Setting residues) (constants : List ℕ) (variedSets usefulS
       let e : Executed residues = record { row = record { index = p }; assignment = d ≔ source; before = s .store } in
       let A′ : Agrees (variedAfter (d ≔ source) (setAt variedSets p)) (setAt usefulSets (suc p)) v full lean = rw varies at A in
       let w = derived-goes setting (length constants) d source (e .row) (known p (d ≔ source)) (s .store) lean sized (present .0) (present .1)
-      (A .size) (A .below) in
+      (performed-feasible residues constants was) (A .size) (A .below) in
       let B = agrees-before d source (s .store) (setAt variedSets p) (setAt usefulSets (suc p)) v full lean (w .0) (present .0) A′ (w .2) in
       let latest : m .trace ≡ e ∷ s .trace = ap (λ (now : Progress residues). now .trace) (was .goes) in
       subst (λ later. Came p later (s .trace) full lean) (sym latest)

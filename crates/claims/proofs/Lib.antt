@@ -8,6 +8,7 @@ pub mod FirstFailing
 pub mod SectionsJudged
 pub mod LinesJudged
 pub mod RowsJudged
+pub mod QuotientsJudged
 pub mod ReadingExactlyWhen
 pub mod StartExactlyWhen
 pub mod ExactlyWhenHolds

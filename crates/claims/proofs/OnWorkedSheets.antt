@@ -1,7 +1,7 @@
 -- The claims speak of something: sheets E (a repeat that saves) and D (an "if") meet every hypothesis, and what is claimed of them isn't empty.
 use Prim.Native.Nat.{ℕ, zero, suc, _<_}
 use mathlib.Core.Path.{_≡_, refl, sym}
-use mathlib.Core.Bool.{true}
+use mathlib.Core.Bool.{true, false}
 use mathlib.Core.List.{[], _∷_, map}
 use lib.ListN.{getD, replicate}
 use native.Mathlib.Omega.{arith}
@@ -9,11 +9,12 @@ use Rattle.number.specs.Residues.{modulus, residues, residue}
 use Rattle.sheet.specs.Judging.{Answer, refused, given}
 use Rattle.sheet.specs.Tree.{done}
 use Rattle.sheet.specs.Sheets.{Sheet, variablesOf}
-use Rattle.sheet.specs.Reading.{read}
+use Rattle.sheet.specs.Reading.{read, readIn}
 use Rattle.sheet.proofs.Settled.{given-exactly}
 use Rattle.sets.specs.Rounds.{varied, useful, required, setsOf}
 use Rattle.sets.specs.Marks.{markBy, activityAt, markedBy}
 use Rattle.table.specs.Sizes.{tableRows, valuesNeeded, turnsNeeded, needsBy}
+use Rattle.table.specs.Calls.{readFor}
 use Rattle.machine.specs.Actions.{Attempt, through, halted, stuck, Stop, counting}
 use Rattle.run.specs.Runs.{Lent, settingOf}
 use Rattle.run.specs.Calls.{readToRun, run}
@@ -25,7 +26,7 @@ use Rattle.claims.specs.WorkedSheets.{wordsD, wordsE}
 use Rattle.claims.specs.ThreeDemands.{SameAsAllSaved}
 use Rattle.claims.specs.Demands.{AuditSolves, DemandThree}
 use Rattle.claims.proofs.ReadingExactlyWhen.{reading-settled}
-use Rattle.claims.proofs.StartExactlyWhen.{own-sets, start-settled, OwnRunnable}
+use Rattle.claims.proofs.StartExactlyWhen.{own-sets, Fits, writing-settled, start-settled, OwnRunnable, reads-to-run}
 use Rattle.claims.proofs.AuditSolves.{audit-solves}
 use Rattle.claims.proofs.DemandTwoHolds.{same-as-all-saved}
 use Rattle.claims.proofs.DemandThreeHolds.{demand-three}
@@ -53,13 +54,21 @@ E-is-read = refl
 E-accepted : Accepted wordsE sheetE (setsOf sheetE)
 E-accepted = own-sets wordsE sheetE (given-exactly (reading-settled wordsE) sheetE .0 E-is-read)
 
+lentE : Lent residues
+lentE = record { table = replicate 77 7; values = 7 ∷ 7 ∷ []; turns = []; result = 7 ∷ 7 ∷ 7 ∷ 7 ∷ [] }
+
+E-runs : OwnRunnable residues needsBy wordsE (1 ∷ 0 ∷ []) (1 ∷ 0 ∷ []) lentE sheetE
+unfolding readToRun sheetE lentE tableRows markedBy required valuesNeeded turnsNeeded
+E-runs = given-exactly (start-settled residues needsBy wordsE (1 ∷ 0 ∷ []) (1 ∷ 0 ∷ []) lentE) sheetE .0 refl
+
 E-demand-three : DemandThree residues sheetE (setsOf sheetE) (1 ∷ 0 ∷ []) (1 ∷ 0 ∷ []) 2 0
 unfolding sheetE markedBy required valuesNeeded turnsNeeded
-E-demand-three = demand-three residues wordsE sheetE (setsOf sheetE) E-accepted (1 ∷ 0 ∷ []) (1 ∷ 0 ∷ []) refl 2 0 (omega arith) (omega arith)
+E-demand-three = demand-three residues wordsE sheetE (setsOf sheetE) E-accepted (E-runs .lengths .stacks .writable .calculable) (1 ∷ 0 ∷ []) (1 ∷ 0 ∷ []) refl 2 0 (omega arith) (omega arith)
 
 E-same-as-all-saved : SameAsAllSaved residues sheetE (setsOf sheetE) (1 ∷ 0 ∷ []) (1 ∷ 0 ∷ [])
 unfolding sheetE
-E-same-as-all-saved = same-as-all-saved residues wordsE sheetE (1 ∷ 0 ∷ []) (1 ∷ 0 ∷ []) E-is-read refl
+E-same-as-all-saved = same-as-all-saved residues wordsE sheetE (1 ∷ 0 ∷ []) (1 ∷ 0 ∷ [])
+    (reads-to-run residues needsBy wordsE (1 ∷ 0 ∷ []) (1 ∷ 0 ∷ []) lentE sheetE E-runs) refl
 
 -- what E executes from 1 and 0
 ended : Attempt (Stop residues) (Progress residues) → Progress residues
@@ -88,13 +97,6 @@ E-reads : map (λ entry. entry .reads)
 unfolding sweptLog settingOf activityAt varied useful progressE counting residue
 E-reads = refl
 
-lentE : Lent residues
-lentE = record { table = replicate 77 7; values = 7 ∷ 7 ∷ []; turns = []; result = 7 ∷ 7 ∷ 7 ∷ 7 ∷ [] }
-
-E-runs : OwnRunnable residues needsBy wordsE (1 ∷ 0 ∷ []) (1 ∷ 0 ∷ []) lentE sheetE
-unfolding readToRun sheetE lentE tableRows markedBy required valuesNeeded turnsNeeded
-E-runs = given-exactly (start-settled residues needsBy wordsE (1 ∷ 0 ∷ []) (1 ∷ 0 ∷ []) lentE) sheetE .0 refl
-
 E-audit : AuditSolves sheetE (1 ∷ 0 ∷ []) (1 ∷ 0 ∷ []) (run residues wordsE (1 ∷ 0 ∷ []) (1 ∷ 0 ∷ []) lentE)
 E-audit = audit-solves wordsE (1 ∷ 0 ∷ []) (1 ∷ 0 ∷ []) lentE sheetE E-runs small _ refl
   where
@@ -119,9 +121,13 @@ D-is-read = refl
 D-accepted : Accepted wordsD sheetD (setsOf sheetD)
 D-accepted = own-sets wordsD sheetD (given-exactly (reading-settled wordsD) sheetD .0 D-is-read)
 
+D-fits : Fits false needsBy wordsD (replicate 100 7) sheetD
+unfolding readFor readIn sheetD tableRows markedBy required
+D-fits = given-exactly (writing-settled false needsBy wordsD (replicate 100 7)) sheetD .0 refl
+
 D-demand-three : DemandThree residues sheetD (setsOf sheetD) (5 ∷ 2 ∷ []) (1 ∷ 0 ∷ []) 0 1
 unfolding sheetD markedBy required valuesNeeded turnsNeeded
-D-demand-three = demand-three residues wordsD sheetD (setsOf sheetD) D-accepted (5 ∷ 2 ∷ []) (1 ∷ 0 ∷ []) refl 0 1 (omega arith) (omega arith)
+D-demand-three = demand-three residues wordsD sheetD (setsOf sheetD) D-accepted (D-fits .calculable) (5 ∷ 2 ∷ []) (1 ∷ 0 ∷ []) refl 0 1 (omega arith) (omega arith)
 
 D-turns : ended (execution residues sheetD (5 ∷ 2 ∷ [])) .turns ≡ true ∷ []
 unfolding ended sheetD execution

@@ -6,6 +6,7 @@ use mathlib.Core.Logic.{_⊎_, inl, inr, _≢_}
 use lib.ListN.{length, replicate, length-replicate}
 use native.Mathlib.Omega.{arith}
 use Rattle.number.specs.Arithmetic.{Arithmetic}
+use mathlib.Core.Bool.{Bool}
 use Rattle.sheet.specs.Judging.{refused, given}
 use Rattle.sheet.specs.Refusals.{Refusal, numberOf}
 use Rattle.sheet.specs.Sheets.{Sheet}
@@ -20,7 +21,7 @@ use Rattle.tangent.specs.Calls.{tangentNeedsOf, runTangent}
 use Rattle.plain.specs.Carries.{Carry, carryOf}
 use Rattle.plain.specs.Calls.{plain}
 use Rattle.plain.proofs.EnginesAgreeCalled.{engines-agree}
-use Rattle.claims.specs.ExactlyWhen.{ReadingRefuses, Read, WritingRefuses, whileReading, tableTooSmall, StartRefused, whileWriting, valueStackTooSmall, turnStackTooSmall, startsNotV, seedsNotV, resultNot2V, givenNotFinite}
+use Rattle.claims.specs.ExactlyWhen.{ReadingRefuses, Read, WritingRefuses, whileReading, quotientHeld, tableTooSmall, StartRefused, whileWriting, valueStackTooSmall, turnStackTooSmall, startsNotV, seedsNotV, resultNot2V, givenNotFinite}
 use Rattle.claims.specs.Tangents.{RoomForTangent, LikeTable, PlainMeets}
 use Rattle.claims.proofs.ReadingExactlyWhen.{reading-settled, reading-numbers}
 use Rattle.claims.proofs.StartExactlyWhen.{accepted-reads, own-sets, only-sets}
@@ -58,10 +59,12 @@ some-room words = by (reading-settled words .either)
 
 -- ---- with room there is no 8
 
-without-eight-written : {words table : List ℕ} {r : Refusal} → RoomForTangent words table → WritingRefuses tangentNeedsBy words table r → numberOf r ≢ 8
+without-eight-written : {divides : Bool} {words table : List ℕ} {r : Refusal} → RoomForTangent words table
+    → WritingRefuses divides tangentNeedsBy words table r → numberOf r ≢ 8
 unfolding numberOf
 without-eight-written room (whileReading rule) is = omega (arith, reading-numbers rule)
-without-eight-written room (tableTooSmall sheet sets accepted small) is = omega (arith, room sheet sets accepted)
+without-eight-written room (quotientHeld sheet i read not first) is = omega arith
+without-eight-written room (tableTooSmall sheet sets accepted free small) is = omega (arith, room sheet sets accepted)
 
 pub without-eight : {A : Arithmetic} {words : List ℕ} {starts rates : List (A .Carrier)} {lent : Lent A} {r : Refusal} → RoomForTangent words (lent .table)
     → StartRefused A tangentNeedsBy words starts rates lent r → numberOf r ≢ 8

@@ -6,10 +6,10 @@ use mathlib.Core.Bool.{Bool, true, false}
 use mathlib.Core.List.{List, [], _++_}
 use lib.ListN.{length, set}
 use native.Mathlib.Omega.{arith}
-use Rattle.number.specs.Arithmetic.{Arithmetic}
+use Rattle.number.specs.Arithmetic.{Arithmetic, divides}
 use Rattle.sheet.specs.Tree.{Tree, done, one, fork, again, rows}
 use Rattle.sheet.specs.Rows.{Assignment, _≔_, Source, Test}
-use Rattle.sheet.specs.Names.{AssignmentPresent, Present}
+use Rattle.sheet.specs.Names.{AssignmentPresent, Present, SourceFeasible}
 use Rattle.sets.specs.VariableSets.{VariableSet, _⊆_}
 use Rattle.sets.specs.Transfers.{Activity, requiredAfter}
 use Rattle.sets.specs.Marks.{numbered}
@@ -21,7 +21,7 @@ use Rattle.machine.specs.Actions.{Memory, Setting, Stop}
 use Rattle.machine.specs.InTheLarge.{tableRun, tableLog}
 use Rattle.machine.specs.RowReads.{Entry}
 use Rattle.claims.specs.IdealSweep.{Executed, Progress, onward, turned, swept, sweptLog}
-use Rattle.claims.proofs.Runs.{was-performed, Runs, stay, row, left, right, last, more}
+use Rattle.claims.proofs.Runs.{was-performed, performed-feasible, Runs, stay, row, left, right, last, more}
 use Rattle.claims.proofs.Accounts.{Account, account, sweeping, stopping, noting, nothing-more, noting-more, noting-then, inTurn}
 use Rattle.claims.proofs.RunsKeepSizes.{performed-keeps, runs-keep}
 use Rattle.claims.proofs.Forward.{body, memoryWith}
@@ -74,6 +74,7 @@ module _ (known : ℕ → Assignment → Activity) (saved : ℕ → Assignment �
 
     module _ (k p d : ℕ) (source : Source) (kk : Tree Assignment Test) (s e : Progress A) (x : A .Carrier) (originals adjoints : List (A .Carrier))
         (rest : Table) (covers : Covers known saved at) (named : AssignmentPresent v k (d ≔ source)) (n : length (s .store) ≡ v)
+        (feasible : SourceFeasible (divides A) source)
         (h : Requires (one (d ≔ source) kk) p) where
       abbrev m : Progress A
       m = onward A p (d ≔ source) s (set (s .store) d x)
@@ -84,7 +85,7 @@ module _ (known : ℕ → Assignment → Activity) (saved : ℕ → Assignment �
       row-retraces (cutShort stop log sw ran) = cutShort stop log sw ran
       row-retraces (retraced others next now log sw ran) =
           combine
-          (undo known saved at A setting copied k p d source s x others next rest n named
+          (undo known saved at A setting copied k p d source s x others next rest n named feasible
           (restored-on-less A (λ i w. enough-covers kk (suc p) (h .1) i (rw (h .0) w)) now) covers)
         where
           combine : Undone known saved at A setting copied p (d ≔ source) s m others next rest
@@ -166,7 +167,7 @@ module _ (known : ℕ → Assignment → Activity) (saved : ℕ → Assignment �
           let did = was-performed A (setting .constants) p d source s m perf in
           let size = performed-keeps A (setting .constants) p (d ≔ source) s m perf ∙ n in
           let later = retraces r (named .1) size (h .1) originals adjoints (moved _ (omega arith) now) (rowsBack known saved v p (d ≔ source) rest) in
-          row-retraces k p d source kk s e (did .value) originals adjoints rest covers (named .0) n h
+          row-retraces k p d source kk s e (did .value) originals adjoints rest covers (named .0) n (performed-feasible A (setting .constants) did) h
           (subst (λ y. Retraces kk (suc p) y e originals adjoints (rowsBack known saved v p (d ≔ source) rest)) (did .goes) later)
       retraces (left {f = g} {a = a} {b = b} {k = kk} {p = p} {s = s} {m = m} {e = e} test f r) named n h originals adjoints now rest =
           let split : ℕ = suc p + rows a in

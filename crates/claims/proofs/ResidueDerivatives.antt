@@ -13,8 +13,8 @@ use borrow.Author.Tests.{lt-ltb, eq-eqb, ne-eqb}
 use Rattle.number.specs.Residues.{modulus, residue, opposite, residues}
 use Rattle.number.proofs.ResidueLaws.{residue-below, residue-same, residue-sum-left, residue-sum-right, opposite-of-one}
 use Rattle.sheet.specs.Tree.{done, RowNumber}
-use Rattle.sheet.specs.Rows.{_≔_, Source, copy, fixed, sum, difference, product, negation}
-use Rattle.sheet.specs.Names.{SourcePresent}
+use Rattle.sheet.specs.Rows.{_≔_, Source, copy, fixed, sum, difference, product, negation, quotient}
+use Rattle.sheet.specs.Names.{SourcePresent, SourceFeasible}
 use Rattle.sets.specs.Transfers.{Activity}
 use Rattle.table.specs.TableRows.{t, u, Action, assign, clear, Operation, holding, clearing, scalingForA, addingToA, scalingForB, addingToB, Table}
 use Rattle.table.specs.Adjoint.{put, putIf, addInto, subtractFrom, scaled, partsOf, derivativeRows}
@@ -210,26 +210,27 @@ module _ (setting : Setting residues) (originals : List ℕ) (sized : length ori
     scaling false row scales adds rest α g a b h k G = record { after = α; goes = refl; gained = gained-same g _ α (λ x. sym (add-zero (g x))) G }
 
     parts-go : (constants : ℕ) (source : Source) (row : RowNumber) (known : Activity) (rest : Table) (α : List ℕ) → SourcePresent v constants source
-        → Gained first held (λ x. 0) α → Went (variedGain known source originals held) (partsOf v source row known rest) rest α
-    unfolding SourcePresent partsOf variedGain
-    parts-go constants (copy a) row known rest α present G =
+        → SourceFeasible false source → Gained first held (λ x. 0) α → Went (variedGain known source originals held) (partsOf v source row known rest) rest α
+    unfolding SourcePresent SourceFeasible partsOf variedGain
+    parts-go constants (copy a) row known rest α present can G =
         went-same _ _ _ _ α (λ x. one-gain _ (known .variedB)) (adding (known .variedA) row addingToA rest α _ a present G)
-    parts-go constants (fixed c) row known rest α present G =
+    parts-go constants (fixed c) row known rest α present can G =
         went-same (λ x. 0) _ _ _ α (λ x. no-gain (known .variedA) (known .variedB)) (record { after = α; goes = refl; gained = G })
-    parts-go constants (sum a b) row known rest α present G =
+    parts-go constants (sum a b) row known rest α present can G =
         let w = adding (known .variedA) row addingToA _ α _ a (present .0) G in
         went-same _ _ _ _ α (λ x. two-gains _ _)
         (then-went _ _ _ _ rest α w (adding (known .variedB) row addingToB rest (w .after) _ b (present .1) (w .gained)))
-    parts-go constants (difference a b) row known rest α present G =
+    parts-go constants (difference a b) row known rest α present can G =
         let w = adding (known .variedA) row addingToA _ α _ a (present .0) G in
         went-same _ _ _ _ α (λ x. two-gains _ _)
         (then-went _ _ _ _ rest α w (subtracting (known .variedB) row addingToB rest (w .after) _ b (present .1) (w .gained)))
-    parts-go constants (product a b) row known rest α present G =
+    parts-go constants (product a b) row known rest α present can G =
         let w = scaling (known .variedA) row scalingForA addingToA _ α _ a b (present .0) (present .1) G in
         went-same _ _ _ _ α (λ x. two-gains _ _)
         (then-went _ _ _ _ rest α w (scaling (known .variedB) row scalingForB addingToB rest (w .after) _ b a (present .1) (present .0) (w .gained)))
-    parts-go constants (negation a) row known rest α present G =
+    parts-go constants (negation a) row known rest α present can G =
         went-same _ _ _ _ α (λ x. one-gain _ (known .variedB)) (subtracting (known .variedA) row addingToA rest α _ a present G)
+    parts-go constants (quotient a b) row known rest α present can G = let z : _≡_ {A = ℕ} 0 1 = cc in absurd (omega arith)
 
   -- ---- all of an assignment's derivative rows
 
@@ -249,16 +250,16 @@ module _ (setting : Setting residues) (originals : List ℕ) (sized : length ori
       by-case x (no q) = rw (getD-set-other α d x 0 0 q, ne-eqb d x (λ e. q (sym e)), add-zero (getD α x 0)) (sym (residue-same _ (below x)))
 
   rows-go : (active : Bool) (constants d : ℕ) (source : Source) (row : RowNumber) (known : Activity) (α : List ℕ) → d < v
-      → SourcePresent v constants source → length α ≡ v + 2 → ((x : ℕ) → getD α x 0 < modulus)
+      → SourcePresent v constants source → SourceFeasible false source → length α ≡ v + 2 → ((x : ℕ) → getD α x 0 < modulus)
       → (after : List ℕ) × (tableRun residues setting (derivativeRows v active d source row known done) (memoryOf α) ≡ through (memoryOf after))
       × Grown v (λ x. cleared d α x + cond active (variedGain known source originals (getD α d 0) x) 0) after
   unfolding derivativeRows tableRun
-  rows-go true constants d source row known α h present size below =
+  rows-go true constants d source row known α h present can size below =
       let bar = getD α d 0 in
       let β = set α v bar in
       let sized-β : length β ≡ v + 2 = length-set α v bar ∙ size in
       let G = cleared-gained d bar β h sized-β (set-below α v bar (omega arith) (below d) below) (getD-set-same α v bar 0 (omega arith)) in
-      let w = parts-go (cleared d β) bar constants source row known done (set β d 0) present G in
+      let w = parts-go (cleared d β) bar constants source row known done (set β d 0) present can G in
       let parts = partsOf v source row known done in
       let holds =
       put-goes row holding (assign (t v ≔ copy (v + d))) (put row clearing (clear (v + d)) parts) α β
@@ -274,22 +275,22 @@ module _ (setting : Setting residues) (originals : List ℕ) (sized : length ori
               (getD-set-other α v x bar 0 (λ q. absurd (omega arith)));
         },
       )
-  rows-go false constants d source row known α h present size below =
+  rows-go false constants d source row known α h present can size below =
       let G = cleared-gained d (getD α v 0) α h size below refl in (
         set α d 0,
         put-goes row clearing (clear (v + d)) done α (set α d 0) (clear-goes α d (omega arith)),
         record { size = G .size; below = G .below; each = G .each },
       )
 
--- In residues an assignment's derivative rows go through, and add to the adjoints, d̄ being cleared, what its varied operands gain.
+-- In residues the derivative rows of an assignment that is no quotient go through, and add to the adjoints, d̄ being cleared, what its varied operands gain.
 pub derived-goes : (setting : Setting residues) (constants d : ℕ) (source : Source) (row : RowNumber) (known : Activity) (originals α : List ℕ)
     → length originals ≡ setting .variables → d < setting .variables → SourcePresent (setting .variables) constants source
-    → length α ≡ setting .variables + 2 → ((x : ℕ) → getD α x 0 < modulus)
+    → SourceFeasible false source → length α ≡ setting .variables + 2 → ((x : ℕ) → getD α x 0 < modulus)
     → (after : List ℕ) × (derivedBy residues setting (d ≔ source) row known originals α ≡ through after)
     × Grown (setting .variables) (λ x. cleared d α x + leanGain known source originals (getD α d 0) x) after
 unfolding leanGain
-derived-goes setting constants d source row known originals α sized h present size below =
-    let w = rows-go setting originals sized (known .active) constants d source row known α h present size below in (
+derived-goes setting constants d source row known originals α sized h present can size below =
+    let w = rows-go setting originals sized (known .active) constants d source row known α h present can size below in (
       w .0,
       derived-in-the-large residues setting (d ≔ source) row known originals α ∙ rw (w .1, drop-at originals (w .0) (setting .variables) sized),
       w .2,

@@ -7,13 +7,12 @@ use mathlib.Core.List.{List, [], _++_}
 use lib.ListN.{length, replicate}
 use lib.Seq.{drop-at}
 use native.Mathlib.Omega.{arith}
-use Rattle.number.specs.Arithmetic.{Arithmetic}
+use Rattle.number.specs.Arithmetic.{Arithmetic, divides}
 use Rattle.sheet.specs.Tree.{Tree, done, one}
-use Rattle.sheet.specs.Judging.{given}
 use Rattle.sheet.specs.Rows.{Assignment}
 use Rattle.sheet.specs.Names.{Present}
 use Rattle.sheet.specs.Sheets.{Sheet, variablesOf}
-use Rattle.sheet.specs.Reading.{read}
+use Rattle.sheet.proofs.Feasibility.{ReadFor}
 use Rattle.sheet.proofs.NamesPresent.{names-present}
 use Rattle.sets.specs.Rounds.{setsOf, setAt, required}
 use Rattle.sets.specs.Equations.{Satisfy}
@@ -61,7 +60,7 @@ module _ (A : Arithmetic) where
   -- what a run of an accepted sheet goes by
   pub record Prepared (words : List ℕ) (sheet : Sheet) (saved : ℕ → Assignment → Bool) (starts : List (A .Carrier)) (valueRoom turnRoom : ℕ)
       : Type 0 where
-    pub accepted : read words ≡ given sheet
+    pub reads : ReadFor (divides A) words sheet
     pub covers : Covers (knownIn sheet) saved (setAt (required sheet))
     pub started : length starts ≡ variablesOf sheet
     pub values : valuesNeeded (marksOf sheet saved) ≤ valueRoom
@@ -85,7 +84,7 @@ module _ (A : Arithmetic) where
     adjoints₀ = firstAdjoints A (sheet .roles) seeds
 
     present : Present (variablesOf sheet) (length (sheet .constants)) (sheet .body)
-    present = names-present words sheet (is .accepted)
+    present = names-present words sheet (is .reads .isRead)
 
     -- ---- the forward part
 
@@ -124,7 +123,7 @@ module _ (A : Arithmetic) where
       unfolding requiredEquations Satisfy
       required-holds =
           forward-along (λ p b. requiredAfter b (knownIn sheet p b)) (setAt (required sheet)) (sheet .body) 0 []
-          (required-least words sheet (is .accepted) .satisfies .1) .0
+          (required-least words sheet (is .reads .isRead) .satisfies .1) .0
 
       -- where the backward part begins
       abbrev turned : Memory A
@@ -202,7 +201,8 @@ module _ (A : Arithmetic) where
 
     pub matches-ideal : Claim (ideal A sheet (setsOf sheet) setting starts)
     unfolding execution ideal swept tableRun savedValues settingOf
-    matches-ideal = by-execution (executed-ready A (sheet .constants) (variablesOf sheet) (sheet .body) 0 (beginning A starts) (is .started) present)
+    matches-ideal = by-execution (executed-ready A (sheet .constants) (variablesOf sheet) (sheet .body) 0 (beginning A starts) (is .started) present
+        (is .reads .feasible))
       where
         by-sweep : (e : Progress A) (h : execution A sheet starts ≡ through e) → Back e h → Claim (ideal A sheet (setsOf sheet) setting starts)
         by-sweep e h (retraced originals adjoints then log sw goes) =

@@ -1,15 +1,17 @@
 -- An execution that went through, as a derivation: what the claims go by.
 use Prim.Native.Nat.{ℕ, zero, suc, _+_, _<_}
-use mathlib.Core.Path.{_≡_, subst}
+use mathlib.Core.Path.{_≡_, refl, subst}
 use mathlib.Core.Bool.{Bool, true, false, cond}
 use mathlib.Core.List.{List}
-use mathlib.Core.Option.{some}
+use mathlib.Core.Option.{Option, none, some}
 use lib.ListN.{length, set}
-use Rattle.number.specs.Arithmetic.{Arithmetic}
+use native.Mathlib.Omega.{arith}
+use Rattle.number.specs.Arithmetic.{Arithmetic, Outcome, over, isThere, divides}
 use Rattle.sheet.specs.Tree.{Tree, done, one, fork, again, rows}
-use Rattle.sheet.specs.Rows.{Assignment, _≔_, Source, Test}
+use Rattle.sheet.specs.Rows.{Assignment, _≔_, Source, copy, fixed, sum, difference, product, negation, quotient, Test}
+use Rattle.sheet.specs.Names.{SourceFeasible}
 use Rattle.table.specs.TableRows.{ofRow, itself}
-use Rattle.machine.specs.Actions.{through, present, replaced, stoppingAt, evaluated, compared}
+use Rattle.machine.specs.Actions.{through, present, look, replaced, stoppingAt, evaluated, compared}
 use Rattle.machine.proofs.AttemptLaws.{came, is-present, same-through, was-replaced, went}
 use Rattle.claims.specs.IdealSweep.{Progress, onward, performed, turned, executed}
 
@@ -35,6 +37,30 @@ module _ (A : Arithmetic) where
           known = store .0;
           goes = cc (second .2, store .1);
         }
+
+    -- what gave a value is no quotient, or there are quotients
+    done-feasible : (source : Source) (store : List (A .Carrier)) (x : A .Carrier) → evaluated A constants source store ≡ through x
+        → SourceFeasible (divides A) source
+    unfolding evaluated SourceFeasible
+    done-feasible (copy a) store x e = tt
+    done-feasible (fixed c) store x e = tt
+    done-feasible (sum a b) store x e = tt
+    done-feasible (difference a b) store x e = tt
+    done-feasible (product a b) store x e = tt
+    done-feasible (negation a) store x e = tt
+    done-feasible (quotient a b) store x e =
+        let first = went (look store a) _ x e in
+        let second = went (look store b) _ x (first .2) in
+        let divided = went (present (over (A .quotient) (first .0) (second .0))) _ x (second .2) in
+        there (A .quotient) (first .0) (second .0) (divided .0) (is-present _ _ (divided .1))
+      where
+        there : (divide : Option (A .Carrier → A .Carrier → Outcome (A .Carrier) (A .Why))) (x y : A .Carrier) (o : Outcome (A .Carrier) (A .Why))
+            → over divide x y ≡ some o → isThere divide ≡ true
+        there none x y o e = let z : _≡_ {A = ℕ} 0 1 = cc in absurd (omega arith)
+        there (some divide) x y o e = refl
+
+    pub performed-feasible : {p d : ℕ} {source : Source} {now next : Progress A} → Performed p d source now next → SourceFeasible (divides A) source
+    performed-feasible {source = source} {now = now} did = done-feasible source (now .store) (did .value) (did .gives)
 
     pub data Runs : Tree Assignment Test → ℕ → Progress A → Progress A → Type 0 where
       stay : {p : ℕ} {s : Progress A} → Runs done p s s

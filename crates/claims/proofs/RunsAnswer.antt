@@ -6,13 +6,12 @@ use mathlib.Core.Bool.{Bool}
 use mathlib.Core.List.{List, _++_}
 use lib.ListN.{length}
 use native.Mathlib.Omega.{arith}
-use Rattle.number.specs.Arithmetic.{Arithmetic}
+use Rattle.number.specs.Arithmetic.{Arithmetic, divides}
 use Rattle.number.specs.Residues.{residues}
 use Rattle.sheet.specs.Tree.{RowNumber}
-use Rattle.sheet.specs.Judging.{given}
 use Rattle.sheet.specs.Refusals.{numberOf, placeOf, notFiniteResult}
 use Rattle.sheet.specs.Sheets.{Sheet, variablesOf}
-use Rattle.sheet.specs.Reading.{read}
+use Rattle.sheet.proofs.Feasibility.{ReadFor}
 use Rattle.sets.specs.Rounds.{setsOf, marked}
 use Rattle.table.specs.Adjoint.{tableBy}
 use Rattle.table.specs.Computed.{tableOf}
@@ -26,7 +25,7 @@ use Rattle.claims.specs.ThreeDemands.{SameOutcome, bothEnd, bothStop}
 use Rattle.claims.specs.WholeRun.{runSaving, StackRoom, Matches}
 use Rattle.claims.specs.Demands.{adjointBy}
 use Rattle.claims.proofs.IdealRooms.{ideal-in-any-room}
-use Rattle.claims.proofs.StartExactlyWhen.{OwnRunnable, accepted-to-run, started}
+use Rattle.claims.proofs.StartExactlyWhen.{OwnRunnable, reads-to-run, started}
 use Rattle.claims.proofs.RunsEnd.{EndsSome}
 use Rattle.claims.proofs.WholeRunMatches.{run-matches, own-run-matches}
 
@@ -79,8 +78,8 @@ module _ (A : Arithmetic) where
     ready-matches : Matches A (variablesOf sheet) idealRun ending
     ready-matches =
         let stacks = ready .lengths .stacks in
-        let accepted = accepted-to-run A needsBy words starts seeds lent sheet ready in
-        own-run-matches A words sheet accepted starts seeds (ready .lengths .startValues) _ _ (stacks .values) (stacks .turns)
+        let reads = reads-to-run A needsBy words starts seeds lent sheet ready in
+        own-run-matches A words sheet reads starts seeds (ready .lengths .startValues) _ _ (stacks .values) (stacks .turns)
 
     pub own-run-ends : EndsSome A ending
     own-run-ends = ends-some (variablesOf sheet) idealRun ending ready-matches
@@ -130,13 +129,13 @@ module _ (A : Arithmetic) where
   unfolding Matches
   unstuck-ideal v i ending m e = subst (λ x. Matches A v x ending) e m
 
-  pub saved-rows-same : (words : List ℕ) (sheet : Sheet) → read words ≡ given sheet → (choice choice′ : RowNumber → Bool)
+  pub saved-rows-same : (words : List ℕ) (sheet : Sheet) → ReadFor (divides A) words sheet → (choice choice′ : RowNumber → Bool)
       → (starts seeds : List (A .Carrier)) → length starts ≡ variablesOf sheet → (values turns values′ turns′ : ℕ)
       → StackRoom A choice sheet (setsOf sheet) values turns → StackRoom A choice′ sheet (setsOf sheet) values′ turns′
       → SameOutcome A (variablesOf sheet) (runSaving A choice sheet (setsOf sheet) starts seeds values turns) (runSaving A choice′ sheet (setsOf sheet) starts seeds values′ turns′)
-  saved-rows-same words sheet accepted choice choice′ starts seeds n values turns values′ turns′ room room′ =
-      let first = run-matches A words sheet accepted starts seeds n choice values turns room in
-      let second = run-matches A words sheet accepted starts seeds n choice′ values′ turns′ room′ in
+  saved-rows-same words sheet reads choice choice′ starts seeds n values turns values′ turns′ room room′ =
+      let first = run-matches A words sheet reads starts seeds n choice values turns room in
+      let second = run-matches A words sheet reads starts seeds n choice′ values′ turns′ room′ in
       let same = ideal-in-any-room A sheet starts seeds values turns values′ turns′ (unstuck-ideal _ _ _ first) (unstuck-ideal _ _ _ second) in
       same-outcome (variablesOf sheet) _ _ _ first
       (subst (λ i. Matches A (variablesOf sheet) i (runSaving A choice′ sheet (setsOf sheet) starts seeds values′ turns′)) (sym same) second)

@@ -6,7 +6,7 @@ use mathlib.Core.List.{List, [], _∷_}
 use lib.ListN.{drop}
 use native.Mathlib.Omega.{arith}
 use Rattle.sheet.specs.Tree.{Tree, done, one, fork, again, basic, ifLine, elseLine, endIf, repeat, endRepeat, flat, rows, RowNumber}
-use Rattle.sheet.specs.Rows.{Assignment, _≔_, Source, copy, fixed, sum, difference, product, negation, Test, SheetLine, targetOf}
+use Rattle.sheet.specs.Rows.{Assignment, _≔_, Source, copy, fixed, sum, difference, product, negation, quotient, Test, SheetLine, targetOf}
 use Rattle.sheet.specs.Sheets.{Sheet, variablesOf}
 use Rattle.sets.specs.Transfers.{Activity}
 use Rattle.sets.specs.Rounds.{setsOf}
@@ -64,7 +64,7 @@ module _ (sheet : Sheet) where
 
   module _ (v : ℕ) (row : RowNumber) (known : Activity) (rest : Table) (after : List TableLine) (others : AllFine (flat rest after)) where
     parts-fine : (source : Source) → AllFine (flat (partsOf v source row known rest) after)
-    unfolding partsOf FineAction
+    unfolding partsOf flat Fine FineAction
     parts-fine (copy a) = only-if (known .variedA) row _ _ _ after tt others
     parts-fine (fixed c) = others
     parts-fine (sum a b) = only-if (known .variedA) row _ _ _ after tt (only-if (known .variedB) row _ _ _ after tt others)
@@ -74,6 +74,11 @@ module _ (sheet : Sheet) where
         (only-if (known .variedA) row _ _ _ after tt
         (only-if (known .variedB) row _ _ _ after tt (only-if (known .variedB) row _ _ _ after tt others)))
     parts-fine (negation a) = only-if (known .variedA) row _ _ _ after tt others
+    parts-fine (quotient a b) =
+        one-line tt
+        (only-if (known .variedA) row _ _ _ after tt
+        (only-if (known .variedB) row _ _ _ after tt
+        (only-if (known .variedB) row _ _ _ after tt (only-if (known .variedB) row _ _ _ after tt others))))
 
     derivatives-fine : (active : Bool) (d : ℕ) (source : Source) → AllFine (flat (derivativeRows v active d source row known rest) after)
     unfolding derivativeRows flat Fine FineAction

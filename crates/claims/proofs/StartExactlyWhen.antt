@@ -2,17 +2,19 @@
 use Prim.Native.Nat.{ℕ, suc, _+_, _*_, _≤_, _<_}
 use mathlib.Core.Path.{_≡_, refl, sym, ap, subst, _∙_}
 use mathlib.Core.List.{List, [], _∷_, _++_}
-use mathlib.Core.Logic.{_⊎_, inl, inr}
+use mathlib.Core.Bool.{Bool, true, false}
+use mathlib.Core.Logic.{_⊎_, inl, inr, _≢_}
 use lib.ListN.{length}
 use lib.Dec.{leb, eqb}
 use native.Mathlib.Omega.{arith}
-use Rattle.number.specs.Arithmetic.{Arithmetic}
+use Rattle.number.specs.Arithmetic.{Arithmetic, divides}
 use Rattle.sheet.specs.Judging.{Answer, refused, given, _>>=_, unless}
 use Rattle.sheet.specs.Refusals.{Refusal, numberOf, smallValueStack, smallTurnStack, wrongStarts, wrongSeeds, wrongResult, notFiniteGiven}
 use Rattle.sheet.specs.Sheets.{Sheet, variablesOf}
-use Rattle.sheet.specs.Reading.{read}
+use Rattle.sheet.specs.Reading.{read, readIn}
 use Rattle.sheet.proofs.Judgements.{Tells, leb-tells, eqb-tells, unmet, judged, _andThen_, after-given, after-refused, passes, refuses}
 use Rattle.sheet.proofs.Settled.{Settled}
+use Rattle.sheet.proofs.Feasibility.{ReadFor, read-for}
 use Rattle.sets.specs.Marks.{Sets}
 use Rattle.sets.specs.Rounds.{setsOf}
 use Rattle.sets.proofs.SetsLeast.{sets-least, least-sets-only}
@@ -21,8 +23,9 @@ use Rattle.table.specs.Calls.{readFor}
 use Rattle.machine.specs.Machine.{Step}
 use Rattle.run.specs.Runs.{Lent, Job, runOf}
 use Rattle.run.specs.Calls.{allAdmitted, readToRun, ranTo, ranOn, runBy}
-use Rattle.claims.specs.ExactlyWhen.{First, ReadingRefuses, Read, Accepted, WritingRefuses, whileReading, tableTooSmall, Writable, StacksSuffice, LengthsRight, NotFinite, Runnable, StartRefused, whileWriting, valueStackTooSmall, turnStackTooSmall, startsNotV, seedsNotV, resultNot2V, givenNotFinite}
+use Rattle.claims.specs.ExactlyWhen.{First, ReadingRefuses, Read, QuotientAt, Calculable, Accepted, WritingRefuses, whileReading, quotientHeld, tableTooSmall, Writable, StacksSuffice, LengthsRight, NotFinite, Runnable, StartRefused, whileWriting, valueStackTooSmall, turnStackTooSmall, startsNotV, seedsNotV, resultNot2V, givenNotFinite}
 use Rattle.claims.proofs.FirstFailing.{eachJudged, all-pass, first-refused, all-or-first}
+use Rattle.claims.proofs.QuotientsJudged.{refused-in, held-in, calculable-in, calculable-or-held}
 use Rattle.claims.proofs.ReadingExactlyWhen.{reading-settled, reading-numbers}
 
 -- ---- an accepted sheet has its own sets, and no others
@@ -30,6 +33,13 @@ use Rattle.claims.proofs.ReadingExactlyWhen.{reading-settled, reading-n
 module _ (words : List ℕ) (sheet : Sheet) where
   pub accepted-reads : Read words sheet → read words ≡ given sheet
   accepted-reads is = reading-settled words .byResult sheet is
+
+  -- for an arithmetic that can do each row of it
+  reads-in : (divides : Bool) → Read words sheet → Calculable words divides → readIn divides words ≡ given sheet
+  reads-in divides is free = calculable-in words sheet is (accepted-reads is) divides free
+
+  pub reads-for : (divides : Bool) → Read words sheet → Calculable words divides → ReadFor divides words sheet
+  reads-for divides is free = read-for divides words sheet (reads-in divides is free)
 
   pub own-sets : Read words sheet → Accepted words sheet (setsOf sheet)
   own-sets is = record { isRead = is; least = sets-least words sheet (accepted-reads is) }
@@ -48,38 +58,45 @@ module _ (needs : Sets → Sheet → Needs) where
   abbrev pub needed : Sheet → Needs
   needed sheet = needs (setsOf sheet) sheet
 
-module _ (needs : Sets → Sheet → Needs) (words buffer : List ℕ) where
-  abbrev Fits : Sheet → Type 0
-  Fits sheet = Writable needs words buffer sheet (setsOf sheet)
+module _ (divides : Bool) (needs : Sets → Sheet → Needs) (words buffer : List ℕ) where
+  abbrev pub Fits : Sheet → Type 0
+  Fits sheet = Writable divides needs words buffer sheet (setsOf sheet)
 
   room-told : (sheet : Sheet)
       → Tells (leb (tableRoom (needed needs sheet .rows)) (length buffer)) (tableRoom (needed needs sheet .rows) ≤ length buffer)
   room-told sheet = leb-tells _ _
 
-  writing-rule : {r : Refusal} → WritingRefuses needs words buffer r → readFor (needed needs) words (length buffer) ≡ refused r
+  writing-rule : {r : Refusal} → WritingRefuses divides needs words buffer r → readFor divides (needed needs) words (length buffer) ≡ refused r
   unfolding readFor
-  writing-rule (whileReading rule) = after-refused _ (reading-settled words .byRule _ rule)
-  writing-rule (tableTooSmall sheet sets is small) =
+  writing-rule (whileReading {r} rule) = after-refused _ (refused-in divides words r (reading-settled words .byRule _ rule))
+  writing-rule (quotientHeld sheet i is not first) = after-refused _ (held-in words sheet is (accepted-reads words sheet is) divides i not first)
+  writing-rule (tableTooSmall sheet sets is free small) =
       let same = only-sets words sheet sets is in
       let few : length buffer < tableRoom (needed needs sheet .rows) = subst (λ s. length buffer < tableRoom (needs s sheet .rows)) same small in
       let not-room : ¬ (tableRoom (needed needs sheet .rows) ≤ length buffer) = omega arith in
-      after-given _ (accepted-reads words sheet (is .isRead)) ∙ after-refused _ (refuses _ _ (room-told sheet) not-room)
+      after-given _ (reads-in words sheet divides (is .isRead) free) ∙ after-refused _ (refuses _ _ (room-told sheet) not-room)
 
-  writing-result : (sheet : Sheet) → Fits sheet → readFor (needed needs) words (length buffer) ≡ given sheet
+  writing-result : (sheet : Sheet) → Fits sheet → readFor divides (needed needs) words (length buffer) ≡ given sheet
   unfolding readFor
   writing-result sheet is =
-      after-given _ (accepted-reads words sheet (is .accepted .isRead)) ∙ after-given _ (passes _ _ (room-told sheet) (is .tableFits))
+      after-given _ (reads-in words sheet divides (is .accepted .isRead) (is .calculable)) ∙ after-given _ (passes _ _ (room-told sheet) (is .tableFits))
 
-  pub writing-settled : Settled (readFor (needed needs) words (length buffer)) (WritingRefuses needs words buffer) Fits
+  held-judged : (sheet : Sheet) → Read words sheet → Calculable words divides ⊎ ((divides ≡ false) × ((i : ℕ) × First (QuotientAt words) i))
+      → Calculable words divides ⊎ ((r : Refusal) × WritingRefuses divides needs words buffer r)
+  held-judged sheet is (inl free) = inl free
+  held-judged sheet is (inr (not, (i, first))) = inr (_, quotientHeld sheet i is not first)
+
+  pub writing-settled : Settled (readFor divides (needed needs) words (length buffer)) (WritingRefuses divides needs words buffer) Fits
   writing-settled = record { byRule = λ r. writing-rule; byResult = writing-result; either = by (reading-settled words .either) }
     where
       by : ((sheet : Sheet) × Read words sheet) ⊎ ((r : Refusal) × ReadingRefuses words r)
-          → ((sheet : Sheet) × Fits sheet) ⊎ ((r : Refusal) × WritingRefuses needs words buffer r)
+          → ((sheet : Sheet) × Fits sheet) ⊎ ((r : Refusal) × WritingRefuses divides needs words buffer r)
       by (inr (r, rule)) = inr (r, whileReading rule)
       by (inl (sheet, is)) =
           let accepted = own-sets words sheet is in
-          judged _ (room-told sheet) (λ small. (_, tableTooSmall sheet (setsOf sheet) accepted (omega arith))) andThen λ room.
-          inl (sheet, record { accepted = accepted; tableFits = room })
+          held-judged sheet is (calculable-or-held words sheet is (accepted-reads words sheet is) divides) andThen λ free.
+          judged _ (room-told sheet) (λ small. (_, tableTooSmall sheet (setsOf sheet) accepted free (omega arith))) andThen λ room.
+          inl (sheet, record { accepted = accepted; calculable = free; tableFits = room })
 
 -- ---- starting a run
 
@@ -135,9 +152,9 @@ module _ (A : Arithmetic) (needs : Sets → Sheet → Needs) (words : List ℕ) 
       _ ← unless (leb (needed needs sheet .turns) (length (lent .turns))) smallTurnStack
       afterStacks
 
-    table-passes : Fits needs words (lent .table) sheet → judging ≡ afterTable
+    table-passes : Fits (divides A) needs words (lent .table) sheet → judging ≡ afterTable
     unfolding readToRun
-    table-passes is = after-given _ (writing-settled needs words (lent .table) .byResult sheet is)
+    table-passes is = after-given _ (writing-settled (divides A) needs words (lent .table) .byResult sheet is)
 
     stacks-pass : Stacks sheet → judging ≡ afterStacks
     stacks-pass is = table-passes (is .writable) ∙ rw (values-told .1 (is .values), turns-told .1 (is .turns))
@@ -148,8 +165,8 @@ module _ (A : Arithmetic) (needs : Sets → Sheet → Needs) (words : List ℕ) 
 
   -- a rule that speaks of any least sets, by the sheet's own
   module _ (sheet : Sheet) (sets : Sets) where
-    own-fits : Writable needs words (lent .table) sheet sets → Fits needs words (lent .table) sheet
-    own-fits is = subst (Writable needs words (lent .table) sheet) (only-sets words sheet sets (is .accepted)) is
+    own-fits : Writable (divides A) needs words (lent .table) sheet sets → Fits (divides A) needs words (lent .table) sheet
+    own-fits is = subst (Writable (divides A) needs words (lent .table) sheet) (only-sets words sheet sets (is .accepted)) is
 
     own-stacks : StacksSuffice A needs words starts seeds lent sheet sets → Stacks sheet
     own-stacks is = subst (StacksSuffice A needs words starts seeds lent sheet) (only-sets words sheet sets (is .writable .accepted)) is
@@ -162,7 +179,7 @@ module _ (A : Arithmetic) (needs : Sets → Sheet → Needs) (words : List ℕ) 
 
   start-rule : {r : Refusal} → StartRefused A needs words starts seeds lent r → judging ≡ refused r
   unfolding readToRun
-  start-rule (whileWriting rule) = after-refused _ (writing-settled needs words (lent .table) .byRule _ rule)
+  start-rule (whileWriting rule) = after-refused _ (writing-settled (divides A) needs words (lent .table) .byRule _ rule)
   start-rule (valueStackTooSmall sheet sets is few) =
       let own = subst (λ s. length (lent .values) < needs s sheet .values) (only-sets words sheet sets (is .accepted)) few in
       let none : ¬ (needed needs sheet .values ≤ length (lent .values)) = omega arith in
@@ -197,9 +214,9 @@ module _ (A : Arithmetic) (needs : Sets → Sheet → Needs) (words : List ℕ) 
   admitted-judged sheet is (inr (i, first)) = inr (_, givenNotFinite sheet (setsOf sheet) i is first)
 
   pub start-settled : Settled judging (StartRefused A needs words starts seeds lent) OwnRunnable
-  start-settled = record { byRule = λ r. start-rule; byResult = start-result; either = by (writing-settled needs words (lent .table) .either) }
+  start-settled = record { byRule = λ r. start-rule; byResult = start-result; either = by (writing-settled (divides A) needs words (lent .table) .either) }
     where
-      by : ((sheet : Sheet) × Fits needs words (lent .table) sheet) ⊎ ((r : Refusal) × WritingRefuses needs words (lent .table) r)
+      by : ((sheet : Sheet) × Fits (divides A) needs words (lent .table) sheet) ⊎ ((r : Refusal) × WritingRefuses (divides A) needs words (lent .table) r)
           → ((sheet : Sheet) × OwnRunnable sheet) ⊎ ((r : Refusal) × StartRefused A needs words starts seeds lent r)
       by (inr (r, rule)) = inr (r, whileWriting rule)
       by (inl (sheet, is)) =
@@ -216,8 +233,11 @@ module _ (A : Arithmetic) (needs : Sets → Sheet → Needs) (words : List ℕ) 
 
   -- ---- a run that starts
 
-  pub accepted-to-run : (sheet : Sheet) → OwnRunnable sheet → read words ≡ given sheet
-  accepted-to-run sheet is = accepted-reads words sheet (is .lengths .stacks .writable .accepted .isRead)
+  -- the sheet that the words are, of which the arithmetic can do every row
+  pub reads-to-run : (sheet : Sheet) → OwnRunnable sheet → ReadFor (divides A) words sheet
+  reads-to-run sheet is =
+      let writable = is .lengths .stacks .writable in
+      reads-for words sheet (divides A) (writable .accepted .isRead) (writable .calculable)
 
   -- it answers by how the machine ends
   pub started : (job : Sheet → Job A) (sheet : Sheet) (ending : Step A) → OwnRunnable sheet
@@ -226,19 +246,22 @@ module _ (A : Arithmetic) (needs : Sets → Sheet → Needs) (words : List ℕ) 
   unfolding runBy ranOn
   started job sheet ending is e = ap (λ answer. ranOn A job answer lent) (start-result sheet is) ∙ ap (ranTo A (job sheet) lent) e
 
--- refusals 1 to 8, and 1 to 11
-pub writing-numbers : {needs : Sets → Sheet → Needs} {words buffer : List ℕ} {r : Refusal} → WritingRefuses needs words buffer r → numberOf r ≤ 8
+-- refusals 1 to 8; and what refuses a run's start isn't 12
+pub writing-numbers : {needs : Sets → Sheet → Needs} {words buffer : List ℕ} {r : Refusal} → WritingRefuses true needs words buffer r → numberOf r ≤ 8
 unfolding numberOf
 writing-numbers (whileReading rule) = omega (arith, reading-numbers rule)
-writing-numbers (tableTooSmall sheet sets is small) = omega arith
+writing-numbers (quotientHeld sheet i is not first) = let z : _≡_ {A = ℕ} 0 1 = cc in absurd (omega arith)
+writing-numbers (tableTooSmall sheet sets is free small) = omega arith
 
 pub start-numbers : {A : Arithmetic} {needs : Sets → Sheet → Needs} {words : List ℕ} {starts seeds : List (A .Carrier)} {lent : Lent A} {r : Refusal}
-    → StartRefused A needs words starts seeds lent r → numberOf r ≤ 11
+    → StartRefused A needs words starts seeds lent r → numberOf r ≢ 12
 unfolding numberOf
-start-numbers (whileWriting rule) = omega (arith, writing-numbers rule)
-start-numbers (valueStackTooSmall sheet sets is few) = omega arith
-start-numbers (turnStackTooSmall sheet sets is values few) = omega arith
-start-numbers (startsNotV sheet sets is wrong) = omega arith
-start-numbers (seedsNotV sheet sets is right wrong) = omega arith
-start-numbers (resultNot2V sheet sets is right right′ wrong) = omega arith
-start-numbers (givenNotFinite sheet sets i is first) = omega arith
+start-numbers (whileWriting (whileReading rule)) e = omega (arith, reading-numbers rule)
+start-numbers (whileWriting (quotientHeld sheet i is not first)) e = omega arith
+start-numbers (whileWriting (tableTooSmall sheet sets is free small)) e = omega arith
+start-numbers (valueStackTooSmall sheet sets is few) e = omega arith
+start-numbers (turnStackTooSmall sheet sets is values few) e = omega arith
+start-numbers (startsNotV sheet sets is wrong) e = omega arith
+start-numbers (seedsNotV sheet sets is right wrong) e = omega arith
+start-numbers (resultNot2V sheet sets is right right′ wrong) e = omega arith
+start-numbers (givenNotFinite sheet sets i is first) e = omega arith

@@ -6,11 +6,11 @@ use Rattle.sheet.specs.Bounds.{limit}
 use Rattle.table.specs.RowBounds.{mostTableRows}
 use Rattle.table.specs.Calls.{check}
 
--- so many times x := x × x
-abbrev squares : ℕ → List ℕ
-squares zero = []
-squares (suc n) = 5 ∷ 0 ∷ 0 ∷ 0 ∷ squares n
+-- so many times x := x / x
+abbrev quotients : ℕ → List ℕ
+quotients zero = []
+quotients (suc n) = 18 ∷ 0 ∷ 0 ∷ 0 ∷ quotients n
 
-pub bound-reached : check (1 ∷ 3 ∷ 0 ∷ limit .rows ∷ squares (limit .rows)) .sizes .rows ≡ mostTableRows
+pub bound-reached : check (1 ∷ 3 ∷ 0 ∷ limit .rows ∷ quotients (limit .rows)) .sizes .rows ≡ mostTableRows
 unfolding check
 bound-reached = refl

@@ -7,13 +7,12 @@ use mathlib.Core.Option.{Option, none, some}
 use lib.ListN.{length, take, set}
 use native.Mathlib.Omega.{arith}
 use borrow.Author.Tests.{lt-ltb}
-use Rattle.number.specs.Arithmetic.{Arithmetic}
+use Rattle.number.specs.Arithmetic.{Arithmetic, divides}
 use Rattle.number.specs.Residues.{residues}
-use Rattle.sheet.specs.Judging.{given}
 use Rattle.sheet.specs.Tree.{Tree, done, one, fork, again, rows}
 use Rattle.sheet.specs.Rows.{Assignment, _≔_, Source, Test}
 use Rattle.sheet.specs.Sheets.{Sheet, variablesOf}
-use Rattle.sheet.specs.Reading.{read}
+use Rattle.sheet.proofs.Feasibility.{ReadFor}
 use Rattle.sets.specs.Transfers.{Activity}
 use Rattle.sets.specs.Marks.{Sets, numbered, markBy, markedBy}
 use Rattle.table.specs.Adjoint.{Body}
@@ -144,9 +143,9 @@ module _ (A : Arithmetic) where
     abbrev tangentRun : Step A
     tangentRun = runOf A (tangentBy sets sheet) (settingOf A sheet rates 0 0) (tangentStart A sheet starts rates)
 
-    pub tangent-executes : (words : List ℕ) → read words ≡ given sheet → length starts ≡ variablesOf sheet → (memory : Memory A) → tangentRun ≡ ended memory
+    pub tangent-executes : (words : List ℕ) → ReadFor (divides A) words sheet → length starts ≡ variablesOf sheet → (memory : Memory A) → tangentRun ≡ ended memory
         → Executes (execution A sheet starts) (take (variablesOf sheet) (memory .store))
-    tangent-executes words accepted many memory e = by-end (runs-agree A sheet starts rates words accepted sets many)
+    tangent-executes words reads many memory e = by-end (runs-agree A sheet starts rates words reads sets many)
       where
         by-end : SameEnd A sheet tangentRun (plainBy A sets sheet starts rates)
             → Executes (execution A sheet starts) (take (variablesOf sheet) (memory .store))
@@ -161,9 +160,9 @@ module _ (A : Arithmetic) where
         by-end (bothHalt row stop is goes) = let z : _≡_ {A = ℕ} 0 1 = cc in absurd (omega arith)
 
 -- In residues nothing stops, so every run ends.
-pub residues-end : (words : List ℕ) (sheet : Sheet) → read words ≡ given sheet → (sets : Sets) (starts rates : List ℕ) → length starts ≡ variablesOf sheet
+pub residues-end : (words : List ℕ) (sheet : Sheet) → ReadFor false words sheet → (sets : Sets) (starts rates : List ℕ) → length starts ≡ variablesOf sheet
     → (memory : Memory residues) × (tangentRun residues sheet sets starts rates ≡ ended memory)
-residues-end words sheet accepted sets starts rates many = by-end (runs-agree residues sheet starts rates words accepted sets many)
+residues-end words sheet reads sets starts rates many = by-end (runs-agree residues sheet starts rates words reads sets many)
   where
     by-end : SameEnd residues sheet (tangentRun residues sheet sets starts rates) (plainBy residues sets sheet starts rates)
         → (memory : Memory residues) × (tangentRun residues sheet sets starts rates ≡ ended memory)

@@ -6,12 +6,11 @@ use mathlib.Core.Logic.{_⊎_, inl, inr, _≢_}
 use lib.ListN.{length, take}
 use lib.Seq.{take-at}
 use native.Mathlib.Omega.{arith}
-use Rattle.number.specs.Arithmetic.{Arithmetic}
+use Rattle.number.specs.Arithmetic.{Arithmetic, divides}
 use Rattle.number.specs.Residues.{residues}
-use Rattle.sheet.specs.Judging.{given}
 use Rattle.sheet.specs.Refusals.{Refusal, numberOf}
 use Rattle.sheet.specs.Sheets.{Sheet, variablesOf}
-use Rattle.sheet.specs.Reading.{read}
+use Rattle.sheet.proofs.Feasibility.{ReadFor}
 use Rattle.sets.specs.Marks.{Sets, markedBy}
 use Rattle.sets.specs.Rounds.{setsOf, marked}
 use Rattle.table.specs.TableRows.{tableWords, linesOf}
@@ -25,7 +24,7 @@ use Rattle.run.specs.Calls.{lentAfter, ranTo, ranOn, runBy}
 use Rattle.tangent.specs.Tangent.{tangentBy, tangentRows, tangentNeedsBy}
 use Rattle.tangent.specs.TangentRuns.{tangentStart, tangentResult, tangentJobBy}
 use Rattle.tangent.specs.Calls.{tangentOf, writeTangent, runTangent}
-use Rattle.claims.specs.ExactlyWhen.{Runnable, StartRefused, whileWriting, valueStackTooSmall, turnStackTooSmall, startsNotV, seedsNotV, resultNot2V, givenNotFinite}
+use Rattle.claims.specs.ExactlyWhen.{Runnable, whileReading, quotientHeld, tableTooSmall, StartRefused, whileWriting, valueStackTooSmall, turnStackTooSmall, startsNotV, seedsNotV, resultNot2V, givenNotFinite}
 use Rattle.claims.specs.IdealSweep.{Progress, beginning, execution}
 use Rattle.claims.specs.Demands.{RunExactly}
 use Rattle.plain.specs.Plain.{plainBy}
@@ -33,7 +32,8 @@ use Rattle.plain.proofs.WholeRunsAgree.{SameEnd, bothEnd, bothHalt, runs-agree}
 use Rattle.claims.specs.Tangents.{TangentWriteExactly, ExecutesSheet, TangentMeets, TangentAuditMeets}
 use Rattle.claims.proofs.Runs.{runs}
 use Rattle.claims.proofs.RunsKeepSizes.{runs-keep}
-use Rattle.claims.proofs.StartExactlyWhen.{OwnRunnable, own-run, by-own-sets, accepted-to-run, start-settled, started, writing-numbers}
+use Rattle.claims.proofs.ReadingExactlyWhen.{reading-numbers}
+use Rattle.claims.proofs.StartExactlyWhen.{OwnRunnable, own-run, by-own-sets, reads-to-run, start-settled, started}
 use Rattle.claims.proofs.RunsEnd.{EndsSome}
 use Rattle.claims.proofs.Heights.{table-never-sticks}
 use Rattle.claims.proofs.ExactlyWhenHolds.{writes-exactly, runs-exactly}
@@ -61,7 +61,9 @@ tangent-write-call words before after answer contract = subst (TangentWriteExact
 without-nine : {A : Arithmetic} {words : List ℕ} {starts rates : List (A .Carrier)} {lent : Lent A} {r : Refusal}
     → StartRefused A tangentNeedsBy words starts rates lent r → numberOf r ≢ 9
 unfolding numberOf
-without-nine (whileWriting rule) is = omega (arith, writing-numbers rule)
+without-nine (whileWriting (whileReading rule)) is = omega (arith, reading-numbers rule)
+without-nine (whileWriting (quotientHeld sheet i read not first)) is = omega arith
+without-nine (whileWriting (tableTooSmall sheet sets fits free small)) is = omega arith
 without-nine (valueStackTooSmall sheet sets fits few) is = omega arith
 without-nine (turnStackTooSmall sheet sets fits values few) is = omega arith
 without-nine (startsNotV sheet sets fits wrong) is = omega arith
@@ -79,8 +81,8 @@ module _ (A : Arithmetic) (words : List ℕ) (starts rates : List (A .Carrier)) 
   abbrev ending : Sheet → Step A
   ending sheet = runOf A (tangentBy (setsOf sheet) sheet) (settingOf A sheet rates 0 0) (tangentStart A sheet starts rates)
 
-  reads : (sheet : Sheet) → Ready sheet → read words ≡ given sheet
-  reads sheet ready = accepted-to-run A tangentNeedsBy words starts rates lent sheet ready
+  reads : (sheet : Sheet) → Ready sheet → ReadFor (divides A) words sheet
+  reads sheet ready = reads-to-run A tangentNeedsBy words starts rates lent sheet ready
 
   ends : (sheet : Sheet) → Ready sheet → EndsSome A (ending sheet)
   ends sheet ready = by (runs-agree A sheet starts rates words (reads sheet ready) (setsOf sheet) (ready .lengths .startValues))

@@ -10,9 +10,9 @@ use lib.ListN.{length, set, getD, getElem?, length-set}
 use lib.Dec.{T, eqb, eqb→eq}
 use native.Mathlib.Decide.{ℕ-discrete}
 use native.Mathlib.Omega.{arith}
-use Rattle.number.specs.Arithmetic.{Arithmetic}
+use Rattle.number.specs.Arithmetic.{Arithmetic, divides}
 use Rattle.sheet.specs.Rows.{Assignment, _≔_, Source}
-use Rattle.sheet.specs.Names.{AssignmentPresent}
+use Rattle.sheet.specs.Names.{AssignmentPresent, SourceFeasible}
 use Rattle.sets.specs.VariableSets.{VariableSet, has, _∪_, without, _⊆_}
 use Rattle.sets.specs.Transfers.{Activity, adjointUse, recordedBy}
 use Rattle.sets.proofs.VariableSetLaws.{union-has, without-has, union-left, union-right}
@@ -114,6 +114,7 @@ module _ (known : ℕ → Assignment → Activity) (saved : ℕ → Assignment �
 
       module _ (k p d : ℕ) (source : Source) (s : Progress A) (x : A .Carrier) (originals adjoints : List (A .Carrier)) (rest : Table)
           (n : length (s .store) ≡ v) (named : AssignmentPresent v k (d ≔ source))
+          (feasible : SourceFeasible (divides A) source)
           (now : Restored A v (without d (at p ∪ adjointUse source (known p (d ≔ source)))) originals adjoints (set (s .store) d x)) where
         abbrev is : Activity
         is = known p (d ≔ source)
@@ -135,7 +136,7 @@ module _ (known : ℕ → Assignment → Activity) (saved : ℕ → Assignment �
         unfolding AssignmentPresent
         derive others size fit e =
             against
-            (derivatives-alike A setting k d source (record { index = p }) is (named .0) (named .1) others (s .store) adjoints size n
+            (derivatives-alike A setting k d source (record { index = p }) is (named .0) (named .1) feasible others (s .store) adjoints size n
             (now .adjointSize) (λ i h. fit i (union-right (at p) (adjointUse source is) i h)))
           where
             against : Derives A setting d source (record { index = p }) is others (s .store) adjoints → Goal

@@ -4,12 +4,11 @@ use mathlib.Core.Path.{_≡_, refl, ap₂, subst}
 use mathlib.Core.Bool.{Bool, true, false, _||_, or-false}
 use mathlib.Core.List.{List}
 use lib.ListN.{length}
-use Rattle.number.specs.Arithmetic.{Arithmetic}
+use Rattle.number.specs.Arithmetic.{Arithmetic, divides}
 use Rattle.sheet.specs.Tree.{Tree, done, one, fork, again, rows, RowNumber}
-use Rattle.sheet.specs.Judging.{given}
 use Rattle.sheet.specs.Rows.{Assignment, Test}
 use Rattle.sheet.specs.Sheets.{Sheet, variablesOf}
-use Rattle.sheet.specs.Reading.{read}
+use Rattle.sheet.proofs.Feasibility.{ReadFor}
 use Rattle.sets.specs.Rounds.{setsOf}
 use Rattle.sets.specs.Marks.{numbered, markBy, markedBy}
 use Rattle.table.specs.Adjoint.{Body, tableBy}
@@ -70,7 +69,7 @@ module _ (A : Arithmetic) (sheet : Sheet) where
 
 -- ---- the run
 
-module _ (A : Arithmetic) (words : List ℕ) (sheet : Sheet) (accepted : read words ≡ given sheet) (starts seeds : List (A .Carrier))
+module _ (A : Arithmetic) (words : List ℕ) (sheet : Sheet) (reads : ReadFor (divides A) words sheet) (starts seeds : List (A .Carrier))
     (n : length starts ≡ variablesOf sheet) where
   abbrev Like : (valueRoom turnRoom : ℕ) → Step A → Type 0
   Like valueRoom turnRoom = Matches A (variablesOf sheet) (ideal A sheet (setsOf sheet) (settingOf A sheet seeds valueRoom turnRoom) starts)
@@ -82,7 +81,7 @@ module _ (A : Arithmetic) (words : List ℕ) (sheet : Sheet) (accepted : read wo
       rw (also-body sheet choice)
       (matches-ideal A {words = words} seeds
       (record {
-        accepted = accepted;
+        reads = reads;
         covers = recorded-saved sheet choice;
         started = n;
         values = subst (λ t. valuesNeeded t ≤ valueRoom) (also-body sheet choice) (room .values);

@@ -3,7 +3,7 @@
 use Prim.Native.Nat.{ℕ, _≤_, _<_}
 use mathlib.Core.Path.{_≡_}
 use mathlib.Core.List.{List, [], _∷_, map}
-use mathlib.Core.Logic.{_↔_}
+use mathlib.Core.Logic.{_↔_, _≢_}
 use lib.ListN.{length, take, drop, replicate, getD}
 use mathlib.Core.Bool.{true, cond}
 use Rattle.number.specs.Arithmetic.{Arithmetic}
@@ -51,11 +51,11 @@ pub record StartsWith (table before after : List ℕ) : Type 0 where
 
 -- What a sheet needs and which table is written of it are handed in.
 pub record WritesExactly (needs : Sets → Sheet → Needs) (written : Sets → Sheet → Table) (words before : List ℕ) (answer : Written) : Type 0 where
-  pub refuses : (r : Refusal) → Names (answer .number) (answer .place) r ↔ WritingRefuses needs words before r
-  pub done : (answer .number ≡ 0) ↔ ((sheet : Sheet) × (sets : Sets) × Writable needs words before sheet sets)
+  pub refuses : (r : Refusal) → Names (answer .number) (answer .place) r ↔ WritingRefuses true needs words before r
+  pub done : (answer .number ≡ 0) ↔ ((sheet : Sheet) × (sets : Sets) × Writable true needs words before sheet sets)
   pub numbers : answer .number ≤ 8
   pub whenRefused : 1 ≤ answer .number → answer .table ≡ before
-  pub whenDone : (sheet : Sheet) (sets : Sets) → Writable needs words before sheet sets
+  pub whenDone : (sheet : Sheet) (sets : Sets) → Writable true needs words before sheet sets
       → (answer .place ≡ 0) × StartsWith (tableWords (written sets sheet)) before (answer .table)
 
 -- "the adjoint table is exactly the one 01's rules give"
@@ -69,7 +69,7 @@ pub record LeftBehind (A : Arithmetic) (ran : Table) (before after : Lent A) : T
   pub values : after .values ≡ replicate (length (before .values)) (A .zero)
   pub turns : after .turns ≡ replicate (length (before .turns)) 0
 
--- "Refusals 1 to 11 change no buffer." "On 12 the result is unchanged."
+-- "Refusals 1 to 11 change no buffer.", and 13, "no buffer changed". "On 12 the result is unchanged."
 pub record RunExactly (A : Arithmetic) (needs : Sets → Sheet → Needs) (job : Sets → Sheet → Job A) (words : List ℕ)
     (starts seeds : List (A .Carrier)) (before : Lent A) (answer : Ran A) : Type 0 where
   pub refuses : (r : Refusal) → Names (answer .number) (answer .place) r ↔ RunRefuses A needs job words starts seeds before r
@@ -77,8 +77,8 @@ pub record RunExactly (A : Arithmetic) (needs : Sets → Sheet → Needs) (job :
       ↔ ((sheet : Sheet) × (sets : Sets) × (memory : Memory A) × Finishes A needs job words starts seeds before sheet sets memory)
   pub stopped : (answer .number ≡ 12)
       ↔ ((sheet : Sheet) × (sets : Sets) × (row : RowNumber) × Stops A needs job words starts seeds before sheet sets row)
-  pub numbers : answer .number ≤ 12
-  pub whenRefused : 1 ≤ answer .number → answer .number ≤ 11 → answer .lent ≡ before
+  pub numbers : answer .number ≤ 13
+  pub whenRefused : 1 ≤ answer .number → answer .number ≢ 12 → answer .lent ≡ before
   pub whenStopped : (sheet : Sheet) (sets : Sets) (row : RowNumber) → Stops A needs job words starts seeds before sheet sets row
       → (answer .place ≡ row .index) × LeftBehind A (job sets sheet .table) before (answer .lent) × (answer .lent .result ≡ before .result)
   pub whenDone : (sheet : Sheet) (sets : Sets) (memory : Memory A) → Finishes A needs job words starts seeds before sheet sets memory

@@ -7,7 +7,7 @@ use mathlib.Core.List.{List, [], _∷_}
 use lib.ListN.{getD}
 use lib.Dec.{eqb}
 use Rattle.number.specs.Residues.{residues, residue, opposite}
-use Rattle.sheet.specs.Rows.{Assignment, _≔_, Source, copy, fixed, sum, difference, product, negation, isDependent}
+use Rattle.sheet.specs.Rows.{Assignment, _≔_, Source, copy, fixed, sum, difference, product, negation, quotient, isDependent}
 use Rattle.claims.specs.IdealSweep.{Executed}
 
 -- v_i: the n-th value of a variable, its start value being value 0
@@ -54,6 +54,8 @@ partialsOf (difference a b) before earlier =
 partialsOf (product a b) before earlier =
     record { of = current earlier a; factor = getD before b 0 } ∷ record { of = current earlier b; factor = getD before a 0 } ∷ []
 partialsOf (negation a) before earlier = record { of = current earlier a; factor = opposite 1 } ∷ []
+-- "the audit half speaks of sheets without kind 18" (02 §4): no quotient is executed in residues
+partialsOf (quotient a b) before earlier = []
 
 unfoldable pub nodeOf : Assignment → (before : List ℕ) → (earlier : Trace) → Node
 unfolding timesAssigned partialsOf

@@ -2,16 +2,16 @@
 -- It speaks of words, counts, rows and open blocks, and of no judgement that the calls are made of. What the calls answer is in Demands.
 use Prim.Native.Nat.{ℕ, zero, suc, _+_, _*_, _≤_, _<_}
 use mathlib.Core.Path.{_≡_}
-use mathlib.Core.Bool.{false}
+use mathlib.Core.Bool.{Bool, false}
 use mathlib.Core.List.{List, [], _∷_, _++_}
 use mathlib.Core.Option.{some}
 use mathlib.Core.Logic.{_≢_}
 use lib.ListN.{length, getD, take, drop}
-use Rattle.number.specs.Arithmetic.{Arithmetic}
+use Rattle.number.specs.Arithmetic.{Arithmetic, divides}
 use Rattle.sheet.specs.Bounds.{limit}
-use Rattle.sheet.specs.Refusals.{Refusal, wordsEnd, wordsLeft, countBeyond, roleAbove, badRow, badBlock, tooLong, smallTable, smallValueStack, smallTurnStack, wrongStarts, wrongSeeds, wrongResult, notFiniteGiven, notFiniteResult}
+use Rattle.sheet.specs.Refusals.{Refusal, wordsEnd, wordsLeft, countBeyond, roleAbove, badRow, badBlock, tooLong, smallTable, smallValueStack, smallTurnStack, wrongStarts, wrongSeeds, wrongResult, notFiniteGiven, notFiniteResult, holdsQuotient}
 use Rattle.sheet.specs.Tree.{Tree, basic, ifLine, elseLine, endIf, repeat, endRepeat, RowNumber, longestRun}
-use Rattle.sheet.specs.Rows.{Assignment, Test, SheetLine, Row, Slot, variable, constant, turns, unused, Kind, kindOf, treeRows}
+use Rattle.sheet.specs.Rows.{Assignment, Test, SheetLine, Row, Slot, variable, constant, turns, unused, Kind, kindOf, quotientKind, treeRows}
 use Rattle.sheet.specs.Sheets.{Sheet, variablesOf, rowAt, rowsAt}
 use Rattle.sets.specs.Marks.{Sets, LeastSets}
 use Rattle.table.specs.TableRows.{TableRow, TableLine, linesOf}
@@ -59,7 +59,7 @@ Fits v k constant word = word < k
 Fits v k turns word = (1 ≤ word) × (word ≤ limit .turns)
 Fits v k unused word = word ≡ 0
 
--- the line that a row says: its kind is 1 to 11, and each of its words fits its slot in the table of kinds
+-- the line that a row says: its kind is 1 to 11 or 18, and each of its words fits its slot in the table of kinds
 pub record Says (variableCount constantCount : ℕ) (row : Row) (line : SheetLine) : Type 0 where
   pub kind : Kind
   pub known : kindOf (row .kind) ≡ some kind
@@ -180,7 +180,7 @@ module _ (words : List ℕ) where
         → ReadingRefuses (countBeyond (countPlace section))
     -- 4 | role above 3 | the word
     roleTooGreat : (i : ℕ) → InOrder variables → First RoleAbove i → ReadingRefuses (roleAbove (1 + i))
-    -- 5 | kind not 1 to 11, absent variable or constant, repeat count not 1 to 1000, unused word not 0 | the row's first word
+    -- 5 | kind not 1 to 11, nor 18, absent variable or constant, repeat count not 1 to 1000, unused word not 0 | the row's first word
     rowSaysNothing : (i : ℕ) (before : List Opening) → RowsReached → i < rowCount → OpenAfter i before → ((line : SheetLine) → ¬ RowSays i line)
         → ReadingRefuses (badRow (rowPlace i))
     -- 6 | a block closed or split wrongly, never closed, or a ninth level opened | that row's first word; never closed: the index after the rows
@@ -202,24 +202,37 @@ module _ (words : List ℕ) where
     pub body : treeRows (sheet .body) ≡ sheetRows
     pub short : longestRun (sheet .body) ≤ limit .longestRun
 
+  -- a row of kind 18 (02 §4)
+  abbrev pub QuotientAt : ℕ → Type 0
+  QuotientAt i = (i < rowCount) × (rowNo i .kind ≡ quotientKind)
+
+  -- there is none where the arithmetic has no quotients
+  abbrev pub Calculable : (divides : Bool) → Type 0
+  Calculable divides = divides ≡ false → (i : ℕ) → ¬ QuotientAt i
+
 -- such a sheet with its three sets: "All are least solutions"
 pub record Accepted (words : List ℕ) (sheet : Sheet) (sets : Sets) : Type 0 where
   pub isRead : Read words sheet
   pub least : LeastSets sheet sets
 
--- ---- writing, where a sheet with these sets needs so much
+-- ---- writing, where a sheet with these sets needs so much; for a run in an arithmetic that divides or doesn't. A writer has no part in arithmetic and
+-- accepts kind 18, as one that divides.
 
-module _ (needs : Sets → Sheet → Needs) (words : List ℕ) (buffer : List ℕ) where
+module _ (divides : Bool) (needs : Sets → Sheet → Needs) (words : List ℕ) (buffer : List ℕ) where
   -- "Writing a table uses 1 to 8"
   pub data WritingRefuses : Refusal → Type 0 where
     whileReading : {r : Refusal} → ReadingRefuses words r → WritingRefuses r
+    -- 13 | "Audit refuses a sheet that holds kind 18" | "the first such row's first word"; "after 7 and before 8"
+    quotientHeld : (sheet : Sheet) (i : ℕ) → Read words sheet → divides ≡ false → First (QuotientAt words) i
+        → WritingRefuses (holdsQuotient (rowPlace words i))
     -- 8 | table buffer below 1 + 4R words | 0
-    tableTooSmall : (sheet : Sheet) (sets : Sets) → Accepted words sheet sets → length buffer < tableRoom (needs sets sheet .rows)
-        → WritingRefuses smallTable
+    tableTooSmall : (sheet : Sheet) (sets : Sets) → Accepted words sheet sets → Calculable words divides
+        → length buffer < tableRoom (needs sets sheet .rows) → WritingRefuses smallTable
 
   -- a sheet whose table fits
   pub record Writable (sheet : Sheet) (sets : Sets) : Type 0 where
     pub accepted : Accepted words sheet sets
+    pub calculable : Calculable words divides
     pub tableFits : tableRoom (needs sets sheet .rows) ≤ length buffer
 
 -- ---- a run
@@ -231,7 +244,7 @@ NotFinite A starts seeds i = (i < length (starts ++ seeds)) × (A .admits (getD 
 module _ (A : Arithmetic) (needs : Sets → Sheet → Needs) (words : List ℕ) (starts seeds : List (A .Carrier)) (lent : Lent A) where
   -- "and the rest in number order": each of these asks for the one before it
   pub record StacksSuffice (sheet : Sheet) (sets : Sets) : Type 0 where
-    pub writable : Writable needs words (lent .table) sheet sets
+    pub writable : Writable (divides A) needs words (lent .table) sheet sets
     pub values : needs sets sheet .values ≤ length (lent .values)
     pub turns : needs sets sheet .turns ≤ length (lent .turns)
 
@@ -245,13 +258,13 @@ module _ (A : Arithmetic) (needs : Sets → Sheet → Needs) (words : List ℕ) 
     pub lengths : LengthsRight sheet sets
     pub finite : (i : ℕ) → ¬ NotFinite A starts seeds i
 
-  -- refusals before the machine starts: 1 to 11
+  -- refusals before the machine starts: 1 to 11, and 13
   pub data StartRefused : Refusal → Type 0 where
-    whileWriting : {r : Refusal} → WritingRefuses needs words (lent .table) r → StartRefused r
+    whileWriting : {r : Refusal} → WritingRefuses (divides A) needs words (lent .table) r → StartRefused r
     -- 9 | value stack below S, or turn stack below T | 0 for the first, else 1
-    valueStackTooSmall : (sheet : Sheet) (sets : Sets) → Writable needs words (lent .table) sheet sets → length (lent .values) < needs sets sheet .values
+    valueStackTooSmall : (sheet : Sheet) (sets : Sets) → Writable (divides A) needs words (lent .table) sheet sets → length (lent .values) < needs sets sheet .values
         → StartRefused smallValueStack
-    turnStackTooSmall : (sheet : Sheet) (sets : Sets) → Writable needs words (lent .table) sheet sets → needs sets sheet .values ≤ length (lent .values)
+    turnStackTooSmall : (sheet : Sheet) (sets : Sets) → Writable (divides A) needs words (lent .table) sheet sets → needs sets sheet .values ≤ length (lent .values)
         → length (lent .turns) < needs sets sheet .turns → StartRefused smallTurnStack
     -- 10 | start values or seeds not V long, result not 2V | 0, 1, 2, first wrong
     startsNotV : (sheet : Sheet) (sets : Sets) → StacksSuffice sheet sets → length starts ≢ variablesOf sheet → StartRefused wrongStarts

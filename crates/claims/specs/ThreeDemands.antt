@@ -1,9 +1,10 @@
 -- The three demands, whole: over any arithmetic, of every accepted sheet, and of whatever the calls' contracts let them answer and leave behind.
 use Prim.Native.Nat.{ℕ, _≤_, _<_}
 use mathlib.Core.Path.{_≡_}
+use mathlib.Core.Bool.{true}
 use mathlib.Core.List.{List}
 use lib.ListN.{length, getD, drop}
-use Rattle.number.specs.Arithmetic.{Arithmetic}
+use Rattle.number.specs.Arithmetic.{Arithmetic, divides}
 use Rattle.number.specs.Residues.{modulus, residues}
 use Rattle.sheet.specs.Tree.{RowNumber}
 use Rattle.sheet.specs.Sheets.{Sheet, variablesOf}
@@ -21,7 +22,7 @@ use Rattle.run.specs.Calls.{run}
 use Rattle.tangent.specs.Calls.{writeTangent, runTangent}
 use Rattle.plain.specs.Carries.{carryOf}
 use Rattle.plain.specs.Calls.{plain}
-use Rattle.claims.specs.ExactlyWhen.{Read, Accepted, Writable, Runnable}
+use Rattle.claims.specs.ExactlyWhen.{Read, Accepted, Calculable, Writable, Runnable}
 use Rattle.claims.specs.Demands.{CheckExactly, StartsWith, WriteExactly, RunExactly, adjointBy, AuditSolves, AnswersLike, DemandThree}
 use Rattle.claims.specs.WholeRun.{every, runSaving, StackRoom}
 use Rattle.claims.specs.Tangents.{TangentWriteExactly, TangentMeets, PlainMeets}
@@ -72,7 +73,7 @@ pub record DemandTwo (A : Arithmetic) (words : List ℕ) (sheet : Sheet) : Type 
   pub sets : (sets : Sets) × LeastSets sheet sets
   -- "the adjoint table is exactly the one 01's rules give"
   pub table : (sets : Sets) (before after : List ℕ) (answer : Reply) → writtenOf answer after ≡ write words before
-      → Writable needsBy words before sheet sets → StartsWith (tableWords (tableBy sets sheet)) before after
+      → Writable true needsBy words before sheet sets → StartsWith (tableWords (tableBy sets sheet)) before after
   pub audit : (sets : Sets) (starts seeds : List ℕ) (before after : Lent residues) (answer : Reply)
       → Runnable residues needsBy words starts seeds before sheet sets → ((x : ℕ) → x < variablesOf sheet → getD seeds x 0 < modulus)
       → ranOf residues answer after ≡ run residues words starts seeds before → AuditSolves sheet starts seeds (ranOf residues answer after)
@@ -86,10 +87,10 @@ abbrev pub SecondDemand : Type 1
 SecondDemand = (A : Arithmetic) (words : List ℕ) (sheet : Sheet) → Read words sheet → DemandTwo A words sheet
 
 -- ---- demand 3: "For every accepted sheet, any start values and seeds, stacks of the sizes 01 computes": one start value for each variable, and
--- stacks of at least S and T
+-- stacks of at least S and T; in audit of a sheet without kind 18, which 13 refuses
 
 abbrev pub ThirdDemand : Type 1
 ThirdDemand =
-    (A : Arithmetic) (words : List ℕ) (sheet : Sheet) (sets : Sets) → Accepted words sheet sets → (starts seeds : List (A .Carrier))
-    → length starts ≡ variablesOf sheet → (valueRoom turnRoom : ℕ) → needsBy sets sheet .values ≤ valueRoom
+    (A : Arithmetic) (words : List ℕ) (sheet : Sheet) (sets : Sets) → Accepted words sheet sets → Calculable words (divides A)
+    → (starts seeds : List (A .Carrier)) → length starts ≡ variablesOf sheet → (valueRoom turnRoom : ℕ) → needsBy sets sheet .values ≤ valueRoom
     → needsBy sets sheet .turns ≤ turnRoom → DemandThree A sheet sets starts seeds valueRoom turnRoom

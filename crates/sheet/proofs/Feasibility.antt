@@ -67,7 +67,7 @@ tree-feasible (again m a k) rest h =
     let later = tree-feasible k rest (body .1 .1) in
     ((body .0, later .0), later .1)
 
-source-divided : (source : Source) → SourceFeasible true source
+pub source-divided : (source : Source) → SourceFeasible true source
 unfolding SourceFeasible
 source-divided (copy a) = tt
 source-divided (fixed c) = tt
