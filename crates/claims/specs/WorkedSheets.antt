@@ -1,9 +1,10 @@
 -- "Sheets worked by hand": the starred ones as one table, what is stated of each, and what the definitions find. Where 01 leaves out one of
--- W, R, S and T, it is the one that its rules give. Tangents are 02's, and so are H's numbers; J is ours.
+-- W, R, S and T, it is the one that its rules give. Tangents are 02's, and so are H's numbers; J is ours, and so are K to N, of §4.
 use Prim.Native.Nat.{ℕ}
 use mathlib.Core.Bool.{Bool, true, false}
 use mathlib.Core.List.{List, [], _∷_, _++_, map}
-use lib.IntN.{pos}
+use mathlib.Core.Option.{Option, none, some}
+use lib.IntN.{ℤ, pos, negsuc}
 use lib.ListN.{length, replicate}
 use Rattle.number.specs.Arithmetic.{Arithmetic}
 use Rattle.number.specs.Doubles.{doubles}
@@ -23,21 +24,26 @@ use Rattle.tangent.specs.Calls.{writeTangent, runTangent}
 use Rattle.plain.specs.Carries.{Carry}
 use Rattle.plain.specs.Calls.{plain}
 
+abbrev whole : List ℕ → List ℤ
+whole = map pos
+
 -- start values, seeds and the 2V numbers that come out
 pub record Trial : Type 0 where
   pub starts : List ℕ
   pub seeds : List ℕ
-  pub result : List ℕ
+  pub result : List ℤ
 
 -- the tangent table's words, start values, starting rates and the 2V numbers that come out, of the table's run and of the plain engine
 pub record TangentTrial : Type 0 where
   pub table : List ℕ
   pub starts : List ℕ
   pub rates : List ℕ
-  pub result : List ℕ
+  pub result : List ℤ
 
 pub record Worked : Type 0 where
   pub words : List ℕ
+  -- where its first quotient stands, which in audit is refused
+  pub quotientAt : Option ℕ
   pub sizes : Sizes
   -- the numbers of the recorded rows
   pub recorded : List ℕ
@@ -60,6 +66,7 @@ starred =
     -- A, whole
     record {
       words = 3 ∷ 1 ∷ 1 ∷ 2 ∷ 0 ∷ 1 ∷ 5 ∷ 2 ∷ 0 ∷ 1 ∷ [];
+      quotientAt = none;
       sizes = record { longest = 1; rows = 8; values = 0; turns = 0 };
       recorded = [];
       table =
@@ -74,61 +81,64 @@ starred =
           ∷ 3 ∷ 4 ∷ 4 ∷ 7
           ∷ [])
           ∷ [];
-      trials = record { starts = 3 ∷ 4 ∷ 0 ∷ []; seeds = 0 ∷ 0 ∷ 1 ∷ []; result = 3 ∷ 4 ∷ 12 ∷ 4 ∷ 3 ∷ 0 ∷ [] } ∷ [];
+      trials = record { starts = 3 ∷ 4 ∷ 0 ∷ []; seeds = 0 ∷ 0 ∷ 1 ∷ []; result = whole (3 ∷ 4 ∷ 12 ∷ 4 ∷ 3 ∷ 0 ∷ []) } ∷ [];
       audits = [];
       tangents =
           record {
             table = 4 ∷ 5 ∷ 7 ∷ 1 ∷ 3 ∷ 5 ∷ 6 ∷ 0 ∷ 4 ∷ 3 ∷ 5 ∷ 7 ∷ 6 ∷ 5 ∷ 2 ∷ 0 ∷ 1 ∷ [];
             starts = 3 ∷ 4 ∷ 0 ∷ [];
             rates = 1 ∷ 10 ∷ 0 ∷ [];
-            result = 3 ∷ 4 ∷ 12 ∷ 0 ∷ 0 ∷ 34 ∷ [];
+            result = whole (3 ∷ 4 ∷ 12 ∷ 0 ∷ 0 ∷ 34 ∷ []);
           }
           ∷ [];
     }
     -- B, and G, which is B in audit
     ∷ record {
       words = 1 ∷ 3 ∷ 0 ∷ 1 ∷ 5 ∷ 0 ∷ 0 ∷ 0 ∷ [];
+      quotientAt = none;
       sizes = record { longest = 1; rows = 10; values = 1; turns = 0 };
       recorded = 0 ∷ [];
       table = [];
-      trials = record { starts = 3 ∷ []; seeds = 1 ∷ []; result = 9 ∷ 6 ∷ [] } ∷ [];
-      audits = record { starts = 65536 ∷ []; seeds = 1 ∷ []; result = 0 ∷ 131072 ∷ [] } ∷ [];
+      trials = record { starts = 3 ∷ []; seeds = 1 ∷ []; result = whole (9 ∷ 6 ∷ []) } ∷ [];
+      audits = record { starts = 65536 ∷ []; seeds = 1 ∷ []; result = whole (0 ∷ 131072 ∷ []) } ∷ [];
       tangents =
           record {
             table = 4 ∷ 5 ∷ 3 ∷ 0 ∷ 1 ∷ 5 ∷ 2 ∷ 0 ∷ 1 ∷ 3 ∷ 1 ∷ 3 ∷ 2 ∷ 5 ∷ 0 ∷ 0 ∷ 0 ∷ [];
             starts = 3 ∷ [];
             rates = 1 ∷ [];
-            result = 9 ∷ 6 ∷ [];
+            result = whole (9 ∷ 6 ∷ []);
           }
           ∷ [];
     }
     -- C: B inside repeat 3
     ∷ record {
       words = 1 ∷ 3 ∷ 0 ∷ 3 ∷ 10 ∷ 0 ∷ 3 ∷ 0 ∷ 5 ∷ 0 ∷ 0 ∷ 0 ∷ 11 ∷ 0 ∷ 0 ∷ 0 ∷ [];
+      quotientAt = none;
       sizes = record { longest = 7; rows = 14; values = 3; turns = 0 };
       recorded = 1 ∷ [];
       table = [];
-      trials = record { starts = 2 ∷ []; seeds = 1 ∷ []; result = 256 ∷ 1024 ∷ [] } ∷ [];
+      trials = record { starts = 2 ∷ []; seeds = 1 ∷ []; result = whole (256 ∷ 1024 ∷ []) } ∷ [];
       audits = [];
       tangents =
           record {
             table = 6 ∷ 10 ∷ 0 ∷ 3 ∷ 0 ∷ 5 ∷ 3 ∷ 0 ∷ 1 ∷ 5 ∷ 2 ∷ 0 ∷ 1 ∷ 3 ∷ 1 ∷ 3 ∷ 2 ∷ 5 ∷ 0 ∷ 0 ∷ 0 ∷ 11 ∷ 0 ∷ 0 ∷ 0 ∷ [];
             starts = 2 ∷ [];
             rates = 1 ∷ [];
-            result = 256 ∷ 1024 ∷ [];
+            result = whole (256 ∷ 1024 ∷ []);
           }
           ∷ [];
     }
     -- D, the clamp
     ∷ record {
       words = wordsD;
+      quotientAt = none;
       sizes = record { longest = 2; rows = 11; values = 0; turns = 1 };
       recorded = [];
       table = [];
       trials =
-          record { starts = 5 ∷ 2 ∷ []; seeds = 1 ∷ 0 ∷ []; result = 2 ∷ 2 ∷ 0 ∷ 0 ∷ [] }
-          ∷ record { starts = 1 ∷ 2 ∷ []; seeds = 1 ∷ 0 ∷ []; result = 1 ∷ 2 ∷ 1 ∷ 0 ∷ [] }
-          ∷ record { starts = 2 ∷ 2 ∷ []; seeds = 1 ∷ 0 ∷ []; result = 2 ∷ 2 ∷ 1 ∷ 0 ∷ [] }
+          record { starts = 5 ∷ 2 ∷ []; seeds = 1 ∷ 0 ∷ []; result = whole (2 ∷ 2 ∷ 0 ∷ 0 ∷ []) }
+          ∷ record { starts = 1 ∷ 2 ∷ []; seeds = 1 ∷ 0 ∷ []; result = whole (1 ∷ 2 ∷ 1 ∷ 0 ∷ []) }
+          ∷ record { starts = 2 ∷ 2 ∷ []; seeds = 1 ∷ 0 ∷ []; result = whole (2 ∷ 2 ∷ 1 ∷ 0 ∷ []) }
           ∷ [];
       audits = [];
       tangents =
@@ -136,17 +146,18 @@ starred =
             table = 5 ∷ 7 ∷ 0 ∷ 1 ∷ 0 ∷ 16 ∷ 2 ∷ 0 ∷ 0 ∷ 1 ∷ 0 ∷ 1 ∷ 0 ∷ 8 ∷ 0 ∷ 0 ∷ 0 ∷ 9 ∷ 0 ∷ 0 ∷ 0 ∷ [];
             starts = 5 ∷ 2 ∷ [];
             rates = 1 ∷ 0 ∷ [];
-            result = 2 ∷ 2 ∷ 0 ∷ 0 ∷ [];
+            result = whole (2 ∷ 2 ∷ 0 ∷ 0 ∷ []);
           }
           ∷ [];
     }
     -- E
     ∷ record {
       words = wordsE;
+      quotientAt = none;
       sizes = record { longest = 7; rows = 19; values = 2; turns = 0 };
       recorded = 2 ∷ [];
       table = [];
-      trials = record { starts = 1 ∷ 0 ∷ []; seeds = 1 ∷ 0 ∷ []; result = 6 ∷ 4 ∷ 15 ∷ 0 ∷ [] } ∷ [];
+      trials = record { starts = 1 ∷ 0 ∷ []; seeds = 1 ∷ 0 ∷ []; result = whole (6 ∷ 4 ∷ 15 ∷ 0 ∷ []) } ∷ [];
       audits = [];
       tangents =
           record {
@@ -163,23 +174,25 @@ starred =
                 ∷ [];
             starts = 1 ∷ 0 ∷ [];
             rates = 1 ∷ 0 ∷ [];
-            result = 6 ∷ 4 ∷ 15 ∷ 0 ∷ [];
+            result = whole (6 ∷ 4 ∷ 15 ∷ 0 ∷ []);
           }
           ∷ [];
     }
     -- F
     ∷ record {
       words = 1 ∷ 3 ∷ 0 ∷ 0 ∷ [];
+      quotientAt = none;
       sizes = record { longest = 0; rows = 1; values = 0; turns = 0 };
       recorded = [];
       table = (1 ∷ 17 ∷ 0 ∷ 0 ∷ 0 ∷ []) ∷ [];
-      trials = record { starts = 7 ∷ []; seeds = 5 ∷ []; result = 7 ∷ 5 ∷ [] } ∷ [];
+      trials = record { starts = 7 ∷ []; seeds = 5 ∷ []; result = whole (7 ∷ 5 ∷ []) } ∷ [];
       audits = [];
       tangents = [];
     }
     -- H: only a is varied, so b alone is needed and x is not saved
     ∷ record {
       words = 2 ∷ 3 ∷ 0 ∷ 0 ∷ 1 ∷ 5 ∷ 0 ∷ 0 ∷ 1 ∷ [];
+      quotientAt = none;
       sizes = record { longest = 1; rows = 6; values = 0; turns = 0 };
       recorded = [];
       table =
@@ -192,17 +205,18 @@ starred =
           ∷ 3 ∷ 2 ∷ 2 ∷ 5
           ∷ [])
           ∷ [];
-      trials = record { starts = 3 ∷ 4 ∷ []; seeds = 1 ∷ 0 ∷ []; result = 12 ∷ 4 ∷ 4 ∷ 0 ∷ [] } ∷ [];
+      trials = record { starts = 3 ∷ 4 ∷ []; seeds = 1 ∷ 0 ∷ []; result = whole (12 ∷ 4 ∷ 4 ∷ 0 ∷ []) } ∷ [];
       audits = [];
       tangents = [];
     }
     -- I: E's two rows the other way about
     ∷ record {
       words = 2 ∷ 3 ∷ 0 ∷ 0 ∷ 4 ∷ 10 ∷ 0 ∷ 2 ∷ 0 ∷ 3 ∷ 0 ∷ 0 ∷ 1 ∷ 5 ∷ 1 ∷ 0 ∷ 0 ∷ 11 ∷ 0 ∷ 0 ∷ 0 ∷ [];
+      quotientAt = none;
       sizes = record { longest = 7; rows = 19; values = 2; turns = 0 };
       recorded = 1 ∷ [];
       table = [];
-      trials = record { starts = 1 ∷ 0 ∷ []; seeds = 1 ∷ 0 ∷ []; result = 2 ∷ 4 ∷ 3 ∷ 0 ∷ [] } ∷ [];
+      trials = record { starts = 1 ∷ 0 ∷ []; seeds = 1 ∷ 0 ∷ []; result = whole (2 ∷ 4 ∷ 3 ∷ 0 ∷ []) } ∷ [];
       audits = [];
       tangents = [];
     }
@@ -210,6 +224,7 @@ starred =
     -- row alone is recorded, S = 2, where both operands would make it 4
     ∷ record {
       words = 3 ∷ 3 ∷ 0 ∷ 0 ∷ 0 ∷ 4 ∷ 10 ∷ 0 ∷ 2 ∷ 0 ∷ 3 ∷ 1 ∷ 1 ∷ 2 ∷ 5 ∷ 0 ∷ 1 ∷ 0 ∷ 11 ∷ 0 ∷ 0 ∷ 0 ∷ [];
+      quotientAt = none;
       sizes = record { longest = 7; rows = 14; values = 2; turns = 0 };
       recorded = 1 ∷ [];
       table =
@@ -230,9 +245,161 @@ starred =
           ∷ 11 ∷ 0 ∷ 0 ∷ 0
           ∷ [])
           ∷ [];
-      trials = record { starts = 2 ∷ 1 ∷ 1 ∷ []; seeds = 1 ∷ 0 ∷ 0 ∷ []; result = 12 ∷ 3 ∷ 1 ∷ 6 ∷ 0 ∷ 0 ∷ [] } ∷ [];
+      trials = record { starts = 2 ∷ 1 ∷ 1 ∷ []; seeds = 1 ∷ 0 ∷ 0 ∷ []; result = whole (12 ∷ 3 ∷ 1 ∷ 6 ∷ 0 ∷ 0 ∷ []) } ∷ [];
       audits = [];
       tangents = [];
+    }
+    -- K: a quotient, both operands varied
+    ∷ record {
+      words = 3 ∷ 1 ∷ 1 ∷ 2 ∷ 0 ∷ 1 ∷ 18 ∷ 2 ∷ 0 ∷ 1 ∷ [];
+      quotientAt = some 6;
+      sizes = record { longest = 1; rows = 9; values = 0; turns = 0 };
+      recorded = [];
+      table =
+          (9
+          ∷ 18 ∷ 2 ∷ 0 ∷ 1
+          ∷ 17 ∷ 0 ∷ 0 ∷ 0
+          ∷ 1 ∷ 6 ∷ 5 ∷ 0
+          ∷ 16 ∷ 5 ∷ 0 ∷ 0
+          ∷ 18 ∷ 7 ∷ 6 ∷ 1
+          ∷ 3 ∷ 3 ∷ 3 ∷ 7
+          ∷ 5 ∷ 7 ∷ 0 ∷ 7
+          ∷ 18 ∷ 7 ∷ 7 ∷ 1
+          ∷ 4 ∷ 4 ∷ 4 ∷ 7
+          ∷ [])
+          ∷ [];
+      trials =
+          record {
+            starts = 8 ∷ 2 ∷ 0 ∷ [];
+            seeds = 0 ∷ 0 ∷ 4 ∷ [];
+            result = pos 8 ∷ pos 2 ∷ pos 4 ∷ pos 2 ∷ negsuc 7 ∷ pos 0 ∷ [];
+          }
+          ∷ [];
+      audits = [];
+      tangents =
+          record {
+            table =
+                6
+                ∷ 18 ∷ 7 ∷ 3 ∷ 1
+                ∷ 5 ∷ 6 ∷ 0 ∷ 4
+                ∷ 18 ∷ 6 ∷ 6 ∷ 1
+                ∷ 18 ∷ 6 ∷ 6 ∷ 1
+                ∷ 4 ∷ 5 ∷ 7 ∷ 6
+                ∷ 18 ∷ 2 ∷ 0 ∷ 1
+                ∷ [];
+            starts = 8 ∷ 2 ∷ 0 ∷ [];
+            rates = 6 ∷ 1 ∷ 0 ∷ [];
+            result = whole (8 ∷ 2 ∷ 4 ∷ 0 ∷ 0 ∷ 1 ∷ []);
+          }
+          ∷ [];
+    }
+    -- L: only the dividend varied
+    ∷ record {
+      words = 3 ∷ 1 ∷ 0 ∷ 2 ∷ 0 ∷ 1 ∷ 18 ∷ 2 ∷ 0 ∷ 1 ∷ [];
+      quotientAt = some 6;
+      sizes = record { longest = 1; rows = 6; values = 0; turns = 0 };
+      recorded = [];
+      table =
+          (6
+          ∷ 18 ∷ 2 ∷ 0 ∷ 1
+          ∷ 17 ∷ 0 ∷ 0 ∷ 0
+          ∷ 1 ∷ 6 ∷ 5 ∷ 0
+          ∷ 16 ∷ 5 ∷ 0 ∷ 0
+          ∷ 18 ∷ 7 ∷ 6 ∷ 1
+          ∷ 3 ∷ 3 ∷ 3 ∷ 7
+          ∷ [])
+          ∷ [];
+      trials = record { starts = 8 ∷ 2 ∷ 0 ∷ []; seeds = 0 ∷ 0 ∷ 4 ∷ []; result = whole (8 ∷ 2 ∷ 4 ∷ 2 ∷ 0 ∷ 0 ∷ []) } ∷ [];
+      audits = [];
+      tangents =
+          record {
+            table = 2 ∷ 18 ∷ 5 ∷ 3 ∷ 1 ∷ 18 ∷ 2 ∷ 0 ∷ 1 ∷ [];
+            starts = 8 ∷ 2 ∷ 0 ∷ [];
+            rates = 6 ∷ 1 ∷ 0 ∷ [];
+            result = whole (8 ∷ 2 ∷ 4 ∷ 0 ∷ 0 ∷ 3 ∷ []);
+          }
+          ∷ [];
+    }
+    -- M: only the divisor varied
+    ∷ record {
+      words = 3 ∷ 0 ∷ 1 ∷ 2 ∷ 0 ∷ 1 ∷ 18 ∷ 2 ∷ 0 ∷ 1 ∷ [];
+      quotientAt = some 6;
+      sizes = record { longest = 1; rows = 8; values = 0; turns = 0 };
+      recorded = [];
+      table =
+          (8
+          ∷ 18 ∷ 2 ∷ 0 ∷ 1
+          ∷ 17 ∷ 0 ∷ 0 ∷ 0
+          ∷ 1 ∷ 6 ∷ 5 ∷ 0
+          ∷ 16 ∷ 5 ∷ 0 ∷ 0
+          ∷ 18 ∷ 7 ∷ 6 ∷ 1
+          ∷ 5 ∷ 7 ∷ 0 ∷ 7
+          ∷ 18 ∷ 7 ∷ 7 ∷ 1
+          ∷ 4 ∷ 4 ∷ 4 ∷ 7
+          ∷ [])
+          ∷ [];
+      trials =
+          record {
+            starts = 8 ∷ 2 ∷ 0 ∷ [];
+            seeds = 0 ∷ 0 ∷ 4 ∷ [];
+            result = pos 8 ∷ pos 2 ∷ pos 4 ∷ pos 0 ∷ negsuc 7 ∷ pos 0 ∷ [];
+          }
+          ∷ [];
+      audits = [];
+      tangents =
+          record {
+            table = 5 ∷ 5 ∷ 6 ∷ 0 ∷ 4 ∷ 18 ∷ 6 ∷ 6 ∷ 1 ∷ 18 ∷ 6 ∷ 6 ∷ 1 ∷ 6 ∷ 5 ∷ 6 ∷ 0 ∷ 18 ∷ 2 ∷ 0 ∷ 1 ∷ [];
+            starts = 8 ∷ 2 ∷ 0 ∷ [];
+            rates = 6 ∷ 1 ∷ 0 ∷ [];
+            result = pos 8 ∷ pos 2 ∷ pos 4 ∷ pos 0 ∷ pos 0 ∷ negsuc 1 ∷ [];
+          }
+          ∷ [];
+    }
+    -- N: x := y / x in a repeat; x is in its own adjoint use, so each turn's is saved
+    ∷ record {
+      words = 2 ∷ 3 ∷ 1 ∷ 0 ∷ 3 ∷ 10 ∷ 0 ∷ 2 ∷ 0 ∷ 18 ∷ 0 ∷ 1 ∷ 0 ∷ 11 ∷ 0 ∷ 0 ∷ 0 ∷ [];
+      quotientAt = some 9;
+      sizes = record { longest = 5; rows = 15; values = 2; turns = 0 };
+      recorded = 1 ∷ [];
+      table =
+          (15
+          ∷ 10 ∷ 0 ∷ 2 ∷ 0
+          ∷ 12 ∷ 0 ∷ 0 ∷ 0
+          ∷ 18 ∷ 0 ∷ 1 ∷ 0
+          ∷ 11 ∷ 0 ∷ 0 ∷ 0
+          ∷ 17 ∷ 0 ∷ 0 ∷ 0
+          ∷ 10 ∷ 0 ∷ 2 ∷ 0
+          ∷ 13 ∷ 0 ∷ 0 ∷ 0
+          ∷ 1 ∷ 4 ∷ 2 ∷ 0
+          ∷ 16 ∷ 2 ∷ 0 ∷ 0
+          ∷ 18 ∷ 5 ∷ 4 ∷ 0
+          ∷ 3 ∷ 3 ∷ 3 ∷ 5
+          ∷ 5 ∷ 5 ∷ 1 ∷ 5
+          ∷ 18 ∷ 5 ∷ 5 ∷ 0
+          ∷ 4 ∷ 2 ∷ 2 ∷ 5
+          ∷ 11 ∷ 0 ∷ 0 ∷ 0
+          ∷ [])
+          ∷ [];
+      trials = record { starts = 2 ∷ 8 ∷ []; seeds = 4 ∷ 0 ∷ []; result = whole (2 ∷ 8 ∷ 4 ∷ 0 ∷ []) } ∷ [];
+      audits = [];
+      tangents =
+          record {
+            table =
+                8
+                ∷ 10 ∷ 0 ∷ 2 ∷ 0
+                ∷ 18 ∷ 5 ∷ 3 ∷ 0
+                ∷ 5 ∷ 4 ∷ 1 ∷ 2
+                ∷ 18 ∷ 4 ∷ 4 ∷ 0
+                ∷ 18 ∷ 4 ∷ 4 ∷ 0
+                ∷ 4 ∷ 2 ∷ 5 ∷ 4
+                ∷ 18 ∷ 0 ∷ 1 ∷ 0
+                ∷ 11 ∷ 0 ∷ 0 ∷ 0
+                ∷ [];
+            starts = 2 ∷ 8 ∷ [];
+            rates = 2 ∷ 8 ∷ [];
+            result = whole (2 ∷ 8 ∷ 2 ∷ 0 ∷ []);
+          }
+          ∷ [];
     }
     ∷ []
 
@@ -270,8 +437,8 @@ lentFor A sizes trial =
       result = seven A (length (trial .result));
     }
 
-abbrev pub numbers : (A : Arithmetic) → List ℕ → List (A .Carrier)
-numbers A = map (λ n. A .constant (pos n))
+abbrev pub numbers : (A : Arithmetic) → List ℤ → List (A .Carrier)
+numbers A = map (A .constant)
 
 -- ---- as 01 states it
 
@@ -288,6 +455,25 @@ runStated A sizes trial =
 abbrev pub tangentStated : (A : Arithmetic) → TangentTrial → Run A
 tangentStated A trial = record { number = 0; place = 0; values = []; turns = []; result = numbers A (trial .result) }
 
+-- in audit, where there is a quotient: 13 at its row, every buffer as it was lent
+abbrev pub refusedAt : (values turns result place : ℕ) → Run residues
+refusedAt values turns result place =
+    record { number = 13; place = place; values = seven residues values; turns = replicate turns 7; result = seven residues result }
+
+abbrev pub auditStated : Worked → Trial → Run residues
+auditStated w trial = by (w .quotientAt)
+  where
+    by : Option ℕ → Run residues
+    by none = runStated residues (w .sizes) trial
+    by (some place) = refusedAt (w .sizes .values) (w .sizes .turns) (length (trial .result)) place
+
+abbrev pub tangentAuditStated : Worked → TangentTrial → Run residues
+tangentAuditStated w trial = by (w .quotientAt)
+  where
+    by : Option ℕ → Run residues
+    by none = tangentStated residues trial
+    by (some place) = refusedAt 0 0 (length (trial .result)) place
+
 unfoldable pub stated : Worked → Findings
 stated w =
     record {
@@ -295,10 +481,10 @@ stated w =
       recorded = w .recorded;
       table = map (λ words. record { number = 0; place = 0; table = words }) (w .table);
       doubleRuns = map (runStated doubles (w .sizes)) (w .trials);
-      auditRuns = map (runStated residues (w .sizes)) (w .trials ++ w .audits);
+      auditRuns = map (auditStated w) (w .trials ++ w .audits);
       tangentTables = map (λ trial. record { number = 0; place = 0; table = trial .table }) (w .tangents);
       tangentDoubles = map (tangentStated doubles) (w .tangents);
-      tangentAudits = map (tangentStated residues) (w .tangents);
+      tangentAudits = map (tangentAuditStated w) (w .tangents);
       plainRuns = map (λ trial. record { number = 0; place = 0; result = numbers doubles (trial .result) }) (w .tangents);
     }
 
@@ -331,18 +517,18 @@ runBack A answer =
 
 unfoldable pub runFound : (A : Arithmetic) → List ℕ → Sizes → Trial → Run A
 unfolding run
-runFound A words sizes trial = runBack A (run A words (numbers A (trial .starts)) (numbers A (trial .seeds)) (lentFor A sizes trial))
+runFound A words sizes trial = runBack A (run A words (numbers A (whole (trial .starts))) (numbers A (whole (trial .seeds))) (lentFor A sizes trial))
 
 unfoldable pub tangentFound : (A : Arithmetic) → List ℕ → TangentTrial → Run A
 unfolding runTangent
 tangentFound A words trial =
     runBack A
-    (runTangent A words (numbers A (trial .starts)) (numbers A (trial .rates))
+    (runTangent A words (numbers A (whole (trial .starts))) (numbers A (whole (trial .rates)))
     (withoutStacks A (replicate (length (trial .table)) 7) (seven A (length (trial .result)))))
 
 unfoldable pub plainFound : List ℕ → TangentTrial → Carry doubles
 unfolding plain
-plainFound words trial = plain doubles words (numbers doubles (trial .starts)) (numbers doubles (trial .rates)) (seven doubles (length (trial .result)))
+plainFound words trial = plain doubles words (numbers doubles (whole (trial .starts))) (numbers doubles (whole (trial .rates))) (seven doubles (length (trial .result)))
 
 unfoldable pub found : Worked → Findings
 unfolding check read recordedFound write runFound writeTangent tangentFound plainFound
