@@ -80,6 +80,7 @@ pub fn run(table: &[u16], roles: &[u16], constants: &[u16], starts: &[f64], seed
                     store[variables + i] = if roles[i] & 2 != 0 { seeds[i] } else { 0.0 };
                 }
             }
+            18 => store[d] = finite(store[a] / store[b], at)?,
             _ => unreachable!("no kind of a table's"),
         }
         at = next;

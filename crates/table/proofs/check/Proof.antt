@@ -22,15 +22,17 @@ enum-known-plan c = search needs
 
 returns : tie.Need-returns
 returns c =
-    let called = c .before .before .before .before .before in
-    let words = called .before .before .before .before .before .args .words .now in
+    let start : tie.Start = search in
+    let words = start .args .words .now in
+    let called : tie.After-plan-sheet = search in
     let why = c .before .before .before .why in
     check-refused words _ _ _ (when-refused needsOf words _ _ _ _ (why .given .1) (called .plan-sheet .ensures .0)) (c .before .number-of .ensures) (c .place-of .ensures)
 
 returns-2 : tie.Need-returns-2
 returns-2 c =
-    let called = c .before .before .before .before in
-    let words = called .before .before .before .before .before .args .words .now in
+    let start : tie.Start = search in
+    let words = start .args .words .now in
+    let called : tie.After-plan-sheet = search in
     check-made words (when-made needsOf words _ _ _ _ (c .before .before .plan .given .1) (called .plan-sheet .ensures .0))
 
 pub check-spec : {M : Type 1} → statement M
