@@ -98,11 +98,11 @@ fn second_over(rows: u8, a: Rated, b: Rated) -> Rate
     requires { ⌜ rows ≤ 1 ⌝ }
     ensures { λ r. ⌜ rateSaid r ≡ secondOver rows a b ⌝ }
 {
-    let t = match double::product(a.value, b.rate) {
-        Outcome::Value(t) => t,
+    let scaled = match double::product(a.value, b.rate) {
+        Outcome::Value(scaled) => scaled,
         Outcome::Stop => return Rate::Stopped(rows),
     };
-    let once = match double::quotient(t, b.value) {
+    let once = match double::quotient(scaled, b.value) {
         Outcome::Value(once) => once,
         Outcome::Stop => return Rate::Stopped(rows + 1),
     };

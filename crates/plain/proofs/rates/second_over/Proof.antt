@@ -7,8 +7,8 @@ use Rattle.plain.proofs.rates.second_over.Tie as tie
 product-requires : tie.Need-product-requires
 product-requires c κs = search needs
 
-enum-known-t : tie.Need-enum-known-t
-enum-known-t c = search needs
+enum-known-scaled : tie.Need-enum-known-scaled
+enum-known-scaled c = search needs
 
 enum-told : tie.Need-enum-told
 enum-told c = search needs
@@ -35,7 +35,7 @@ returns-2 c =
     let divided = c .before .before in
     let scaled = divided .before .before in
     let x = scaled .before .before .before .args in
-    over-stops _ (x .a) (x .b) (scaled .before .before .product .ensures) (scaled .t .given .1) (same-there (divided .quotient .ensures)) (c .enum-told2 .given .1)
+    over-stops _ (x .a) (x .b) (scaled .before .before .product .ensures) (scaled .scaled .given .1) (same-there (divided .quotient .ensures)) (c .enum-told2 .given .1)
 
 add-after : tie.Need-add-after
 add-after c = search needs
@@ -52,7 +52,7 @@ returns-3 c =
     let divided = once .before .before in
     let scaled = divided .before .before in
     let x = scaled .before .before .before .args in
-    over-again _ (x .a) (x .b) (scaled .before .before .product .ensures) (scaled .t .given .1) (same-there (divided .quotient .ensures))
+    over-again _ (x .a) (x .b) (scaled .before .before .product .ensures) (scaled .scaled .given .1) (same-there (divided .quotient .ensures))
     (c .before .quotient2 .result) (c .after .result) (once .once .given .1) (same-there (c .before .quotient2 .ensures)) (c .after .ensures)
 
 pub second-over-spec : {M : Type 1} → statement M
@@ -60,7 +60,7 @@ second-over-spec =
     tie.close
     (tie.spec
     product-requires
-    enum-known-t
+    enum-known-scaled
     enum-told
     returns
     quotient-requires
