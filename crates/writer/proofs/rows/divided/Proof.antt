@@ -19,18 +19,20 @@ put-requires c κs = rw (c .before .t-of .ensures) (room-first (_ ∷ []) _ (c .
 
 put-if-requires : tie.Need-put-if-requires
 put-if-requires c κs =
-    let held = c .before .before .before in
-    let counted = held .before .before in
+    let start : tie.Start = search in
+    let counted : tie.After-t-of = search in
+    let held : tie.After-put = search in
     let is-t = counted .t-of .ensures in
-    rw is-t (room-first _ _ (room-after {rs = _ ∷ []} _ (rw is-t at (held .put .ensures)) (counted .before .before .pre .0)))
+    rw is-t (room-first _ _ (room-after {rs = _ ∷ []} _ (rw is-t at (held .put .ensures)) (start .pre .0)))
 
 over-divisor-requires : tie.Need-over-divisor-requires
 over-divisor-requires c κs =
-    let added = c .before .before .before in
-    let held = added .before .before .before .before in
-    let counted = held .before .before in
+    let start : tie.Start = search in
+    let counted : tie.After-t-of = search in
+    let held : tie.After-put = search in
+    let added : tie.After-put-if = search in
     let is-t = counted .t-of .ensures in
-    let given = counted .before .before .pre in (
+    let given = start .pre in (
       room-after _ (rw is-t at (added .put-if .ensures)) (room-after {rs = _ ∷ []} _ (rw is-t at (held .put .ensures)) (given .0)),
       (given .1 .0, given .1 .1 .1),
     )
@@ -40,10 +42,11 @@ same-length c = search needs
 
 returns : tie.Need-returns
 returns c =
-    let over = c .before .before in
-    let added = over .before .before .before .before in
-    let held = added .before .before .before .before in
-    let is-t = held .before .before .t-of .ensures in
+    let counted : tie.After-t-of = search in
+    let held : tie.After-put = search in
+    let added : tie.After-put-if = search in
+    let over : tie.After-over-divisor = search in
+    let is-t = counted .t-of .ensures in
     wrote-then (rw is-t at (held .put .ensures)) (wrote-then (rw is-t at (added .put-if .ensures)) (over .over-divisor .ensures))
 
 pub divided-spec : {M : Type 1} → statement M
