@@ -1,12 +1,12 @@
 -- What the plain engine's call meets: it answers as the tangent table's run does, wherever the table has room, and never 8 or 9.
 use Prim.Native.Nat.{ℕ, _≤_}
 use mathlib.Core.Path.{_≡_, sym, ap, subst, _∙_}
+use mathlib.Core.Bool.{Bool}
 use mathlib.Core.List.{List, []}
 use mathlib.Core.Logic.{_⊎_, inl, inr, _≢_}
 use lib.ListN.{length, replicate, length-replicate}
 use native.Mathlib.Omega.{arith}
 use Rattle.number.specs.Arithmetic.{Arithmetic}
-use mathlib.Core.Bool.{Bool}
 use Rattle.sheet.specs.Judging.{refused, given}
 use Rattle.sheet.specs.Refusals.{Refusal, numberOf}
 use Rattle.sheet.specs.Sheets.{Sheet}
