@@ -88,7 +88,7 @@ varied-share s (some a) amount x m = by-case (ℕ-discrete a x)
 still-share : (s : VariableSet) (o : Option ℕ) (amount x : ℕ) → T (has s x) → hasSome s o ≡ false → share o amount x ≡ 0
 still-share s o amount x m e = sym (rw e at (varied-share s o amount x m))
 
-neither : (a b : Bool) → (a || b) ≡ false → (a ≡ false) × (b ≡ false)
+pub neither : (a b : Bool) → (a || b) ≡ false → (a ≡ false) × (b ≡ false)
 neither true b e = let z : _≡_ {A = ℕ} 0 1 = cc in absurd (omega arith)
 neither false b e = (refl, e)
 
@@ -116,7 +116,7 @@ module _ (d : ℕ) (source : Source) (before : List ℕ) (varied useful : Variab
       )
 
   -- a variable but d stays varied
-  stays-varied : (x : ℕ) → d ≢ x → T (has varied x) → T (has (variedAfter (d ≔ source) varied) x)
+  pub stays-varied : (x : ℕ) → d ≢ x → T (has varied x) → T (has (variedAfter (d ≔ source) varied) x)
   unfolding variedAfter
   stays-varied x h m = by-test (anyRead varied source)
     where
@@ -125,12 +125,12 @@ module _ (d : ℕ) (source : Source) (before : List ℕ) (varied useful : Variab
       by-test false = rw (without-has d varied x, ne-eqb x d (λ e. h (sym e)), and-true (has varied x)) m
 
   -- d is varied where a read is
-  becomes-varied : anyRead varied source ≡ true → T (has (variedAfter (d ≔ source) varied) d)
+  pub becomes-varied : anyRead varied source ≡ true → T (has (variedAfter (d ≔ source) varied) d)
   unfolding variedAfter
   becomes-varied e = rw e (union-right varied (single d) d (rw (single-has d d, eq-eqb d d refl) tt))
 
   -- a variable but d that was useful is
-  stays-useful : (x : ℕ) → d ≢ x → T (has useful x) → T (has (usefulBefore (d ≔ source) useful) x)
+  pub stays-useful : (x : ℕ) → d ≢ x → T (has useful x) → T (has (usefulBefore (d ≔ source) useful) x)
   unfolding usefulBefore
   stays-useful x h m = by-test (has useful d)
     where
@@ -140,7 +140,7 @@ module _ (d : ℕ) (source : Source) (before : List ℕ) (varied useful : Variab
       by-test false = m
 
   -- what is read for a useful d is useful
-  becomes-useful : (x : ℕ) → has useful d ≡ true → T (has (reads source) x) → T (has (usefulBefore (d ≔ source) useful) x)
+  pub becomes-useful : (x : ℕ) → has useful d ≡ true → T (has (reads source) x) → T (has (usefulBefore (d ≔ source) useful) x)
   unfolding usefulBefore
   becomes-useful x e m = rw e (union-right (without d useful) (reads source) x m)
 

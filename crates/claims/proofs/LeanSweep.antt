@@ -25,15 +25,23 @@ use Rattle.claims.proofs.ResidueDerivatives.{derived-goes}
 use Rattle.claims.proofs.LeanStep.{Agrees, agrees-within, agrees-before}
 
 -- a point's set that is another's, or a union, as inclusions
-module _ (sets : List VariableSet) where
-  in-same : (p q : ℕ) → setAt sets q ≡ setAt sets p → setAt sets p ⊆ setAt sets q
-  in-same p q e = subst (λ s. setAt sets p ⊆ s) (sym e) (⊆-refl (setAt sets p))
+module _ (at : ℕ → VariableSet) where
+  pub in-same : (p q : ℕ) → at q ≡ at p → at p ⊆ at q
+  in-same p q e = subst (λ s. at p ⊆ s) (sym e) (⊆-refl (at p))
 
-  in-left : (p q r : ℕ) → setAt sets r ≡ setAt sets p ∪ setAt sets q → setAt sets p ⊆ setAt sets r
-  in-left p q r e = subst (λ s. setAt sets p ⊆ s) (sym e) (union-left (setAt sets p) (setAt sets q))
+  pub in-left : (p q r : ℕ) → at r ≡ at p ∪ at q → at p ⊆ at r
+  in-left p q r e = subst (λ s. at p ⊆ s) (sym e) (union-left (at p) (at q))
 
-  in-right : (p q r : ℕ) → setAt sets r ≡ setAt sets p ∪ setAt sets q → setAt sets q ⊆ setAt sets r
-  in-right p q r e = subst (λ s. setAt sets q ⊆ s) (sym e) (union-right (setAt sets p) (setAt sets q))
+  pub in-right : (p q r : ℕ) → at r ≡ at p ∪ at q → at q ⊆ at r
+  in-right p q r e = subst (λ s. at q ⊆ s) (sym e) (union-right (at p) (at q))
+
+-- Where going back through a tree ends: at its start, but at a repeat's body's start, so that one more turn can go on from there. Where going on through
+-- one begins is the same place.
+abbrev pub entry : Tree Assignment Test → ℕ → ℕ
+entry done p = p
+entry (one b k) p = p
+entry (fork f a b k) p = p
+entry (again n a k) p = suc p
 
 module _ (setting : Setting residues) (constants : List ℕ) (variedSets usefulSets : List VariableSet) where
   abbrev pub v : ℕ
@@ -102,13 +110,6 @@ module _ (setting : Setting residues) (constants : List ℕ) (variedSets usefulS
         agrees = rw uses B;
       })
 
-  -- Where going back through a tree ends: at its start, but at a repeat's body's start, so that one more turn can go on from there.
-  abbrev pub entry : Tree Assignment Test → ℕ → ℕ
-  entry done p = p
-  entry (one b k) p = p
-  entry (fork f a b k) p = p
-  entry (again n a k) p = suc p
-
   abbrev pub Varies : Tree Assignment Test → ℕ → Type 0
   Varies = ForwardAlong (λ p. variedAfter) (setAt variedSets)
 
@@ -122,7 +123,7 @@ module _ (setting : Setting residues) (constants : List ℕ) (variedSets usefulS
   up-to-start (one b k) p later earlier full lean varies uses c = c
   up-to-start (fork f a b k) p later earlier full lean varies uses c = c
   up-to-start (again n a k) p later earlier full lean varies uses c =
-      came-to (suc p) p later earlier full lean (in-left variedSets p (suc p + rows a) (suc p) (varies .0)) (in-same usefulSets (suc p) p (uses .0)) c
+      came-to (suc p) p later earlier full lean (in-left (setAt variedSets) p (suc p + rows a) (suc p) (varies .0)) (in-same (setAt usefulSets) (suc p) p (uses .0)) c
 
   -- from what follows a block, at point r, into the block's part from `start` to `end`, and to point p before it
   through-block : (r start end p : ℕ) (later middle earlier : Trace) (full : ℕ → ℕ) (lean : List ℕ)
@@ -151,8 +152,8 @@ module _ (setting : Setting residues) (constants : List ℕ) (variedSets usefulS
       let after = suc (suc split + rows b) in
       let mid = runs-keep residues constants first ∙ sized in
       through-block after (suc p) split p (e .trace) (m .trace) (s .trace) full lean
-      (in-left variedSets split (suc split + rows b) after (varies .4)) (in-same usefulSets after split (uses .2))
-      (in-same variedSets p (suc p) (varies .0)) (in-left usefulSets (suc p) (suc split) p (uses .0))
+      (in-left (setAt variedSets) split (suc split + rows b) after (varies .4)) (in-same (setAt usefulSets) after split (uses .2))
+      (in-same (setAt variedSets) p (suc p) (varies .0)) (in-left (setAt usefulSets) (suc p) (suc split) p (uses .0))
       (up-to-start k after (e .trace) (m .trace) full lean (varies .5) (uses .5)
       (swept-agrees rest mid (present .3) (varies .5) (uses .5) q (end ∙ omega arith) full lean A))
       (λ full′ lean′ A′. up-to-start a (suc p) (m .trace) (s .trace) full′ lean′ (varies .1) (uses .1)
@@ -162,8 +163,8 @@ module _ (setting : Setting residues) (constants : List ℕ) (variedSets usefulS
       let after = suc (suc split + rows b) in
       let mid = runs-keep residues constants second ∙ sized in
       through-block after (suc split) (suc split + rows b) p (e .trace) (m .trace) (s .trace) full lean
-      (in-right variedSets split (suc split + rows b) after (varies .4)) (in-same usefulSets after (suc split + rows b) (uses .4))
-      (in-same variedSets p (suc split) (varies .2)) (in-right usefulSets (suc p) (suc split) p (uses .0))
+      (in-right (setAt variedSets) split (suc split + rows b) after (varies .4)) (in-same (setAt usefulSets) after (suc split + rows b) (uses .4))
+      (in-same (setAt variedSets) p (suc split) (varies .2)) (in-right (setAt usefulSets) (suc p) (suc split) p (uses .0))
       (up-to-start k after (e .trace) (m .trace) full lean (varies .5) (uses .5)
       (swept-agrees rest mid (present .3) (varies .5) (uses .5) q (end ∙ omega arith) full lean A))
       (λ full′ lean′ A′. up-to-start b (suc split) (m .trace) (s .trace) full′ lean′ (varies .3) (uses .3)
@@ -172,7 +173,7 @@ module _ (setting : Setting residues) (constants : List ℕ) (variedSets usefulS
       let after = suc (suc p + rows a) in
       let mid = runs-keep residues constants body ∙ sized in
       through-block after (suc p) (suc p + rows a) (suc p) (e .trace) (m .trace) (s .trace) full lean
-      (in-same variedSets (suc p + rows a) after (varies .2)) (in-left usefulSets after (suc p) (suc p + rows a) (uses .2))
+      (in-same (setAt variedSets) (suc p + rows a) after (varies .2)) (in-left (setAt usefulSets) after (suc p) (suc p + rows a) (uses .2))
       (⊆-refl (setAt variedSets (suc p))) (⊆-refl (setAt usefulSets (suc p)))
       (up-to-start k after (e .trace) (m .trace) full lean (varies .3) (uses .3)
       (swept-agrees rest mid (present .1) (varies .3) (uses .3) q (end ∙ omega arith) full lean A))
@@ -181,7 +182,7 @@ module _ (setting : Setting residues) (constants : List ℕ) (variedSets usefulS
   swept-agrees (more {n} {a} {k} {p} {s} {m} {e} body rest) sized present varies uses q end full lean A =
       let mid = runs-keep residues constants body ∙ sized in
       through-block (suc p) (suc p) (suc p + rows a) (suc p) (e .trace) (m .trace) (s .trace) full lean
-      (in-right variedSets p (suc p + rows a) (suc p) (varies .0)) (in-right usefulSets (suc (suc p + rows a)) (suc p) (suc p + rows a) (uses .2))
+      (in-right (setAt variedSets) p (suc p + rows a) (suc p) (varies .0)) (in-right (setAt usefulSets) (suc (suc p + rows a)) (suc p) (suc p + rows a) (uses .2))
       (⊆-refl (setAt variedSets (suc p))) (⊆-refl (setAt usefulSets (suc p)))
       (swept-agrees rest mid present varies uses q end full lean A)
       (λ full′ lean′ A′. up-to-start a (suc p) (m .trace) (s .trace) full′ lean′ (varies .1) (uses .1)

@@ -55,3 +55,8 @@ pub mod OnWorkedSheets
 pub mod TangentExecutes
 pub mod TangentsHold
 pub mod PlainHolds
+-- 02's balance
+pub mod FullRates
+pub mod Transposed
+pub mod ForwardEquationSolved
+pub mod LeanRates
