@@ -60,3 +60,4 @@ pub mod FullRates
 pub mod Transposed
 pub mod ForwardEquationSolved
 pub mod LeanRates
+pub mod LeanRatesAlong
