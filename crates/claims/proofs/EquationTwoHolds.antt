@@ -49,7 +49,7 @@ seeded-at (role ∷ roles) seeds (suc x) =
     let e : 1 + x ≡ suc x = omega arith in
     seeded-at roles (drop 1 seeds) x ∙ ap (λ y. cond (isDependent (getD roles x 0)) y 0) (getD-drop 1 seeds x 0 ∙ ap (λ k. getD seeds k 0) e)
 
-seed-below : (roles seeds : List ℕ) → ((x : ℕ) → x < length roles → getD seeds x 0 < modulus) → (x : ℕ) → seedAt roles seeds x < modulus
+pub seed-below : (roles seeds : List ℕ) → ((x : ℕ) → x < length roles → getD seeds x 0 < modulus) → (x : ℕ) → seedAt roles seeds x < modulus
 unfolding seedAt
 seed-below roles seeds below x = by-case (decLt x (length roles))
   where
@@ -61,7 +61,7 @@ seed-below roles seeds below x = by-case (decLt x (length roles))
     by-case (yes h) = either (isDependent (getD roles x 0)) (below x h)
     by-case (no h) = rw (List·getD-eq-default roles 0 {n = x} (omega arith)) (omega arith)
 
-unseeded : (dependent : Bool) (seed : ℕ) → (T dependent → ⊥) → cond dependent seed 0 ≡ 0
+pub unseeded : (dependent : Bool) (seed : ℕ) → (T dependent → ⊥) → cond dependent seed 0 ≡ 0
 unseeded true seed no-dependent = absurd (no-dependent tt)
 unseeded false seed no-dependent = refl
 

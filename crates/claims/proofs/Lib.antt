@@ -61,3 +61,6 @@ pub mod Transposed
 pub mod ForwardEquationSolved
 pub mod LeanRates
 pub mod LeanRatesAlong
+pub mod TangentsSolve
+pub mod BothRun
+pub mod BalanceHolds

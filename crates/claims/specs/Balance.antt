@@ -23,6 +23,7 @@ use Rattle.claims.specs.EquationTwo.{Instance, current}
 use Rattle.claims.specs.ForwardEquation.{ForwardEquation, ForwardSolvable}
 use Rattle.claims.specs.Demands.{AuditMeets}
 use Rattle.claims.specs.Tangents.{TangentAuditMeets}
+use Rattle.claims.specs.declared.Sums as declared
 
 -- ---- the tangent by itself, as `AuditSolves` has it of the adjoint: the run answers 0, its first V numbers are the values of executing the sheet, and
 -- the other V the rate of each dependent's last value by the forward equation, which has one solution, 0 at the others
@@ -78,12 +79,22 @@ DirectionsBalance =
 
 -- ---- of the code
 
--- both runs' answers, and both sums
+-- both runs, and both sums
 pub record Weighed : Type 0 where
   pub adjoint : Ran residues
   pub tangent : Ran residues
   pub ofRates : ℕ
   pub ofAdjoints : ℕ
+
+-- what the answer and the buffers that both runs leave say
+abbrev pub weighedOf : declared.Sums → (after after′ : Lent residues) → Weighed
+weighedOf answer after after′ =
+    record {
+      adjoint = ranOf residues (answer .adjoint) after;
+      tangent = ranOf residues (answer .tangent) after′;
+      ofRates = answer .«of_rates»;
+      ofAdjoints = answer .«of_adjoints»;
+    }
 
 -- Both calls do as they do by themselves. Where both accept, both answer 0, the rates are the forward equation's, the sums are the two of §5, and
 -- they are equal; where one refuses, there are no sums, and both are 0.
