@@ -48,7 +48,7 @@ unmade (e ∷ earlier) x n rate h = rw (unmade earlier x n rate (omega arith)) (
         → cond (sameInstance (nodeOf b (e .before) earlier .makes) (valueNo x n)) (ratesRead rate (nodeOf b (e .before) earlier .partials)) 0 + 0 ≡ 0
     latest (d ≔ source) k = rw (not-yet (timesAssigned earlier) d x n k)
 
-both : (a b : Bool) → (a && b) ≡ true → (a ≡ true) × (b ≡ true)
+pub both : (a b : Bool) → (a && b) ≡ true → (a ≡ true) × (b ≡ true)
 both true b e = (refl, e)
 both false b e = let z : _≡_ {A = ℕ} 0 1 = cc in absurd (omega arith)
 

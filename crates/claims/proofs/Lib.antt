@@ -49,8 +49,6 @@ pub mod LeanSweep
 pub mod EquationTwoHolds
 pub mod AuditSolves
 pub mod DemandTwoHolds
--- the theorems on 01's sheets E and D
-pub mod OnWorkedSheets
 -- 02's tangents and the plain engine
 pub mod TangentExecutes
 pub mod TangentsHold
@@ -64,3 +62,5 @@ pub mod LeanRatesAlong
 pub mod TangentsSolve
 pub mod BothRun
 pub mod BalanceHolds
+-- the theorems on 01's sheets C, D and E
+pub mod OnWorkedSheets

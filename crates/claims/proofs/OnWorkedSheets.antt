@@ -1,10 +1,12 @@
--- The claims speak of something: sheets E (a repeat that saves) and D (an "if") meet every hypothesis, and what is claimed of them isn't empty.
-use Prim.Native.Nat.{ℕ, zero, suc, _<_}
+-- The claims speak of something: sheets E (a repeat that saves), D (an "if") and C meet every hypothesis, and what is claimed of them isn't empty.
+use Prim.Native.Nat.{ℕ, zero, suc, _*_, _<_}
 use mathlib.Core.Path.{_≡_, refl, sym}
-use mathlib.Core.Bool.{true, false}
-use mathlib.Core.List.{[], _∷_, map}
+use mathlib.Core.Bool.{Bool, true, false, _&&_}
+use mathlib.Core.List.{List, [], _∷_, map}
 use lib.ListN.{getD, replicate}
+use lib.Dec.{ltb}
 use native.Mathlib.Omega.{arith}
+use borrow.Author.Tests.{ltb-true}
 use Rattle.number.specs.Residues.{modulus, residues, residue}
 use Rattle.sheet.specs.Judging.{Answer, refused, given}
 use Rattle.sheet.specs.Tree.{done}
@@ -18,18 +20,23 @@ use Rattle.table.specs.Calls.{readFor}
 use Rattle.machine.specs.Actions.{Attempt, through, halted, stuck, Stop, counting}
 use Rattle.run.specs.Runs.{Lent, settingOf}
 use Rattle.run.specs.Calls.{readToRun, run}
+use Rattle.tangent.specs.Tangent.{tangentRows, tangentNeedsBy}
+use Rattle.tangent.specs.Calls.{runTangent}
 use Rattle.claims.specs.ExactlyWhen.{Accepted}
 use Rattle.claims.specs.IdealSweep.{Progress, execution, firstAdjoints, sweptLog}
 use Rattle.claims.specs.EquationTwo.{Instance, valueNo, EquationTwo}
 use Rattle.claims.specs.WholeRun.{savedValues, recordedIn}
-use Rattle.claims.specs.WorkedSheets.{wordsD, wordsE}
+use Rattle.claims.specs.WorkedSheets.{wordsC, wordsD, wordsE}
 use Rattle.claims.specs.ThreeDemands.{SameAsAllSaved}
 use Rattle.claims.specs.Demands.{AuditSolves, DemandThree}
+use Rattle.claims.specs.Balance.{AreResidues, Balances}
 use Rattle.claims.proofs.ReadingExactlyWhen.{reading-settled}
-use Rattle.claims.proofs.StartExactlyWhen.{own-sets, Fits, writing-settled, start-settled, OwnRunnable, reads-to-run}
+use Rattle.claims.proofs.StartExactlyWhen.{own-sets, needed, Fits, writing-settled, start-settled, OwnRunnable, reads-to-run}
 use Rattle.claims.proofs.AuditSolves.{audit-solves}
 use Rattle.claims.proofs.DemandTwoHolds.{same-as-all-saved}
 use Rattle.claims.proofs.DemandThreeHolds.{demand-three}
+use Rattle.claims.proofs.ForwardEquationSolved.{both}
+use Rattle.claims.proofs.BalanceHolds.{balance}
 
 -- the sheet that words are, where they are one
 sheetIn : Answer Sheet → Sheet
@@ -132,3 +139,55 @@ D-demand-three = demand-three residues wordsD sheetD (setsOf sheetD) D-accepted 
 D-turns : ended (execution residues sheetD (5 ∷ 2 ∷ [])) .turns ≡ true ∷ []
 unfolding ended sheetD execution
 D-turns = refl
+
+-- ---- C, D and E: both directions run, and balance. None of the sums is 0: C's is −5120 modulo 2^32, D's 42, E's 225, as the table of worked sheets has them.
+
+allResidues : List ℕ → Bool
+allResidues [] = true
+allResidues (x ∷ xs) = ltb x modulus && allResidues xs
+
+are-residues : (numbers : List ℕ) → allResidues numbers ≡ true → AreResidues numbers
+unfolding allResidues
+are-residues [] e x = omega arith
+are-residues (y ∷ numbers) e zero = ltb-true y modulus (both (ltb y modulus) (allResidues numbers) e .0)
+are-residues (y ∷ numbers) e (suc x) = are-residues numbers (both (ltb y modulus) (allResidues numbers) e .1) x
+
+module _ (words starts seeds rates : List ℕ) (lent lent′ : Lent residues) (sheet : Sheet) where
+  -- what is asked of both calls, settled by computing
+  record BothAccept : Type 0 where
+    residueSeeds : allResidues seeds ≡ true
+    residueRates : allResidues rates ≡ true
+    adjointReads : readToRun residues (needed needsBy) words starts seeds lent ≡ given sheet
+    tangentReads : readToRun residues (needed tangentNeedsBy) words starts rates lent′ ≡ given sheet
+
+  balanced-on : BothAccept → Balances sheet seeds rates (run residues words starts seeds lent) (runTangent residues words starts rates lent′)
+  balanced-on accept =
+      let adjoint = run residues words starts seeds lent in
+      let tangent = runTangent residues words starts rates lent′ in
+      balance words starts seeds rates (are-residues seeds (accept .residueSeeds)) (are-residues rates (accept .residueRates)) lent (adjoint .lent) lent′ (tangent .lent)
+      (record { number = adjoint .number; place = adjoint .place }) (record { number = tangent .number; place = tangent .place }) refl refl sheet (setsOf sheet)
+      (given-exactly (start-settled residues needsBy words starts seeds lent) sheet .0 (accept .adjointReads))
+      (given-exactly (start-settled residues tangentNeedsBy words starts rates lent′) sheet .0 (accept .tangentReads))
+
+sheetC : Sheet
+unfolding sheetIn read
+sheetC = sheetIn (read wordsC)
+
+-- buffers that suffice for each of the three
+roomy : (variables : ℕ) → Lent residues
+roomy variables = record { table = replicate 77 7; values = 7 ∷ 7 ∷ 7 ∷ []; turns = 7 ∷ []; result = replicate (2 * variables) 7 }
+
+C-balances : Balances sheetC (4294967295 ∷ []) (5 ∷ []) (run residues wordsC (2 ∷ []) (4294967295 ∷ []) (roomy 1)) (runTangent residues wordsC (2 ∷ []) (5 ∷ []) (roomy 1))
+unfolding readToRun sheetC roomy allResidues tableRows markedBy required valuesNeeded turnsNeeded tangentRows
+C-balances = balanced-on wordsC (2 ∷ []) (4294967295 ∷ []) (5 ∷ []) (roomy 1) (roomy 1) sheetC
+    (record { residueSeeds = refl; residueRates = refl; adjointReads = refl; tangentReads = refl })
+
+D-balances : Balances sheetD (7 ∷ 9 ∷ []) (6 ∷ 9 ∷ []) (run residues wordsD (1 ∷ 2 ∷ []) (7 ∷ 9 ∷ []) (roomy 2)) (runTangent residues wordsD (1 ∷ 2 ∷ []) (6 ∷ 9 ∷ []) (roomy 2))
+unfolding readToRun sheetD roomy allResidues tableRows markedBy required valuesNeeded turnsNeeded tangentRows
+D-balances = balanced-on wordsD (1 ∷ 2 ∷ []) (7 ∷ 9 ∷ []) (6 ∷ 9 ∷ []) (roomy 2) (roomy 2) sheetD
+    (record { residueSeeds = refl; residueRates = refl; adjointReads = refl; tangentReads = refl })
+
+E-balances : Balances sheetE (3 ∷ 9 ∷ []) (5 ∷ 9 ∷ []) (run residues wordsE (1 ∷ 0 ∷ []) (3 ∷ 9 ∷ []) (roomy 2)) (runTangent residues wordsE (1 ∷ 0 ∷ []) (5 ∷ 9 ∷ []) (roomy 2))
+unfolding readToRun sheetE roomy allResidues tableRows markedBy required valuesNeeded turnsNeeded tangentRows
+E-balances = balanced-on wordsE (1 ∷ 0 ∷ []) (3 ∷ 9 ∷ []) (5 ∷ 9 ∷ []) (roomy 2) (roomy 2) sheetE
+    (record { residueSeeds = refl; residueRates = refl; adjointReads = refl; tangentReads = refl })

@@ -1,5 +1,5 @@
 -- "Sheets worked by hand": the starred ones as one table, what is stated of each, and what the definitions find. Where 01 leaves out one of
--- W, R, S and T, it is the one that its rules give. Tangents are 02's, and so are H's numbers; J is ours, and so are K to N, of §4.
+-- W, R, S and T, it is the one that its rules give. Tangents are 02's, and so are H's numbers; J is ours, and so are K to N, of §4, and the sums of §5.
 use Prim.Native.Nat.{ℕ}
 use mathlib.Core.Bool.{Bool, true, false}
 use mathlib.Core.List.{List, [], _∷_, _++_, map}
@@ -10,6 +10,7 @@ use Rattle.number.specs.Arithmetic.{Arithmetic}
 use Rattle.number.specs.Doubles.{doubles}
 use Rattle.number.specs.Residues.{residues}
 use Rattle.sheet.specs.Judging.{Answer, refused, given}
+use Rattle.sheet.specs.Refusals.{numberOf}
 use Rattle.sheet.specs.Tree.{Tree, done, one, fork, again}
 use Rattle.sheet.specs.Sheets.{Sheet}
 use Rattle.sheet.specs.Reading.{read}
@@ -23,6 +24,7 @@ use Rattle.tangent.specs.TangentRuns.{withoutStacks}
 use Rattle.tangent.specs.Calls.{writeTangent, runTangent}
 use Rattle.plain.specs.Carries.{Carry}
 use Rattle.plain.specs.Calls.{plain}
+use Rattle.claims.specs.Balance.{sumOver, seedsByRates, adjointsByRates}
 
 abbrev whole : List ℕ → List ℤ
 whole = map pos
@@ -40,6 +42,13 @@ pub record TangentTrial : Type 0 where
   pub rates : List ℕ
   pub result : List ℤ
 
+-- start values, seeds and starting rates, and what both directions' sums come to (02 §5)
+pub record BalanceTrial : Type 0 where
+  pub starts : List ℕ
+  pub seeds : List ℕ
+  pub rates : List ℕ
+  pub sum : ℕ
+
 pub record Worked : Type 0 where
   pub words : List ℕ
   -- where its first quotient stands, which in audit is refused
@@ -53,8 +62,12 @@ pub record Worked : Type 0 where
   pub trials : List Trial
   pub audits : List Trial
   pub tangents : List TangentTrial
+  pub balances : List BalanceTrial
 
--- of these two more is proved than the table says
+-- of these three more is proved than the table says
+abbrev pub wordsC : List ℕ
+wordsC = 1 ∷ 3 ∷ 0 ∷ 3 ∷ 10 ∷ 0 ∷ 3 ∷ 0 ∷ 5 ∷ 0 ∷ 0 ∷ 0 ∷ 11 ∷ 0 ∷ 0 ∷ 0 ∷ []
+
 abbrev pub wordsD : List ℕ
 wordsD = 2 ∷ 3 ∷ 0 ∷ 0 ∷ 4 ∷ 7 ∷ 0 ∷ 1 ∷ 0 ∷ 1 ∷ 0 ∷ 1 ∷ 0 ∷ 8 ∷ 0 ∷ 0 ∷ 0 ∷ 9 ∷ 0 ∷ 0 ∷ 0 ∷ []
 
@@ -91,6 +104,7 @@ starred =
             result = whole (3 ∷ 4 ∷ 12 ∷ 0 ∷ 0 ∷ 34 ∷ []);
           }
           ∷ [];
+      balances = [];
     }
     -- B, and G, which is B in audit
     ∷ record {
@@ -109,10 +123,11 @@ starred =
             result = whole (9 ∷ 6 ∷ []);
           }
           ∷ [];
+      balances = [];
     }
     -- C: B inside repeat 3
     ∷ record {
-      words = 1 ∷ 3 ∷ 0 ∷ 3 ∷ 10 ∷ 0 ∷ 3 ∷ 0 ∷ 5 ∷ 0 ∷ 0 ∷ 0 ∷ 11 ∷ 0 ∷ 0 ∷ 0 ∷ [];
+      words = wordsC;
       quotientAt = none;
       sizes = record { longest = 7; rows = 14; values = 3; turns = 0 };
       recorded = 1 ∷ [];
@@ -127,6 +142,7 @@ starred =
             result = whole (256 ∷ 1024 ∷ []);
           }
           ∷ [];
+      balances = record { starts = 2 ∷ []; seeds = 4294967295 ∷ []; rates = 5 ∷ []; sum = 4294962176 } ∷ [];
     }
     -- D, the clamp
     ∷ record {
@@ -149,6 +165,7 @@ starred =
             result = whole (2 ∷ 2 ∷ 0 ∷ 0 ∷ []);
           }
           ∷ [];
+      balances = record { starts = 1 ∷ 2 ∷ []; seeds = 7 ∷ 9 ∷ []; rates = 6 ∷ 9 ∷ []; sum = 42 } ∷ [];
     }
     -- E
     ∷ record {
@@ -177,6 +194,7 @@ starred =
             result = whole (6 ∷ 4 ∷ 15 ∷ 0 ∷ []);
           }
           ∷ [];
+      balances = record { starts = 1 ∷ 0 ∷ []; seeds = 3 ∷ 9 ∷ []; rates = 5 ∷ 9 ∷ []; sum = 225 } ∷ [];
     }
     -- F
     ∷ record {
@@ -188,6 +206,7 @@ starred =
       trials = record { starts = 7 ∷ []; seeds = 5 ∷ []; result = whole (7 ∷ 5 ∷ []) } ∷ [];
       audits = [];
       tangents = [];
+      balances = [];
     }
     -- H: only a is varied, so b alone is needed and x is not saved
     ∷ record {
@@ -208,6 +227,7 @@ starred =
       trials = record { starts = 3 ∷ 4 ∷ []; seeds = 1 ∷ 0 ∷ []; result = whole (12 ∷ 4 ∷ 4 ∷ 0 ∷ []) } ∷ [];
       audits = [];
       tangents = [];
+      balances = [];
     }
     -- I: E's two rows the other way about
     ∷ record {
@@ -219,6 +239,7 @@ starred =
       trials = record { starts = 1 ∷ 0 ∷ []; seeds = 1 ∷ 0 ∷ []; result = whole (2 ∷ 4 ∷ 3 ∷ 0 ∷ []) } ∷ [];
       audits = [];
       tangents = [];
+      balances = [];
     }
     -- J. Roles 3 0 0, repeat 2 of { var 1 := var 1 + var 2; var 0 := var 1 × var 0 }. Only b is varied, so each turn's var 1 is needed and var 0 is not: the first
     -- row alone is recorded, S = 2, where both operands would make it 4
@@ -248,6 +269,7 @@ starred =
       trials = record { starts = 2 ∷ 1 ∷ 1 ∷ []; seeds = 1 ∷ 0 ∷ 0 ∷ []; result = whole (12 ∷ 3 ∷ 1 ∷ 6 ∷ 0 ∷ 0 ∷ []) } ∷ [];
       audits = [];
       tangents = [];
+      balances = [];
     }
     -- K: a quotient, both operands varied
     ∷ record {
@@ -292,6 +314,7 @@ starred =
             result = whole (8 ∷ 2 ∷ 4 ∷ 0 ∷ 0 ∷ 1 ∷ []);
           }
           ∷ [];
+      balances = [];
     }
     -- L: only the dividend varied
     ∷ record {
@@ -319,6 +342,7 @@ starred =
             result = whole (8 ∷ 2 ∷ 4 ∷ 0 ∷ 0 ∷ 3 ∷ []);
           }
           ∷ [];
+      balances = [];
     }
     -- M: only the divisor varied
     ∷ record {
@@ -354,6 +378,7 @@ starred =
             result = pos 8 ∷ pos 2 ∷ pos 4 ∷ pos 0 ∷ pos 0 ∷ negsuc 1 ∷ [];
           }
           ∷ [];
+      balances = [];
     }
     -- N: x := y / x in a repeat; x is in its own adjoint use, so each turn's is saved
     ∷ record {
@@ -400,6 +425,7 @@ starred =
             result = whole (2 ∷ 8 ∷ 2 ∷ 0 ∷ []);
           }
           ∷ [];
+      balances = [];
     }
     ∷ []
 
@@ -413,6 +439,13 @@ pub record Run (A : Arithmetic) : Type 0 where
   pub turns : List ℕ
   pub result : List (A .Carrier)
 
+-- both runs' numbers, and both sums
+pub record BothSums : Type 0 where
+  pub adjoint : ℕ
+  pub tangent : ℕ
+  pub ofRates : ℕ
+  pub ofAdjoints : ℕ
+
 pub record Findings : Type 0 where
   pub check : Checked
   pub recorded : List ℕ
@@ -423,6 +456,7 @@ pub record Findings : Type 0 where
   pub tangentDoubles : List (Run doubles)
   pub tangentAudits : List (Run residues)
   pub plainRuns : List (Carry doubles)
+  pub balances : List BothSums
 
 -- the buffers lent: exactly as long as 01 asks for, and no word of them 0
 abbrev pub seven : (A : Arithmetic) → ℕ → List (A .Carrier)
@@ -486,6 +520,7 @@ stated w =
       tangentDoubles = map (tangentStated doubles) (w .tangents);
       tangentAudits = map (tangentAuditStated w) (w .tangents);
       plainRuns = map (λ trial. record { number = 0; place = 0; result = numbers doubles (trial .result) }) (w .tangents);
+      balances = map (λ trial. record { adjoint = 0; tangent = 0; ofRates = trial .sum; ofAdjoints = trial .sum }) (w .balances);
     }
 
 -- ---- as the definitions have it
@@ -530,8 +565,23 @@ unfoldable pub plainFound : List ℕ → TangentTrial → Carry doubles
 unfolding plain
 plainFound words trial = plain doubles words (numbers doubles (whole (trial .starts))) (numbers doubles (whole (trial .rates))) (seven doubles (length (trial .result)))
 
+-- on buffers as long as the adjoint's run asks for: a tangent table of these sheets is shorter
+unfoldable pub balanceFound : List ℕ → Answer Sheet → Sizes → BalanceTrial → BothSums
+unfolding run runTangent sumOver
+balanceFound words (refused r) sizes trial = record { adjoint = numberOf r; tangent = numberOf r; ofRates = 0; ofAdjoints = 0 }
+balanceFound words (given sheet) sizes trial =
+    let lent = lentFor residues sizes (record { starts = trial .starts; seeds = trial .seeds; result = whole (trial .starts ++ trial .starts) }) in
+    let adjoint = run residues words (trial .starts) (trial .seeds) lent in
+    let tangent = runTangent residues words (trial .starts) (trial .rates) (withoutStacks residues (lent .table) (lent .result)) in
+    record {
+      adjoint = adjoint .number;
+      tangent = tangent .number;
+      ofRates = seedsByRates sheet (trial .seeds) tangent;
+      ofAdjoints = adjointsByRates sheet (trial .rates) adjoint;
+    }
+
 unfoldable pub found : Worked → Findings
-unfolding check read recordedFound write runFound writeTangent tangentFound plainFound
+unfolding check read recordedFound write runFound writeTangent tangentFound plainFound balanceFound
 found w =
     record {
       check = check (w .words);
@@ -543,4 +593,5 @@ found w =
       tangentDoubles = map (tangentFound doubles (w .words)) (w .tangents);
       tangentAudits = map (tangentFound residues (w .words)) (w .tangents);
       plainRuns = map (plainFound (w .words)) (w .tangents);
+      balances = map (balanceFound (w .words) (read (w .words)) (w .sizes)) (w .balances);
     }
