@@ -32,7 +32,8 @@ use Rattle.claims.specs.EquationTwo.{Instance, valueNo, Trace, current, 
 use Rattle.claims.specs.ForwardEquation.{ForwardEquation}
 use Rattle.claims.specs.Demands.{RunExactly, AuditSolves, AuditMeets}
 use Rattle.claims.specs.Tangents.{TangentAuditMeets}
-use Rattle.claims.specs.Balance.{TangentSolves, sumBelow, sumOver, seedsByRates, adjointsByRates, AreResidues, Balances, DirectionsBalance, Weighed, weighedOf, BalanceMeets}
+use Rattle.claims.specs.Balance.{TangentSolves, sumBelow, sumOver, seedsByRates, adjointsByRates, Balances, Weighed, weighedOf, BalanceMeets}
+use Rattle.claims.specs.ThreeDemands.{AreResidues, DirectionsBalance}
 use Rattle.claims.specs.inner.Summing.{dotOf, SumsTold}
 use Rattle.claims.proofs.Runs.{runs}
 use Rattle.claims.proofs.StartExactlyWhen.{accepted-reads, OwnRunnable, own-run}
@@ -178,14 +179,15 @@ module _ (words starts seeds rates : List ℕ) (residueSeeds : AreResidues seeds
         let lengths = ready sheet is .lengths in
         let rates-out = tangents-solve sheet (setsOf sheet) (tangent-ready sheet is) in
         let adjoints-out = adjoint-meets .solves sheet (setsOf sheet) (ready sheet is) in
-        let half : length (drop v (after .result)) ≡ v = omega (arith, length-drop v (after .result), both .long zero zero′ .adjointResults, lengths .startValues) in
-        (both .sums zero zero′ .0 ∙ ap (λ n. dotOf seeds (drop n (after′ .result))) (lengths .startValues)
-        ∙ sum-by-role isDependent (sheet .roles) seeds (drop v (after′ .result)) (lengths .seedValues)
-        (λ x h other. ap (λ y. getD seeds x 0 * y) (rates-out .ratesOut (rates-out .solvable .rate) (rates-out .solvable .solves) x h ∙ rw other) ∙ mul-zero (getD seeds x 0)),
-        both .sums zero zero′ .1 ∙ ap (λ n. dotOf (drop n (after .result)) rates) (lengths .startValues)
-        ∙ sum-by-role isIndependent (sheet .roles) (drop v (after .result)) rates half
-        (λ x h other. ap (λ y. y * getD rates x 0) (adjoints-out .adjoints (adjoints-out .solvable .bar) (adjoints-out .solvable .solves) x h ∙ rw other)
-        ∙ zero-mul (getD rates x 0)))
+        let half : length (drop v (after .result)) ≡ v = omega (arith, length-drop v (after .result), both .long zero zero′ .adjointResults, lengths .startValues) in (
+          both .sums zero zero′ .0 ∙ ap (λ n. dotOf seeds (drop n (after′ .result))) (lengths .startValues)
+              ∙ sum-by-role isDependent (sheet .roles) seeds (drop v (after′ .result)) (lengths .seedValues)
+              (λ x h other. ap (λ y. getD seeds x 0 * y) (rates-out .ratesOut (rates-out .solvable .rate) (rates-out .solvable .solves) x h ∙ rw other) ∙ mul-zero (getD seeds x 0)),
+          both .sums zero zero′ .1 ∙ ap (λ n. dotOf (drop n (after .result)) rates) (lengths .startValues)
+              ∙ sum-by-role isIndependent (sheet .roles) (drop v (after .result)) rates half
+              (λ x h other. ap (λ y. y * getD rates x 0) (adjoints-out .adjoints (adjoints-out .solvable .bar) (adjoints-out .solvable .solves) x h ∙ rw other)
+              ∙ zero-mul (getD rates x 0)),
+        )
 
     sums-equal : answer .«of_rates» ≡ answer .«of_adjoints»
     sums-equal =

@@ -95,7 +95,7 @@ module _ (quotients : Bool) (v : ℕ) (needed : VariableSet) where
   divided : (x i : ℕ) → MayRead v needed x → i < v → T (has needed i) → quotients ≡ true → OnAdjoints quotients v needed (assign (u v ≔ quotient x i))
   divided x i r h m can = (omega arith, omega arith, (r, reads-original i h m, can))
 
--- an active product needs each operand whose fellow is varied: the one law that looks inside the adjoint use
+-- an active product needs each operand whose fellow is varied: with `quotient-needs` the laws that look inside the adjoint use
 product-needs : (a b : ℕ) (known : Activity) → known .active ≡ true
     → (T (known .variedB) → T (has (adjointUse (product a b) known) a)) × (T (known .variedA) → T (has (adjointUse (product a b) known) b))
 unfolding adjointUse

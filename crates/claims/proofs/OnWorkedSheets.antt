@@ -27,9 +27,9 @@ use Rattle.claims.specs.IdealSweep.{Progress, execution, firstAdjoints, 
 use Rattle.claims.specs.EquationTwo.{Instance, valueNo, EquationTwo}
 use Rattle.claims.specs.WholeRun.{savedValues, recordedIn}
 use Rattle.claims.specs.WorkedSheets.{wordsC, wordsD, wordsE}
-use Rattle.claims.specs.ThreeDemands.{SameAsAllSaved}
+use Rattle.claims.specs.ThreeDemands.{SameAsAllSaved, AreResidues}
 use Rattle.claims.specs.Demands.{AuditSolves, DemandThree}
-use Rattle.claims.specs.Balance.{AreResidues, Balances}
+use Rattle.claims.specs.Balance.{Balances}
 use Rattle.claims.proofs.ReadingExactlyWhen.{reading-settled}
 use Rattle.claims.proofs.StartExactlyWhen.{own-sets, needed, Fits, writing-settled, start-settled, OwnRunnable, reads-to-run}
 use Rattle.claims.proofs.AuditSolves.{audit-solves}

@@ -36,7 +36,8 @@ use Rattle.claims.specs.ExactlyWhen.{Runnable}
 use Rattle.claims.specs.IdealSweep.{Progress, beginning, execution}
 use Rattle.claims.specs.EquationTwo.{Instance, current}
 use Rattle.claims.specs.ForwardEquation.{ForwardEquation}
-use Rattle.claims.specs.Balance.{TangentSolves, AreResidues}
+use Rattle.claims.specs.Balance.{TangentSolves}
+use Rattle.claims.specs.ThreeDemands.{AreResidues}
 use Rattle.claims.proofs.Runs.{runs}
 use Rattle.claims.proofs.ResiduesGo.{execution-goes}
 use Rattle.claims.proofs.StartExactlyWhen.{OwnRunnable, own-run, reads-to-run}

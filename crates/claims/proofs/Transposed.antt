@@ -8,11 +8,11 @@ use mathlib.Core.Option.{Option, none, some}
 use lib.ListN.{length}
 use lib.Dec.{eqb}
 use native.Mathlib.Decide.{ℕ-discrete}
-use native.Mathlib.Nat.{add-zero, mul-comm, mul-zero}
+use native.Mathlib.Nat.{mul-comm, mul-zero}
 use native.Mathlib.Omega.{arith}
 use borrow.Author.Tests.{eq-eqb, ne-eqb}
 use Rattle.number.specs.Residues.{residue, residues}
-use Rattle.number.proofs.ResidueLaws.{residue-sum-left, residue-sum-right, product-distributes}
+use Rattle.number.proofs.ResidueLaws.{residue-product-right}
 use Rattle.sheet.specs.Tree.{Tree}
 use Rattle.sheet.specs.Rows.{Assignment, _≔_, Source, Test}
 use Rattle.sheet.specs.Names.{AssignmentPresent, Present}
@@ -26,12 +26,6 @@ use Rattle.claims.proofs.EquationTwoSolved.{firstFactor, secondFactor, 
 use Rattle.claims.proofs.FullRates.{OperandPresent, operands-present, rateRead, rateGiven, rateStep, ratesAlong}
 
 -- ---- residues
-
--- distribution over b + 0: the law itself is private to `ResidueLaws`
-factor-reduced : (a b : ℕ) → residue (a * residue b) ≡ residue (a * b)
-factor-reduced a b =
-    ap (λ x. residue (a * residue x)) (sym (add-zero b)) ∙ product-distributes a b 0 ∙ residue-sum-left _ _ ∙ residue-sum-right _ _
-    ∙ ap residue (omega arith)
 
 same-terms : (a b c d : ℕ) → residue a ≡ residue b → residue c ≡ residue d → residue (a + c) ≡ residue (b + d)
 unfolding residue
@@ -95,7 +89,7 @@ pub step-balances : (variables constants d : ℕ) (source : Source) (before : Li
     ≡ residue (sumBelow variables (λ x. fullStep (d ≔ source) before full x * rates x))
 unfolding AssignmentPresent rateStep fullStep
 step-balances variables constants d source before full rates present =
-    ap residue rates-on ∙ same-terms others others _ _ refl (factor-reduced bar given) ∙ ap residue (sym adjoints-back)
+    ap residue rates-on ∙ same-terms others others _ _ refl (residue-product-right bar given) ∙ ap residue (sym adjoints-back)
     ∙ sums-agree-in-residue variables _ _ (λ x h. sym (reduced x))
   where
     bar : ℕ
@@ -137,7 +131,7 @@ step-balances variables constants d source before full rates present =
         ∙ ap (λ y. others + y) (sum-of-sums variables (λ x. first x * rates x) (λ x. second x * rates x) ∙ rw (firsts, seconds) (omega arith))
 
     reduced : (x : ℕ) → residue (fullStep (d ≔ source) before full x * rates x) ≡ residue (kept x + (first x * rates x + second x * rates x))
-    reduced x = ap residue (mul-comm _ (rates x)) ∙ factor-reduced (rates x) _ ∙ ap residue (omega arith)
+    reduced x = ap residue (mul-comm _ (rates x)) ∙ residue-product-right (rates x) _ ∙ ap residue (omega arith)
 
 -- ---- a whole trace
 

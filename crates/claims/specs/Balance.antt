@@ -1,22 +1,19 @@
--- 02 §5, "The two directions must balance": what makes a tangent's run in audit right by itself, the two sums, and that they are equal, of what the
--- two calls answer. The last record is the contract of `balance` in src/lib.rt.
+-- 02 §5, "The two directions must balance": what makes a tangent's run in audit right by itself, the two sums, and that they are equal. Each record speaks
+-- of answers that are handed to it; the last one is the contract of `balance` in src/lib.rt.
 use Prim.Native.Nat.{ℕ, zero, suc, _+_, _*_, _<_}
 use mathlib.Core.Path.{_≡_}
 use mathlib.Core.Bool.{Bool, cond}
 use mathlib.Core.List.{List}
 use mathlib.Core.Logic.{_≢_, _⊎_}
 use lib.ListN.{length, take, drop, getD}
-use Rattle.number.specs.Residues.{modulus, residue, residues}
+use Rattle.number.specs.Residues.{residue, residues}
 use Rattle.sheet.specs.Sheets.{Sheet, variablesOf}
 use Rattle.sheet.specs.Rows.{isIndependent, isDependent}
 use Rattle.sets.specs.Marks.{Sets}
 use Rattle.table.specs.Sizes.{needsBy}
-use Rattle.table.specs.declared.Reply.{Reply}
 use Rattle.machine.specs.Actions.{through}
 use Rattle.run.specs.Runs.{Lent, Ran, ranOf}
-use Rattle.run.specs.Calls.{run}
 use Rattle.tangent.specs.Tangent.{tangentNeedsBy}
-use Rattle.tangent.specs.Calls.{runTangent}
 use Rattle.claims.specs.ExactlyWhen.{Read, Runnable}
 use Rattle.claims.specs.IdealSweep.{Progress, execution}
 use Rattle.claims.specs.EquationTwo.{Instance, current}
@@ -62,20 +59,6 @@ pub record Balances (sheet : Sheet) (seeds rates : List ℕ) (adjoint tangent : 
   pub adjointAnswers : adjoint .number ≡ 0
   pub tangentAnswers : tangent .number ≡ 0
   pub equal : seedsByRates sheet seeds tangent ≡ adjointsByRates sheet rates adjoint
-
--- ---- "In audit, for one accepted sheet, one set of start values, any starting rates at independents and any seeds", residues as they are, of what
--- the two calls answer to words that both accept, on whatever buffers suffice
-
-abbrev pub AreResidues : List ℕ → Type 0
-AreResidues numbers = (x : ℕ) → getD numbers x 0 < modulus
-
-abbrev pub DirectionsBalance : Type 0
-DirectionsBalance =
-    (words starts seeds rates : List ℕ) → AreResidues seeds → AreResidues rates → (before after before′ after′ : Lent residues) (answer answer′ : Reply)
-    → ranOf residues answer after ≡ run residues words starts seeds before
-    → ranOf residues answer′ after′ ≡ runTangent residues words starts rates before′ → (sheet : Sheet) (sets : Sets)
-    → Runnable residues needsBy words starts seeds before sheet sets → Runnable residues tangentNeedsBy words starts rates before′ sheet sets
-    → Balances sheet seeds rates (ranOf residues answer after) (ranOf residues answer′ after′)
 
 -- ---- of the code
 

@@ -1,4 +1,5 @@
--- The three demands, whole: over any arithmetic, of every accepted sheet, and of whatever the calls' contracts let them answer and leave behind.
+-- The three demands, whole: over any arithmetic, of every accepted sheet, and of whatever the calls' contracts let them answer and leave behind; and 02's
+-- balance of the two directions, likewise.
 use Prim.Native.Nat.{ℕ, _≤_, _<_}
 use mathlib.Core.Path.{_≡_}
 use mathlib.Core.Bool.{true}
@@ -19,6 +20,7 @@ use Rattle.machine.specs.Actions.{Memory, Stop}
 use Rattle.machine.specs.Machine.{Step, ended, stops}
 use Rattle.run.specs.Runs.{Lent, ranOf, settingOf, startOf, runOf}
 use Rattle.run.specs.Calls.{run}
+use Rattle.tangent.specs.Tangent.{tangentNeedsBy}
 use Rattle.tangent.specs.Calls.{writeTangent, runTangent}
 use Rattle.plain.specs.Carries.{carryOf}
 use Rattle.plain.specs.Calls.{plain}
@@ -26,6 +28,7 @@ use Rattle.claims.specs.ExactlyWhen.{Read, Accepted, Calculable, Writabl
 use Rattle.claims.specs.Demands.{CheckExactly, StartsWith, WriteExactly, RunExactly, adjointBy, AuditSolves, AnswersLike, DemandThree}
 use Rattle.claims.specs.WholeRun.{every, runSaving, StackRoom}
 use Rattle.claims.specs.Tangents.{TangentWriteExactly, TangentMeets, PlainMeets}
+use Rattle.claims.specs.Balance.{Balances}
 
 -- ---- demand 1
 
@@ -94,3 +97,17 @@ ThirdDemand =
     (A : Arithmetic) (words : List ℕ) (sheet : Sheet) (sets : Sets) → Accepted words sheet sets → Calculable words (divides A)
     → (starts seeds : List (A .Carrier)) → length starts ≡ variablesOf sheet → (valueRoom turnRoom : ℕ) → needsBy sets sheet .values ≤ valueRoom
     → needsBy sets sheet .turns ≤ turnRoom → DemandThree A sheet sets starts seeds valueRoom turnRoom
+
+-- ---- 02 §5: "In audit, for one accepted sheet, one set of start values, any starting rates at independents and any seeds", residues as all numbers in
+-- audit are: words that both calls accept, on whatever buffers suffice
+
+abbrev pub AreResidues : List ℕ → Type 0
+AreResidues numbers = (x : ℕ) → getD numbers x 0 < modulus
+
+abbrev pub DirectionsBalance : Type 0
+DirectionsBalance =
+    (words starts seeds rates : List ℕ) → AreResidues seeds → AreResidues rates → (before after before′ after′ : Lent residues) (answer answer′ : Reply)
+    → ranOf residues answer after ≡ run residues words starts seeds before
+    → ranOf residues answer′ after′ ≡ runTangent residues words starts rates before′ → (sheet : Sheet) (sets : Sets)
+    → Runnable residues needsBy words starts seeds before sheet sets → Runnable residues tangentNeedsBy words starts rates before′ sheet sets
+    → Balances sheet seeds rates (ranOf residues answer after) (ranOf residues answer′ after′)

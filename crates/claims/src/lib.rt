@@ -1,5 +1,5 @@
 // Each public call once more, with the demands as its contract: that they follow from what the call itself promises is proved here of the code.
-// The statements are in specs/, the theorems in proofs/.
+// And `balance`, which runs both directions. The statements are in specs/, the theorems in proofs/.
 ghost use mathlib.Core.Path.{_≡_};
 ghost use Prim.Native.Nat.{_≤_};
 ghost use lib.ListN.{length};

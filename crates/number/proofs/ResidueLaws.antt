@@ -30,7 +30,7 @@ residue-sum-right a b = omega arith
 spread : (a q r : ℕ) → a * (modulus * q + r) ≡ a * r + modulus * (a * q)
 spread a q r = omega arith
 
-residue-product-right : (a b : ℕ) → residue (a * residue b) ≡ residue (a * b)
+pub residue-product-right : (a b : ℕ) → residue (a * residue b) ≡ residue (a * b)
 unfolding residue
 residue-product-right a b =
     let q = b / modulus in
