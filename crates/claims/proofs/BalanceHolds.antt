@@ -146,11 +146,11 @@ module _ (words starts seeds rates : List ℕ) (residueSeeds : AreResidues seeds
   abbrev weighed : Weighed
   weighed = weighedOf answer after after′
 
-  abbrev Ready : Sheet → Sets → Type 0
-  Ready = Runnable residues needsBy words starts seeds before
+  abbrev AdjointAccepts : Sheet → Sets → Type 0
+  AdjointAccepts = Runnable residues needsBy words starts seeds before
 
-  abbrev TangentReady : Sheet → Sets → Type 0
-  TangentReady = Runnable residues tangentNeedsBy words starts rates before′
+  abbrev TangentAccepts : Sheet → Sets → Type 0
+  TangentAccepts = Runnable residues tangentNeedsBy words starts rates before′
 
   adjoint-meets : AuditMeets words starts seeds before (weighed .adjoint)
   adjoint-meets = audit-meets words starts seeds before after (answer .adjoint) residueSeeds (both .adjoint-ran)
@@ -158,27 +158,27 @@ module _ (words starts seeds rates : List ℕ) (residueSeeds : AreResidues seeds
   tangent-meets : TangentAuditMeets words starts rates before′ (weighed .tangent)
   tangent-meets = tangent-audit-call words starts rates before′ after′ (answer .tangent) (both .tangent-ran)
 
-  tangents-solve : (sheet : Sheet) (sets : Sets) → TangentReady sheet sets → TangentSolves sheet starts rates (weighed .tangent)
+  tangents-solve : (sheet : Sheet) (sets : Sets) → TangentAccepts sheet sets → TangentSolves sheet starts rates (weighed .tangent)
   tangents-solve sheet sets ready = tangent-solves words starts rates residueRates before′ sheet sets ready _ (both .tangent-ran)
 
-  both-balance : (sheet : Sheet) (sets : Sets) → Ready sheet sets → TangentReady sheet sets → Balances sheet seeds rates (weighed .adjoint) (weighed .tangent)
+  both-balance : (sheet : Sheet) (sets : Sets) → AdjointAccepts sheet sets → TangentAccepts sheet sets → Balances sheet seeds rates (weighed .adjoint) (weighed .tangent)
   both-balance =
       balance words starts seeds rates residueSeeds residueRates before after before′ after′ (answer .adjoint) (answer .tangent) (both .adjoint-ran) (both .tangent-ran)
 
   module _ (zero : answer .adjoint .number ≡ 0) (zero′ : answer .tangent .number ≡ 0) where
-    ready : (sheet : Sheet) → Read words sheet → Ready sheet (setsOf sheet)
-    ready = runnable-of (adjoint-meets .run .exactly) zero
+    adjoint-accepts : (sheet : Sheet) → Read words sheet → AdjointAccepts sheet (setsOf sheet)
+    adjoint-accepts = runnable-of (adjoint-meets .run .exactly) zero
 
-    tangent-ready : (sheet : Sheet) → Read words sheet → TangentReady sheet (setsOf sheet)
-    tangent-ready = runnable-of (tangent-meets .run .exactly) zero′
+    tangent-accepts : (sheet : Sheet) → Read words sheet → TangentAccepts sheet (setsOf sheet)
+    tangent-accepts = runnable-of (tangent-meets .run .exactly) zero′
 
     are-the-sums : (sheet : Sheet) → Read words sheet
         → (answer .«of_rates» ≡ seedsByRates sheet seeds (weighed .tangent)) × (answer .«of_adjoints» ≡ adjointsByRates sheet rates (weighed .adjoint))
     are-the-sums sheet is =
         let v = variablesOf sheet in
-        let lengths = ready sheet is .lengths in
-        let rates-out = tangents-solve sheet (setsOf sheet) (tangent-ready sheet is) in
-        let adjoints-out = adjoint-meets .solves sheet (setsOf sheet) (ready sheet is) in
+        let lengths = adjoint-accepts sheet is .lengths in
+        let rates-out = tangents-solve sheet (setsOf sheet) (tangent-accepts sheet is) in
+        let adjoints-out = adjoint-meets .solves sheet (setsOf sheet) (adjoint-accepts sheet is) in
         let half : length (drop v (after .result)) ≡ v = omega (arith, length-drop v (after .result), both .long zero zero′ .adjointResults, lengths .startValues) in (
           both .sums zero zero′ .0 ∙ ap (λ n. dotOf seeds (drop n (after′ .result))) (lengths .startValues)
               ∙ sum-by-role isDependent (sheet .roles) seeds (drop v (after′ .result)) (lengths .seedValues)
@@ -195,7 +195,7 @@ module _ (words starts seeds rates : List ℕ) (residueSeeds : AreResidues seeds
         let sheet = found .0 in
         let is = found .3 .runnable .lengths .stacks .writable .accepted .isRead in
         let sums = are-the-sums sheet is in
-        sums .0 ∙ both-balance sheet (setsOf sheet) (ready sheet is) (tangent-ready sheet is) .equal ∙ sym (sums .1)
+        sums .0 ∙ both-balance sheet (setsOf sheet) (adjoint-accepts sheet is) (tangent-accepts sheet is) .equal ∙ sym (sums .1)
 
   -- the contract of `balance`
   pub balance-meets : BalanceMeets words starts seeds rates before before′ weighed

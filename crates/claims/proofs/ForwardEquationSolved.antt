@@ -12,6 +12,7 @@ use borrow.Author.Tests.{eq-eqb, ne-eqb, eqb-true}
 use Rattle.number.specs.Residues.{modulus, residue, opposite}
 use Rattle.number.proofs.ResidueLaws.{residue-same}
 use Rattle.sheet.specs.Rows.{Assignment, _≔_, Source, copy, fixed, sum, difference, product, negation, quotient, isIndependent}
+use Rattle.sheet.proofs.RowsBack.{both}
 use Rattle.claims.specs.EquationTwo.{Instance, valueNo, sameInstance, Trace, assigns, timesAssigned, current, partialsOf, nodeOf, nodesOf}
 use Rattle.claims.specs.ForwardEquation.{ratesRead, rateMade, ratesAt, ForwardEquation, ForwardSolvable}
 use Rattle.claims.proofs.FullRates.{rateGiven, rateStep, ratesAlong}
@@ -47,10 +48,6 @@ unmade (e ∷ earlier) x n rate h = rw (unmade earlier x n rate (omega arith)) (
     latest : (b : Assignment) → cond (assigns b x) 1 0 + timesAssigned earlier x < n
         → cond (sameInstance (nodeOf b (e .before) earlier .makes) (valueNo x n)) (ratesRead rate (nodeOf b (e .before) earlier .partials)) 0 + 0 ≡ 0
     latest (d ≔ source) k = rw (not-yet (timesAssigned earlier) d x n k)
-
-pub both : (a b : Bool) → (a && b) ≡ true → (a ≡ true) × (b ≡ true)
-both true b e = (refl, e)
-both false b e = let z : _≡_ {A = ℕ} 0 1 = cc in absurd (omega arith)
 
 -- no earlier node makes the value that an assignment makes
 made-once : (earlier : Trace) (d x n : ℕ) (rate : Instance → ℕ) → sameInstance (valueNo d (suc (timesAssigned earlier d))) (valueNo x n) ≡ true

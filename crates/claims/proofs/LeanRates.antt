@@ -61,9 +61,10 @@ opposite-given x =
 
 module _ (now : Carried residues) (full : ℕ → ℕ) (v : ℕ) (values-sized : length (now .values) ≡ v) (rates-sized : length (now .rates) ≡ v)
     (below : (x : ℕ) → full x < modulus) where
-  abbrev Right : Option ℕ → Type 0
-  Right none = Unit {0}
-  Right (some a) = getD (now .rates) a 0 ≡ full a
+  -- of what is read, where something is
+  abbrev HasFullRate : Option ℕ → Type 0
+  HasFullRate none = Unit {0}
+  HasFullRate (some a) = getD (now .rates) a 0 ≡ full a
 
   look-rate : (a : ℕ) → a < v → getD (now .rates) a 0 ≡ full a → look {Why = ⊥} (now .rates) a ≡ through (full a)
   look-rate a h right = look-there (now .rates) a 0 (rw rates-sized h) ∙ ap through right
@@ -72,36 +73,36 @@ module _ (now : Carried residues) (full : ℕ → ℕ) (v : ℕ) (values-sized :
   look-value a h = look-there (now .values) a 0 (rw values-sized h)
 
   active-given : (source : Source) (known : Activity) (row constants : ℕ) → SourcePresent v constants source → SourceFeasible false source
-      → Right (firstRead source) → Right (secondRead source) → (known .variedA ≡ false → rateRead (firstRead source) full ≡ 0)
+      → HasFullRate (firstRead source) → HasFullRate (secondRead source) → (known .variedA ≡ false → rateRead (firstRead source) full ≡ 0)
       → (known .variedB ≡ false → rateRead (secondRead source) full ≡ 0)
       → activeRate residues source known row now ≡ through (residue (rateGiven source (now .values) full))
   unfolding SourcePresent SourceFeasible firstRead secondRead activeRate rateGiven evaluated
-  active-given (copy a) known row k present feasible rightA rightB stillA stillB =
-      rw (look-rate a present rightA) (ap through (sym (reduced _ (full a) (omega arith) (below a))))
-  active-given (fixed c) known row k present feasible rightA rightB stillA stillB = ap through (sym residue-zero)
-  active-given (sum a b) known row k present feasible rightA rightB stillA stillB = by (known .variedA) (known .variedB) stillA stillB
+  active-given (copy a) known row k present feasible fullA fullB stillA stillB =
+      rw (look-rate a present fullA) (ap through (sym (reduced _ (full a) (omega arith) (below a))))
+  active-given (fixed c) known row k present feasible fullA fullB stillA stillB = ap through (sym residue-zero)
+  active-given (sum a b) known row k present feasible fullA fullB stillA stillB = by (known .variedA) (known .variedB) stillA stillB
     where
       by : (varA varB : Bool) → (varA ≡ false → full a ≡ 0) → (varB ≡ false → full b ≡ 0)
           → stoppingIn residues row (evaluated residues [] (cond varA (cond varB (sum a b) (copy a)) (copy b)) (now .rates))
           ≡ through (residue (1 * full a + 1 * full b))
-      by true true zeroA zeroB = rw (look-rate a (present .0) rightA, look-rate b (present .1) rightB) (ap (λ y. through (residue y)) (omega arith))
+      by true true zeroA zeroB = rw (look-rate a (present .0) fullA, look-rate b (present .1) fullB) (ap (λ y. through (residue y)) (omega arith))
       by true false zeroA zeroB =
-          rw (look-rate a (present .0) rightA, zeroB refl) (ap through (sym (reduced _ (full a) (omega arith) (below a))))
+          rw (look-rate a (present .0) fullA, zeroB refl) (ap through (sym (reduced _ (full a) (omega arith) (below a))))
       by false varB zeroA zeroB =
-          rw (look-rate b (present .1) rightB, zeroA refl) (ap through (sym (reduced _ (full b) (omega arith) (below b))))
-  active-given (difference a b) known row k present feasible rightA rightB stillA stillB = by (known .variedA) (known .variedB) stillA stillB
+          rw (look-rate b (present .1) fullB, zeroA refl) (ap through (sym (reduced _ (full b) (omega arith) (below b))))
+  active-given (difference a b) known row k present feasible fullA fullB stillA stillB = by (known .variedA) (known .variedB) stillA stillB
     where
       by : (varA varB : Bool) → (varA ≡ false → full a ≡ 0) → (varB ≡ false → full b ≡ 0)
           → stoppingIn residues row (evaluated residues [] (cond varA (cond varB (difference a b) (copy a)) (negation b)) (now .rates))
           ≡ through (residue (1 * full a + opposite 1 * full b))
       by true true zeroA zeroB =
-          rw (look-rate a (present .0) rightA, look-rate b (present .1) rightB)
+          rw (look-rate a (present .0) fullA, look-rate b (present .1) fullB)
           (ap through (sym (opposite-of-one (1 * full a) (full b) ∙ ap (λ y. residue (y + opposite (full b))) (omega arith))))
       by true false zeroA zeroB =
-          rw (look-rate a (present .0) rightA, zeroB refl) (ap through (sym (reduced _ (full a) (omega arith) (below a))))
+          rw (look-rate a (present .0) fullA, zeroB refl) (ap through (sym (reduced _ (full a) (omega arith) (below a))))
       by false varB zeroA zeroB =
-          rw (look-rate b (present .1) rightB, zeroA refl, zero-add (opposite 1 * full b)) (ap through (sym (opposite-given (full b))))
-  active-given (product a b) known row k present feasible rightA rightB stillA stillB = by (known .variedA) (known .variedB) stillA stillB
+          rw (look-rate b (present .1) fullB, zeroA refl, zero-add (opposite 1 * full b)) (ap through (sym (opposite-given (full b))))
+  active-given (product a b) known row k present feasible fullA fullB stillA stillB = by (known .variedA) (known .variedB) stillA stillB
     where
       x : ℕ
       x = getD (now .values) a 0
@@ -113,15 +114,15 @@ module _ (now : Carried residues) (full : ℕ → ℕ) (v : ℕ) (values-sized :
           → activeRate residues (product a b) (record { variedA = varA; variedB = varB; active = known .active }) row now
           ≡ through (residue (y * full a + x * full b))
       by true true zeroA zeroB =
-          rw (look-value a (present .0), look-value b (present .1), look-rate a (present .0) rightA, look-rate b (present .1) rightB)
+          rw (look-value a (present .0), look-value b (present .1), look-rate a (present .0) fullA, look-rate b (present .1) fullB)
           (ap through (residue-sum-left _ _ ∙ residue-sum-right _ _))
       by true false zeroA zeroB =
-          rw (look-value b (present .1), look-rate a (present .0) rightA, zeroB refl, mul-zero x, add-zero (y * full a))
+          rw (look-value b (present .1), look-rate a (present .0) fullA, zeroB refl, mul-zero x, add-zero (y * full a))
       by false varB zeroA zeroB =
-          rw (look-value a (present .0), look-rate b (present .1) rightB, zeroA refl, mul-zero y, zero-add (x * full b))
-  active-given (negation a) known row k present feasible rightA rightB stillA stillB =
-      rw (look-rate a present rightA) (ap through (sym (ap residue (add-zero (opposite 1 * full a)) ∙ opposite-given (full a))))
-  active-given (quotient a b) known row k present feasible rightA rightB stillA stillB = let z : _≡_ {A = ℕ} 0 1 = cc in absurd (omega arith)
+          rw (look-value a (present .0), look-rate b (present .1) fullB, zeroA refl, mul-zero y, zero-add (x * full b))
+  active-given (negation a) known row k present feasible fullA fullB stillA stillB =
+      rw (look-rate a present fullA) (ap through (sym (ap residue (add-zero (opposite 1 * full a)) ∙ opposite-given (full a))))
+  active-given (quotient a b) known row k present feasible fullA fullB stillA stillB = let z : _≡_ {A = ℕ} 0 1 = cc in absurd (omega arith)
 
 -- ---- one assignment
 
@@ -153,9 +154,9 @@ module _ (d : ℕ) (source : Source) (varied useful : VariableSet) (v constants 
       residue-zero
 
   -- what is read for a useful d has the full rate
-  read-right : has useful d ≡ true → (o : Option ℕ) → OperandPresent v o → singleSome o ⊆ reads source → Right now full v values-sized (A .size) (A .below) o
-  read-right e none h within = tt
-  read-right e (some a) h within =
+  read-full : has useful d ≡ true → (o : Option ℕ) → OperandPresent v o → singleSome o ⊆ reads source → HasFullRate now full v values-sized (A .size) (A .below) o
+  read-full e none h within = tt
+  read-full e (some a) h within =
       A .serves a h (becomes-useful d source (now .values) varied useful a e (within a (rw (single-has a a, eq-eqb a a refl) tt)))
 
   -- the rate that the row works out, which counts where d is useful
@@ -178,7 +179,7 @@ module _ (d : ℕ) (source : Source) (varied useful : VariableSet) (v constants 
             goes = rw (e, f)
                 (active-given now full v values-sized (A .size) (A .below) source (record { variedA = known .variedA; variedB = known .variedB; active = true }) row constants
                 present feasible
-                (read-right e (firstRead source) (operands .0) (union-left first second)) (read-right e (secondRead source) (operands .1) (union-right first second))
+                (read-full e (firstRead source) (operands .0) (union-left first second)) (read-full e (secondRead source) (operands .1) (union-right first second))
                 (read-still (firstRead source) (operands .0)) (read-still (secondRead source) (operands .1)));
             serves = λ m. refl;
           }

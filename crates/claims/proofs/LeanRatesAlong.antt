@@ -39,21 +39,21 @@ module _ (constants : List ℕ) (sets : Sets) (v : ℕ) (first : ℕ → ℕ) wh
   abbrev Uses : Tree Assignment Test → ℕ → Type 0
   Uses = BackwardAlong (λ p. usefulBefore) (sets .useful)
 
-  -- what the plain engine has where the execution is: its values, and rates that agree at this point
-  pub record With (p : ℕ) (s : Progress residues) (now : Carried residues) : Type 0 where
+  -- the plain engine abreast of the execution at this point: its values are the execution's, and its rates agree with the full ones
+  pub record Abreast (p : ℕ) (s : Progress residues) (now : Carried residues) : Type 0 where
     pub sized : length (s .store) ≡ v
     pub values : now .values ≡ s .store
     pub agrees : RatesAt p s now
 
-  move : (p q : ℕ) (s : Progress residues) (now : Carried residues) → sets .varied p ⊆ sets .varied q → sets .useful q ⊆ sets .useful p → With p s now → With q s now
-  move p q s now f g with-them =
+  move : (p q : ℕ) (s : Progress residues) (now : Carried residues) → sets .varied p ⊆ sets .varied q → sets .useful q ⊆ sets .useful p → Abreast p s now → Abreast q s now
+  move p q s now f g abreast =
       record {
-        sized = with-them .sized;
-        values = with-them .values;
-        agrees = rates-within (sets .varied p) (sets .varied q) (sets .useful p) (sets .useful q) v (ratesAlong (s .trace) first) (now .rates) f g (with-them .agrees);
+        sized = abreast .sized;
+        values = abreast .values;
+        agrees = rates-within (sets .varied p) (sets .varied q) (sets .useful p) (sets .useful q) v (ratesAlong (s .trace) first) (now .rates) f g (abreast .agrees);
       }
 
-  pub into-tree : (t : Tree Assignment Test) (p : ℕ) (s : Progress residues) (now : Carried residues) → Varies t p → Uses t p → With p s now → With (entry t p) s now
+  pub into-tree : (t : Tree Assignment Test) (p : ℕ) (s : Progress residues) (now : Carried residues) → Varies t p → Uses t p → Abreast p s now → Abreast (entry t p) s now
   unfolding ForwardAlong BackwardAlong
   into-tree done p s now varies uses w = w
   into-tree (one b k) p s now varies uses w = w
@@ -65,17 +65,17 @@ module _ (constants : List ℕ) (sets : Sets) (v : ℕ) (first : ℕ → ℕ) wh
   pub record Carries (t : Tree Assignment Test) (p place : ℕ) (now : Carried residues) (q : ℕ) (e : Progress residues) : Type 0 where
     pub next : Carried residues
     pub goes : plainRun residues v constants (body t p) place now ≡ through next
-    pub there : With q e next
+    pub there : Abreast q e next
 
   -- a row
   record Over (b : Assignment) (p place : ℕ) (now : Carried residues) (m : Progress residues) : Type 0 where
     next : Carried residues
     goes : carriedOver residues constants b (markBy sets p b .known) place now ≡ through next
-    there : With (suc p) m next
+    there : Abreast (suc p) m next
 
   row-over : (p place : ℕ) (b : Assignment) (s m : Progress residues) (now : Carried residues) → performed residues constants p b s ≡ through m
       → AssignmentPresent v (length constants) b → sets .varied (suc p) ≡ variedAfter b (sets .varied p)
-      → sets .useful p ≡ usefulBefore b (sets .useful (suc p)) → With p s now → Over b p place now m
+      → sets .useful p ≡ usefulBefore b (sets .useful (suc p)) → Abreast p s now → Over b p place now m
   unfolding AssignmentPresent markBy activityAt ratesAlong
   row-over p place (d ≔ source) s m now performs present varies uses w =
       let was = was-performed residues constants p d source s m performs in
@@ -104,10 +104,10 @@ module _ (constants : List ℕ) (sets : Sets) (v : ℕ) (first : ℕ → ℕ) wh
 
   -- a tree that the execution went through
   pub carried : {t : Tree Assignment Test} {p : ℕ} {s e : Progress residues} → Runs residues constants t p s e → Present v (length constants) t → Varies t p
-      → Uses t p → (q : ℕ) → q ≡ p + rows t → (place : ℕ) (now : Carried residues) → With (entry t p) s now → Carries t p place now q e
+      → Uses t p → (q : ℕ) → q ≡ p + rows t → (place : ℕ) (now : Carried residues) → Abreast (entry t p) s now → Carries t p place now q e
   unfolding Present ForwardAlong BackwardAlong rows plainRun numbered markBy
   carried (stay {p} {s}) present varies uses q end place now w =
-      record { next = now; goes = refl; there = subst (λ r. With r s now) (sym (end ∙ omega arith)) w }
+      record { next = now; goes = refl; there = subst (λ r. Abreast r s now) (sym (end ∙ omega arith)) w }
   carried (row {b} {k} {p} {s} {m} {e} performs rest) present varies uses q end place now w =
       let here = row-over p place b s m now performs (present .0) (varies .0) (uses .0) w in
       let known = markBy sets p b .known in

@@ -12,6 +12,7 @@ use Rattle.sheet.specs.Judging.{Answer, refused, given}
 use Rattle.sheet.specs.Tree.{done}
 use Rattle.sheet.specs.Sheets.{Sheet, variablesOf}
 use Rattle.sheet.specs.Reading.{read, readIn}
+use Rattle.sheet.proofs.RowsBack.{both}
 use Rattle.sheet.proofs.Settled.{given-exactly}
 use Rattle.sets.specs.Rounds.{varied, useful, required, setsOf}
 use Rattle.sets.specs.Marks.{markBy, activityAt, markedBy}
@@ -35,7 +36,6 @@ use Rattle.claims.proofs.StartExactlyWhen.{own-sets, needed, Fits, writ
 use Rattle.claims.proofs.AuditSolves.{audit-solves}
 use Rattle.claims.proofs.DemandTwoHolds.{same-as-all-saved}
 use Rattle.claims.proofs.DemandThreeHolds.{demand-three}
-use Rattle.claims.proofs.ForwardEquationSolved.{both}
 use Rattle.claims.proofs.BalanceHolds.{balance}
 
 -- the sheet that words are, where they are one

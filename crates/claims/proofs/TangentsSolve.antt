@@ -46,7 +46,7 @@ use Rattle.claims.proofs.AuditSolves.{sound}
 use Rattle.claims.proofs.TangentsHold.{tangent-started}
 use Rattle.claims.proofs.FullRates.{ratesAlong}
 use Rattle.claims.proofs.ForwardEquationSolved.{startingRate, forward-solvable, full-rates-solve}
-use Rattle.claims.proofs.LeanRatesAlong.{With, Carries, into-tree, carried}
+use Rattle.claims.proofs.LeanRatesAlong.{Abreast, Carries, into-tree, carried}
 
 pub starting-below : (roles rates : List ℕ) → AreResidues rates → (x : ℕ) → startingRate roles rates x < modulus
 unfolding startingRate
@@ -74,7 +74,7 @@ module _ (words starts rates : List ℕ) (below : AreResidues rates) (lent : Len
   execution-is = execution-goes sheet starts (ready .lengths .startValues) (soundly .present) (soundly .feasible)
 
   -- at the start the rates are the starting ones, which only independents have
-  begins : With (sheet .constants) (setsOf sheet) v first 0 (beginning residues starts)
+  begins : Abreast (sheet .constants) (setsOf sheet) v first 0 (beginning residues starts)
       (record { values = starts; rates = startingRates residues (sheet .roles) rates })
   unfolding variedEquations Satisfy startingRate ratesAlong
   begins =
