@@ -34,7 +34,7 @@ use Rattle.claims.specs.Demands.{RunExactly, AuditSolves, AuditMeets}
 use Rattle.claims.specs.Tangents.{TangentAuditMeets}
 use Rattle.claims.specs.Balance.{TangentSolves, sumBelow, sumOver, seedsByRates, adjointsByRates, Balances, Weighed, weighedOf, BalanceMeets}
 use Rattle.claims.specs.ThreeDemands.{AreResidues, DirectionsBalance}
-use Rattle.claims.specs.inner.Summing.{dotOf, SumsTold}
+use Rattle.claims.specs.inner.Summing.{dotOf, sumsIfDone}
 use Rattle.claims.proofs.Runs.{runs}
 use Rattle.claims.proofs.StartExactlyWhen.{accepted-reads, OwnRunnable, own-run}
 use Rattle.claims.proofs.EquationTwoSolved.{seedAt, full-sweep-solves}
@@ -139,7 +139,7 @@ module _ (words starts seeds rates : List ℕ) (residueSeeds : AreResidues seeds
     (adjoint tangent : Reply) (adjointRan : ranOf residues adjoint after ≡ run residues words starts seeds before)
     (tangentRan : ranOf residues tangent after′ ≡ runTangent residues words starts rates before′)
     (kept : length (after .result) ≡ length (before .result)) (kept′ : length (after′ .result) ≡ length (before′ .result)) (answer : Sums)
-    (told : SumsTold adjoint tangent (length starts) seeds rates (after .result) (after′ .result) answer) where
+    (told : answer ≡ sumsIfDone adjoint tangent (length starts) seeds rates (after .result) (after′ .result)) where
   both : RunsBoth words starts seeds rates before after before′ after′ adjoint tangent adjointRan tangentRan kept kept′ answer
   both = runs-both words starts seeds rates before after before′ after′ adjoint tangent adjointRan tangentRan kept kept′ answer told
 

@@ -1,11 +1,14 @@
--- What `dot`, `both_sums` and `balance` of src/lib.rt rest on: a sum grows by one product at each place, and where both runs answer 0, each list that
+-- What `dot`, `summed`, `summed_if_done` and `balance` of src/lib.rt rest on: a sum grows by one product at each place, and where both runs answer 0, each list that
 -- is summed over has a number for each variable.
 use Prim.Native.Nat.{ℕ, suc, _+_, _-_, _*_, _≤_}
-use mathlib.Core.Path.{_≡_, refl, sym, ap, subst, _∙_}
+use mathlib.Core.Path.{_≡_, refl, sym, ap, ap₂, subst, _∙_}
+use mathlib.Core.Bool.{Bool, true, false, cond, and-false}
 use mathlib.Core.List.{List}
 use mathlib.Core.Logic.{_≢_, _⊎_, inl, inr}
-use lib.ListN.{length, take, drop, getD, length-drop}
+use lib.ListN.{length, take, drop, getD}
+use lib.Dec.{eqb}
 use borrow.Rule.Slice.PartAt.{part-to-end}
+use borrow.Author.Tests.{eq-eqb, ne-eqb}
 use native.Mathlib.Omega.{arith}
 use Rattle.number.specs.Arithmetic.{value}
 use Rattle.number.specs.Residues.{residue, residues}
@@ -20,7 +23,7 @@ use Rattle.tangent.specs.Calls.{runTangent}
 use Rattle.claims.specs.declared.Sums.{Sums}
 use Rattle.claims.specs.ExactlyWhen.{LengthsRight}
 use Rattle.claims.specs.Balance.{sumBelow}
-use Rattle.claims.specs.inner.Summing.{dotOf, HalvesLong, SumsTold}
+use Rattle.claims.specs.inner.Summing.{dotOf, HalvesLong, sumsOf, noSums, bothDone, sumsIfDone}
 use Rattle.claims.proofs.DemandOneHolds.{run-call}
 use Rattle.claims.proofs.TangentsHold.{tangent-call}
 
@@ -61,34 +64,38 @@ module _ (ones others : List ℕ) where
       let all : i ≡ length ones = omega (arith, before .within) in
       before .is ∙ ap (λ n. residue (sumBelow n productAt)) all
 
--- ---- the sums over the results' second halves
+-- ---- the sums over the results' second halves, which are handed on as parts up to the results' ends
 
--- a second half as it is handed on, from V to the result's end, has a number for each variable
-half-long : (variables : ℕ) (result : List ℕ) → length result ≡ 2 * variables → length (take (length result - variables) (drop variables result)) ≡ variables
-half-long variables result long = rw (part-to-end result variables) (omega (arith, length-drop variables result))
+pub sums-are : (adjoint tangent : Reply) (variables : ℕ) (seeds rates adjoints tangents : List ℕ) {ofRates ofAdjoints : ℕ}
+    → ofRates ≡ dotOf seeds (take (length tangents - variables) (drop variables tangents))
+    → ofAdjoints ≡ dotOf (take (length adjoints - variables) (drop variables adjoints)) rates
+    → record { adjoint = adjoint; tangent = tangent; «of_rates» = ofRates; «of_adjoints» = ofAdjoints }
+    ≡ sumsOf adjoint tangent variables seeds rates adjoints tangents
+unfolding sumsOf
+sums-are adjoint tangent variables seeds rates adjoints tangents ofRates ofAdjoints =
+    ap₂ (λ (x y : ℕ). record { adjoint = adjoint; tangent = tangent; «of_rates» = x; «of_adjoints» = y })
+    (ofRates ∙ ap (dotOf seeds) (part-to-end tangents variables)) (ofAdjoints ∙ ap (λ half. dotOf half rates) (part-to-end adjoints variables))
 
-module _ {variables : ℕ} {seeds rates adjoints tangents : List ℕ} (long : HalvesLong variables seeds rates adjoints tangents) where
-  pub tangents-long : length seeds ≤ length (take (length tangents - variables) (drop variables tangents))
-  tangents-long = omega (arith, half-long variables tangents (long .tangentResults), long .seedValues)
+module _ (adjoint tangent : Reply) where
+  pub done-both : adjoint .number ≡ 0 → tangent .number ≡ 0 → bothDone adjoint tangent ≡ true
+  unfolding bothDone
+  done-both zero zero′ = rw (eq-eqb _ 0 zero, eq-eqb _ 0 zero′)
 
-  pub rates-long : length (take (length adjoints - variables) (drop variables adjoints)) ≤ length rates
-  rates-long = omega (arith, half-long variables adjoints (long .adjointResults), long .rateValues)
+  pub not-both : (adjoint .number ≢ 0) ⊎ (tangent .number ≢ 0) → bothDone adjoint tangent ≡ false
+  unfolding bothDone
+  not-both (inl some) = rw (ne-eqb _ 0 some)
+  not-both (inr some) = rw (ne-eqb _ 0 some, and-false (eqb (adjoint .number) 0))
 
-  pub sums-told : {answers : Sums} → answers .adjoint .number ≡ 0 → answers .tangent .number ≡ 0
-      → answers .«of_rates» ≡ dotOf seeds (take (length tangents - variables) (drop variables tangents))
-      → answers .«of_adjoints» ≡ dotOf (take (length adjoints - variables) (drop variables adjoints)) rates
-      → SumsTold (answers .adjoint) (answers .tangent) variables seeds rates adjoints tangents answers
-  sums-told {answers} zero zero′ of-rates of-adjoints =
-      record {
-        sameAdjoint = refl;
-        sameTangent = refl;
-        sums = λ _ _. (of-rates ∙ ap (dotOf seeds) (part-to-end tangents variables), of-adjoints ∙ ap (λ half. dotOf half rates) (part-to-end adjoints variables));
-        none = none-refused;
-      }
-    where
-      none-refused : (answers .adjoint .number ≢ 0) ⊎ (answers .tangent .number ≢ 0) → (answers .«of_rates» ≡ 0) × (answers .«of_adjoints» ≡ 0)
-      none-refused (inl some) = absurd (some zero)
-      none-refused (inr some) = absurd (some zero′)
+  module _ (variables : ℕ) (seeds rates adjoints tangents : List ℕ) where
+    pub summed-where : {r : Sums} → adjoint .number ≡ 0 → tangent .number ≡ 0 → r ≡ sumsOf adjoint tangent variables seeds rates adjoints tangents
+        → r ≡ sumsIfDone adjoint tangent variables seeds rates adjoints tangents
+    unfolding sumsIfDone
+    summed-where zero zero′ e = rw (done-both zero zero′) e
+
+    pub unsummed-where : (adjoint .number ≢ 0) ⊎ (tangent .number ≢ 0)
+        → noSums adjoint tangent ≡ sumsIfDone adjoint tangent variables seeds rates adjoints tangents
+    unfolding sumsIfDone
+    unsummed-where some = rw (not-both some)
 
 -- ---- what a run that answered 0 was given, by its exactness: as many numbers as start values, and twice as many for its result
 
@@ -141,19 +148,34 @@ module _ (words starts seeds rates : List ℕ) (before after before′ after′ 
         × (answer .«of_adjoints» ≡ dotOf (drop (length starts) (after .result)) rates)
     pub none : (answer .adjoint .number ≢ 0) ⊎ (answer .tangent .number ≢ 0) → (answer .«of_rates» ≡ 0) × (answer .«of_adjoints» ≡ 0)
 
-  pub runs-both : (answer : Sums) → SumsTold adjoint tangent (length starts) seeds rates (after .result) (after′ .result) answer
-      → RunsBoth answer
-  runs-both answer told =
-      let same = ap (λ reply. reply .number) (told .sameAdjoint) in
-      let same′ = ap (λ reply. reply .number) (told .sameTangent) in
+  pub runs-both : (answer : Sums) → answer ≡ sumsIfDone adjoint tangent (length starts) seeds rates (after .result) (after′ .result) → RunsBoth answer
+  unfolding sumsIfDone
+  runs-both answer is =
+      let same = ap (λ sums. sums .adjoint) is ∙ same-adjoint (bothDone adjoint tangent) in
+      let same′ = ap (λ sums. sums .tangent) is ∙ same-tangent (bothDone adjoint tangent) in
+      let number = ap (λ reply. reply .number) same in
+      let number′ = ap (λ reply. reply .number) same′ in
       record {
-        long = λ zero zero′. both-long (sym same ∙ zero) (sym same′ ∙ zero′);
-        adjoint-ran = ap (λ reply. ranOf residues reply after) (told .sameAdjoint) ∙ adjointRan;
-        tangent-ran = ap (λ reply. ranOf residues reply after′) (told .sameTangent) ∙ tangentRan;
-        sums = λ zero zero′. told .sums (sym same ∙ zero) (sym same′ ∙ zero′);
-        none = λ refused. told .none (as-handed same same′ refused);
+        long = λ zero zero′. both-long (sym number ∙ zero) (sym number′ ∙ zero′);
+        adjoint-ran = ap (λ reply. ranOf residues reply after) same ∙ adjointRan;
+        tangent-ran = ap (λ reply. ranOf residues reply after′) same′ ∙ tangentRan;
+        sums = λ zero zero′. let told = is ∙ ap chosen (done-both adjoint tangent (sym number ∙ zero) (sym number′ ∙ zero′)) in
+            (ap (λ sums. sums .«of_rates») told, ap (λ sums. sums .«of_adjoints») told);
+        none = λ refused. let told = is ∙ ap chosen (not-both adjoint tangent (as-handed number number′ refused)) in
+            (ap (λ sums. sums .«of_rates») told, ap (λ sums. sums .«of_adjoints») told);
       }
     where
+      chosen : Bool → Sums
+      chosen done = cond done (sumsOf adjoint tangent (length starts) seeds rates (after .result) (after′ .result)) (noSums adjoint tangent)
+
+      same-adjoint : (done : Bool) → chosen done .adjoint ≡ adjoint
+      same-adjoint true = refl
+      same-adjoint false = refl
+
+      same-tangent : (done : Bool) → chosen done .tangent ≡ tangent
+      same-tangent true = refl
+      same-tangent false = refl
+
       as-handed : {m m′ n n′ : ℕ} → m ≡ n → m′ ≡ n′ → (m ≢ 0) ⊎ (m′ ≢ 0) → (n ≢ 0) ⊎ (n′ ≢ 0)
       as-handed is is′ (inl some) = inl (λ zero. some (is ∙ zero))
       as-handed is is′ (inr some) = inr (λ zero. some (is′ ∙ zero))

@@ -12,7 +12,7 @@ ghost use Rattle.plain.specs.Carries.{carryOf};
 ghost use Rattle.claims.specs.Demands.{CheckExactly, WriteExactly, RunMeets, AuditMeets};
 ghost use Rattle.claims.specs.Tangents.{TangentWriteExactly, TangentMeets, TangentAuditMeets, PlainMeets};
 ghost use Rattle.claims.specs.Balance.{weighedOf, BalanceMeets};
-ghost use Rattle.claims.specs.inner.Summing.{dotOf, HalvesLong, SumsTold};
+ghost use Rattle.claims.specs.inner.Summing.{dotOf, HalvesLong, sumsOf, sumsIfDone};
 
 // What both runs answer, and 02 §5's two sums.
 struct Sums {
@@ -118,8 +118,31 @@ fn dot(ones: &[u32], others: &[u32]) -> u32
     sum
 }
 
-// Both sums where both runs answered 0, over the second halves of what they left; where one refused there is nothing to sum.
-fn both_sums(
+// Both sums, over the second halves of what both runs left.
+fn summed(
+    adjoint: table::Reply,
+    tangent: table::Reply,
+    variables: usize,
+    seeds: &[u32],
+    rates: &[u32],
+    adjoints: &[u32],
+    tangents: &[u32],
+) -> Sums
+    requires { ⌜ HalvesLong variables (now seeds) (now rates) (now adjoints) (now tangents) ⌝ }
+    ensures { λ r. ⌜ r ≡ sumsOf adjoint tangent variables (now (seeds .entry)) (now (rates .entry)) (now (adjoints .entry)) (now (tangents .entry)) ⌝ }
+{
+    let of_rates = dot(seeds, &tangents[variables..]);
+    let of_adjoints = dot(&adjoints[variables..], rates);
+    Sums {
+        adjoint,
+        tangent,
+        of_rates,
+        of_adjoints,
+    }
+}
+
+// Where one run refused there is nothing to sum.
+fn summed_if_done(
     adjoint: table::Reply,
     tangent: table::Reply,
     variables: usize,
@@ -129,18 +152,19 @@ fn both_sums(
     tangents: &[u32],
 ) -> Sums
     requires { ⌜ (adjoint .number ≡ 0 → tangent .number ≡ 0 → HalvesLong variables (now seeds) (now rates) (now adjoints) (now tangents)) ⌝ }
-    ensures { λ r. ⌜ SumsTold adjoint tangent variables (now (seeds .entry)) (now (rates .entry)) (now (adjoints .entry)) (now (tangents .entry)) r ⌝ }
+    ensures { λ r. ⌜ r ≡ sumsIfDone adjoint tangent variables (now (seeds .entry)) (now (rates .entry)) (now (adjoints .entry)) (now (tangents .entry)) ⌝ }
 {
     if adjoint.number == table::DONE {
         if tangent.number == table::DONE {
-            let of_rates = dot(seeds, &tangents[variables..]);
-            let of_adjoints = dot(&adjoints[variables..], rates);
-            return Sums {
+            return summed(
                 adjoint,
                 tangent,
-                of_rates,
-                of_adjoints,
-            };
+                variables,
+                seeds,
+                rates,
+                adjoints,
+                tangents,
+            );
         }
     }
     Sums {
@@ -173,7 +197,7 @@ fn balance(
     let adjoint = run::run_audit(words, table, values, turns, starts, seeds, adjoints);
     let tangent = tangent::tangent_audit(words, tangent_table, starts, rates, tangents);
     let variables = starts.len();
-    both_sums(
+    summed_if_done(
         adjoint,
         tangent,
         variables,

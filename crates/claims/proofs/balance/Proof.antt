@@ -12,8 +12,8 @@ run-audit-requires c κs = search needs
 tangent-audit-requires : tie.Need-tangent-audit-requires
 tangent-audit-requires c κs = search needs
 
-both-sums-requires : tie.Need-both-sums-requires
-both-sums-requires c κs =
+summed-if-done-requires : tie.Need-summed-if-done-requires
+summed-if-done-requires c κs =
     let adjoint : tie.After-run-audit = search in
     let tangent : tie.After-tangent-audit = search in
     both-long _ _ _ _ _ _ _ _ _ _ (adjoint .run-audit .ensures) (tangent .tangent-audit .ensures) (adjoint .run-audit .kept .1 .1 .1 .1 .1 .1 .0)
@@ -44,7 +44,7 @@ returns c =
     let rates : tie.After-shared-slice-known4 = adjoint .before .before .before .before .before .before .before in
     let seeds : tie.After-shared-slice-known3 = rates .before in
     balance-meets _ _ _ _ (λ x. omega (arith, seeds .shared-slice-known3 .given x)) (λ x. omega (arith, rates .shared-slice-known4 .given x)) _ _ _ _ _ _ (adjoint .run-audit .ensures) (tangent .tangent-audit .ensures)
-    (adjoint .run-audit .kept .1 .1 .1 .1 .1 .1 .0) (tangent .tangent-audit .kept .1 .1 .1 .1 .0) _ (c .both-sums .ensures)
+    (adjoint .run-audit .kept .1 .1 .1 .1 .1 .1 .0) (tangent .tangent-audit .kept .1 .1 .1 .1 .0) _ (c .summed-if-done .ensures)
 
 pub balance-spec : {M : Type 1} → statement M
 balance-spec =
@@ -52,7 +52,7 @@ balance-spec =
     (tie.spec
     run-audit-requires
     tangent-audit-requires
-    both-sums-requires
+    summed-if-done-requires
     same-length
     same-length-2
     same-length-3
