@@ -13,13 +13,11 @@ use Rattle.sheet.specs.Judging.{Answer, given}
 use Rattle.sheet.specs.Names.{Present}
 use Rattle.sheet.specs.Rows.{isIndependent, isDependent}
 use Rattle.sheet.specs.Sheets.{Sheet, variablesOf}
-use Rattle.sheet.specs.Reading.{read}
 use Rattle.sheet.proofs.NamesPresent.{names-present}
 use Rattle.sets.specs.Marks.{Sets}
 use Rattle.sets.specs.Rounds.{setsOf}
 use Rattle.table.specs.Sizes.{Needs, needsBy}
 use Rattle.table.specs.declared.Reply.{Reply}
-use Rattle.machine.specs.Actions.{through}
 use Rattle.machine.proofs.AttemptLaws.{same-through}
 use Rattle.run.specs.Runs.{Lent, Ran, ranOf, Job}
 use Rattle.run.specs.Calls.{run}

@@ -2,7 +2,7 @@
 -- where a variable isn't varied the full rate is 0, and where it is useful the lean rate is the full one.
 use Prim.Native.Nat.{ℕ, _+_, _*_, _<_}
 use mathlib.Core.Path.{_≡_, refl, sym, ap, _∙_}
-use mathlib.Core.Bool.{Bool, true, false, _&&_, cond}
+use mathlib.Core.Bool.{Bool, true, false, cond}
 use mathlib.Core.List.{List, []}
 use mathlib.Core.Option.{Option, none, some}
 use lib.ListN.{length, getD, set, length-set}
@@ -16,13 +16,11 @@ use Rattle.number.specs.Residues.{modulus, residue, opposite, residues}
 use Rattle.number.proofs.ResidueLaws.{residue-below, residue-same, residue-zero, residue-sum-left, residue-sum-right, opposite-of-one}
 use Rattle.sheet.specs.Rows.{_≔_, Source, copy, fixed, sum, difference, product, negation, quotient}
 use Rattle.sheet.specs.Names.{SourcePresent, SourceFeasible}
-use Rattle.sets.specs.VariableSets.{VariableSet, has, hasSome, single, singleSome, _⊆_}
+use Rattle.sets.specs.VariableSets.{VariableSet, has, hasSome, singleSome, _⊆_}
 use Rattle.sets.specs.Transfers.{firstRead, secondRead, anyRead, reads, variedAfter, usefulBefore, Activity, activityOf}
-use Rattle.sets.proofs.Truths.{T-of}
 use Rattle.sets.proofs.VariableSetLaws.{single-has, union-left, union-right}
 use Rattle.machine.specs.Actions.{through, look, evaluated}
 use Rattle.machine.proofs.PlaceLaws.{look-there}
-use Rattle.tangent.specs.Tangent.{fromVaried, rateCount}
 use Rattle.plain.specs.Plain.{Carried, stoppingIn, activeRate, rateFor, carriedOver}
 use Rattle.claims.proofs.EquationTwoSolved.{firstFactor, secondFactor}
 use Rattle.claims.proofs.FullRates.{OperandPresent, operands-present, rateRead, rateGiven, rateStep}

@@ -3,7 +3,7 @@
 use Prim.Native.Nat.{ℕ, suc, _+_}
 use mathlib.Core.Path.{_≡_, refl, sym, ap, subst, _∙_}
 use mathlib.Core.Bool.{true, false}
-use mathlib.Core.List.{List, _∷_}
+use mathlib.Core.List.{List}
 use mathlib.Core.Option.{some}
 use lib.ListN.{length, set}
 use native.Mathlib.Omega.{arith}
@@ -11,7 +11,7 @@ use Rattle.number.specs.Residues.{residues}
 use Rattle.sheet.specs.Tree.{Tree, done, one, fork, again, rows}
 use Rattle.sheet.specs.Rows.{Assignment, _≔_, Test}
 use Rattle.sheet.specs.Names.{AssignmentPresent, Present}
-use Rattle.sets.specs.VariableSets.{VariableSet, _⊆_}
+use Rattle.sets.specs.VariableSets.{_⊆_}
 use Rattle.sets.specs.Transfers.{variedAfter, usefulBefore}
 use Rattle.sets.specs.Marks.{Sets, numbered, markBy, activityAt}
 use Rattle.sets.proofs.EquationsAlong.{ForwardAlong, BackwardAlong}
@@ -21,7 +21,7 @@ use Rattle.tangent.specs.Tangent.{tangentRows, rowsOver}
 use Rattle.plain.specs.Plain.{Carried, carriedOver, plainRun}
 use Rattle.claims.specs.IdealSweep.{Progress, performed, turned}
 use Rattle.claims.proofs.Runs.{Runs, stay, row, left, right, last, more, was-performed, performed-feasible}
-use Rattle.claims.proofs.RunsKeepSizes.{performed-keeps, runs-keep}
+use Rattle.claims.proofs.RunsKeepSizes.{performed-keeps}
 use Rattle.claims.proofs.FullRates.{rateStep, ratesAlong}
 use Rattle.claims.proofs.LeanRates.{RatesAgree, rates-within, stepped}
 use Rattle.claims.proofs.LeanSweep.{in-same, in-left, in-right, entry}
