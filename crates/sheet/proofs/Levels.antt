@@ -10,7 +10,7 @@ use native.Mathlib.Omega.{arith}
 use Rattle.sheet.specs.Bounds.{limit}
 use Rattle.sheet.specs.Judging.{Answer, refused, given}
 use Rattle.sheet.specs.Refusals.{badBlock}
-use Rattle.sheet.specs.Tree.{Tree, done, one, fork, again, basic, ifLine, elseLine, endIf, repeat, endRepeat, longestRun}
+use Rattle.sheet.specs.Tree.{mostTurns, Tree, done, one, fork, again, basic, ifLine, elseLine, endIf, repeat, endRepeat, longestRun}
 use Rattle.sheet.specs.Rows.{Assignment, Test, SheetLine}
 use Rattle.sheet.specs.Reading.{Item, row, branches, repeated, Block, inFirst, inSecond, inRepeat, closed, RowsTaken}
 use Rattle.sheet.specs.Reading.{entered, splitAt, ifEndedAt, repeatEndedAt, taken}
@@ -32,7 +32,7 @@ abbrev pub itemsRun : List Item → ℕ
 itemsRun [] = 0
 itemsRun (row b ∷ items) = itemsRun items + 1
 itemsRun (branches f a b ∷ items) = itemsRun items + (1 + max (longestRun a) (longestRun b))
-itemsRun (repeated m a ∷ items) = itemsRun items + (1 + suc m * (1 + longestRun a))
+itemsRun (repeated m a ∷ items) = itemsRun items + (1 + mostTurns m * (1 + longestRun a))
 
 closed-run : (items : List Item) (t : Tree Assignment Test) → longestRun (closed items t) ≡ itemsRun items + longestRun t
 unfolding longestRun closed
@@ -50,7 +50,7 @@ abbrev pub openOf : List Block → Open
 openOf [] = block.Outermost
 openOf (inFirst f outer ∷ blocks) = block.First
 openOf (inSecond f a outer ∷ blocks) = block.Second (saturated (longestRun a))
-openOf (inRepeat m outer ∷ blocks) = block.Turns (suc m)
+openOf (inRepeat m outer ∷ blocks) = block.Turns (mostTurns m)
 
 abbrev pub levelOf : List Block → List Item → Level
 levelOf blocks items = record { block = openOf blocks; longest = saturated (itemsRun items) }
@@ -188,5 +188,5 @@ module _ (place : ℕ) (levels : List Level) where
     line-follows (ifLine f) = entered-follows blocks items stands (inFirst f items) block.First refl refl _ refl
     line-follows elseLine = split-follows blocks items stands
     line-follows endIf = if-ended-follows blocks items stands
-    line-follows (repeat m) = entered-follows blocks items stands (inRepeat m items) (block.Turns (suc m)) refl refl _ refl
+    line-follows (repeat m) = entered-follows blocks items stands (inRepeat m items) (block.Turns (mostTurns m)) refl refl _ refl
     line-follows endRepeat = repeat-ended-follows blocks items stands

@@ -1,6 +1,6 @@
 -- What a row is to the blocks, by the table of kinds, is what its line is to them.
 use mathlib.Core.Path.{_≡_, refl, ap, _∙_, sym}
-use Rattle.sheet.specs.Tree.{basic, ifLine, elseLine, endIf, repeat, endRepeat}
+use Rattle.sheet.specs.Tree.{times, while, basic, ifLine, elseLine, endIf, repeat, endRepeat}
 use Rattle.sheet.specs.Rows.{_≔_, copy, fixed, sum, difference, product, negation, quotient, less, SheetLine, Row, sheetRowOf}
 use Rattle.sheet.specs.inner.Kinds.{partOf, formFor, partFor}
 use Rattle.sheet.specs.inner.RowLines.{lineOfRow, SaysLine}
@@ -17,7 +17,8 @@ line-part (basic (d ≔ quotient a b)) = refl
 line-part (ifLine (less a b)) = refl
 line-part elseLine = refl
 line-part endIf = refl
-line-part (repeat m) = refl
+line-part (repeat (times m)) = refl
+line-part (repeat (while (less a b) m)) = refl
 line-part endRepeat = refl
 
 pub row-part : {r : Row} → SaysLine r → partOf (lineOfRow r) ≡ partFor (r .kind)

@@ -7,7 +7,7 @@ use lib.Dec.{ltb}
 use Rattle.sheet.specs.Bounds.{limit}
 use Rattle.sheet.specs.Judging.{given, unless}
 use Rattle.sheet.specs.Refusals.{badBlock}
-use Rattle.sheet.specs.Tree.{Tree, done, basic, ifLine, elseLine, endIf, repeat, endRepeat}
+use Rattle.sheet.specs.Tree.{Loop, Tree, done, basic, ifLine, elseLine, endIf, repeat, endRepeat}
 use Rattle.sheet.specs.Rows.{Assignment, Test, SheetLine}
 use Rattle.sheet.specs.Reading.{Item, row, branches, repeated, Block, inFirst, inSecond, inRepeat, closed, RowsTaken}
 use Rattle.sheet.specs.Reading.{entered, splitAt, ifEndedAt, repeatEndedAt, taken}
@@ -26,9 +26,9 @@ pub data Takes : SheetLine → List Block → List Item → RowsTaken → Type 0
       → Takes elseLine (inFirst f outer ∷ blocks) items (record { blocks = inSecond f (closed items done) outer ∷ blocks; items = [] })
   endsIf : {f : Test} {a : Body} {outer items : List Item} {blocks : List Block}
       → Takes endIf (inSecond f a outer ∷ blocks) items (record { blocks = blocks; items = branches f a (closed items done) ∷ outer })
-  opensRepeat : {m : ℕ} {blocks : List Block} {items : List Item} → length blocks < limit .depth
+  opensRepeat : {m : Loop Test} {blocks : List Block} {items : List Item} → length blocks < limit .depth
       → Takes (repeat m) blocks items (record { blocks = inRepeat m items ∷ blocks; items = [] })
-  endsRepeat : {m : ℕ} {outer items : List Item} {blocks : List Block}
+  endsRepeat : {m : Loop Test} {outer items : List Item} {blocks : List Block}
       → Takes endRepeat (inRepeat m outer ∷ blocks) items (record { blocks = blocks; items = repeated m (closed items done) ∷ outer })
 
 -- a block that is entered has room, and nothing has been read in it

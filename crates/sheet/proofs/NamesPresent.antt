@@ -14,7 +14,7 @@ use Rattle.sheet.specs.Refusals.{wordsEnd, countBeyond, badRow}
 use Rattle.sheet.specs.Tree.{Tree, done, one, fork, again, basic, ifLine, elseLine, endIf, repeat, endRepeat}
 use Rattle.sheet.specs.Reading.{fits, wordsFit, countAt, lineBy, lineOf, taken, bodyOf, read, Item, row, branches, repeated, Block, inFirst, inSecond, inRepeat, closed, RowsTaken}
 use Rattle.sheet.specs.Rows.{Assignment, Test, SheetLine, Row, variable, constant, Kind, kindOf}
-use Rattle.sheet.specs.Names.{SourcePresent, AssignmentPresent, TestPresent, Present}
+use Rattle.sheet.specs.Names.{SourcePresent, AssignmentPresent, TestPresent, LoopPresent, Present}
 use Rattle.sheet.specs.Sheets.{Sheet}
 use Rattle.sheet.proofs.Judgements.{leb-tells, ltb-tells}
 use Rattle.sheet.proofs.EachKind.{each-kind, _then_, gap, end}
@@ -33,20 +33,20 @@ module _ (v k : ℕ) where
   LinePresent (ifLine f) = TestPresent v f
   LinePresent elseLine = Unit {0}
   LinePresent endIf = Unit {0}
-  LinePresent (repeat m) = Unit {0}
+  LinePresent (repeat l) = LoopPresent v l
   LinePresent endRepeat = Unit {0}
 
   ItemsPresent : List Item → Type 0
   ItemsPresent [] = Unit {0}
   ItemsPresent (row b ∷ items) = AssignmentPresent v k b × ItemsPresent items
   ItemsPresent (branches f a b ∷ items) = TestPresent v f × Present v k a × Present v k b × ItemsPresent items
-  ItemsPresent (repeated m a ∷ items) = Present v k a × ItemsPresent items
+  ItemsPresent (repeated l a ∷ items) = Present v k a × ItemsPresent items × LoopPresent v l
 
   BlocksPresent : List Block → Type 0
   BlocksPresent [] = Unit {0}
   BlocksPresent (inFirst f outer ∷ blocks) = TestPresent v f × ItemsPresent outer × BlocksPresent blocks
   BlocksPresent (inSecond f a outer ∷ blocks) = TestPresent v f × Present v k a × ItemsPresent outer × BlocksPresent blocks
-  BlocksPresent (inRepeat m outer ∷ blocks) = ItemsPresent outer × BlocksPresent blocks
+  BlocksPresent (inRepeat l outer ∷ blocks) = ItemsPresent outer × BlocksPresent blocks × LoopPresent v l
 
   record ReadPresent (next : RowsTaken) : Type 0 where
     blocks : BlocksPresent (next .blocks)
@@ -57,7 +57,7 @@ module _ (v k : ℕ) where
   closed-present [] rest h r = r
   closed-present (row b ∷ items) rest h r = closed-present items (one b rest) (h .1) (h .0, r)
   closed-present (branches f a b ∷ items) rest h r = closed-present items (fork f a b rest) (h .3) (h .0, h .1, h .2, r)
-  closed-present (repeated m a ∷ items) rest h r = closed-present items (again m a rest) (h .1) (h .0, r)
+  closed-present (repeated l a ∷ items) rest h r = closed-present items (again l a rest) (h .1) (h .0, r, h .2)
 
   -- ---- one row more
 
@@ -92,6 +92,7 @@ module _ (v k : ℕ) where
       then (λ p q r. tt)
       then gap (gap (gap (gap (gap (gap
       ((λ p q r. (variable-there d p, (variable-there a q, variable-there b r)))
+      then (λ p q r. (variable-there a q, variable-there b r))
       then end)))))))
 
   line-by-present : (r : Row) (place : ℕ) (l : SheetLine) (o : Option Kind) → Names o (r .d) (r .a) (r .b)
@@ -114,8 +115,8 @@ module _ (v k : ℕ) where
   taken-present (opensIf room) hl hb hi = record { blocks = (hl, hi, hb); items = tt }
   taken-present {items = items} splits hl hb hi = record { blocks = (hb .0, closed-present items done hi tt, hb .1, hb .2); items = tt }
   taken-present {items = items} endsIf hl hb hi = record { blocks = hb .3; items = (hb .0, hb .1, closed-present items done hi tt, hb .2) }
-  taken-present (opensRepeat room) hl hb hi = record { blocks = (hi, hb); items = tt }
-  taken-present {items = items} endsRepeat hl hb hi = record { blocks = hb .1; items = (closed-present items done hi tt, hb .0) }
+  taken-present (opensRepeat room) hl hb hi = record { blocks = (hi, hb, hl); items = tt }
+  taken-present {items = items} endsRepeat hl hb hi = record { blocks = hb .1; items = (closed-present items done hi tt, hb .0, hb .2) }
 
   -- ---- all rows
 

@@ -13,10 +13,10 @@ use borrow.Author.Tests.{le-leb, lt-leb, lt-ltb, le-ltb, ne-eqb}
 use Rattle.sheet.specs.Bounds.{limit}
 use Rattle.sheet.specs.Judging.{Answer, refused, given}
 use Rattle.sheet.specs.Refusals.{badRow}
-use Rattle.sheet.specs.Tree.{basic, ifLine, elseLine, endIf, repeat, endRepeat}
+use Rattle.sheet.specs.Tree.{mostTurns, basic, ifLine, elseLine, endIf, repeat, endRepeat}
 use Rattle.sheet.specs.Reading.{fits, wordsFit, lineBy, lineOf}
 use Rattle.sheet.specs.Rows.{Slot, variable, constant, turns, unused, SheetLine, Row, Kind, kinds, kindOf}
-use Rattle.sheet.specs.inner.Kinds.{slotOf, partOf, formOf, formBy, formFor, noForm, allForms, partFor}
+use Rattle.sheet.specs.inner.Kinds.{slotOf, partOf, formOf, formBy, formFor, noForm, allForms, partFor, turnsIn}
 use Rattle.sheet.specs.inner.Steps.{leastOf, beyondOf, ruleOf, noRule, RulesFor, inRange, fitsRule, fitsKind, rowFits, stepOf}
 use Rattle.sheet.specs.declared.kinds.Form.{Form}
 use Rattle.sheet.specs.declared.Rule.{Rule}
@@ -110,6 +110,7 @@ module _ (v k : ℕ) where
         then kind-fits _ refl
         then gap (gap (gap (gap (gap (gap
         (kind-fits _ refl
+        then kind-fits _ refl
         then end)))))))
 
     pub above-all-kinds : length kinds < r .kind → rowFits v k r ≡ false
@@ -154,19 +155,19 @@ made-on {v} {k} {rules} {kind} made rule l e =
 
 -- ---- as the blocks see it
 
--- what a line is to the blocks besides: a repeat's count
+-- what a line is to the blocks besides: the most turns of a loop
 abbrev pub turnsOf : SheetLine → ℕ
 turnsOf (basic b) = 0
 turnsOf (ifLine f) = 0
 turnsOf elseLine = 0
 turnsOf endIf = 0
-turnsOf (repeat m) = suc m
+turnsOf (repeat m) = mostTurns m
 turnsOf endRepeat = 0
 
 -- a row does to the blocks what its line does
 abbrev SameStep : Row → SheetLine → Type 0
 SameStep r line = (depth : ℕ) (inner outer : Level)
-    → stepOf (partFor (r .kind)) (r .a) depth inner outer ≡ stepOf (partOf line) (turnsOf line) depth inner outer
+    → stepOf (partFor (r .kind)) (turnsIn r) depth inner outer ≡ stepOf (partOf line) (turnsOf line) depth inner outer
 
 pub data Judged (place : ℕ) (r : Row) : Bool → Answer SheetLine → Type 0 where
   unfit : Judged place r false (refused (badRow place))
@@ -191,7 +192,7 @@ module _ (v k place d a b : ℕ) where
   unfolding lineBy
   not-seen n = unfit
 
-  -- a repeat's count is not 0, so that it comes back from its line
+  -- a loop's count is not 0, so that it comes back from its line
   seen-by-kind : (n : ℕ) → Seen n (kindOf n)
   unfolding formFor stepOf
   seen-by-kind =
@@ -209,6 +210,7 @@ module _ (v k place d a b : ℕ) where
       then seen 11 _ (λ fit depth inner outer. refl)
       then gap (gap (gap (gap (gap (gap
       (seen 18 _ (λ fit depth inner outer. refl)
+      then seen 19 _ (λ fit depth inner outer. ap (λ m. stepOf part.Repeat m depth inner outer) (sym (turns-above-0 v k d (each-fits v k _ _ fit .0))))
       then end)))))))
 
 pub row-judged : (v k place : ℕ) (r : Row) → Judged place r (rowFits v k r) (lineOf v k r place)

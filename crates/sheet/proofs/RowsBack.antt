@@ -6,7 +6,7 @@ use mathlib.Core.List.{List, [], _∷_, map}
 use mathlib.Core.Option.{Option, none, some}
 use lib.Dec.{leb}
 use native.Mathlib.Omega.{arith}
-use Rattle.sheet.specs.Tree.{basic, ifLine, elseLine, endIf, repeat, endRepeat}
+use Rattle.sheet.specs.Tree.{times, while, basic, ifLine, elseLine, endIf, repeat, endRepeat}
 use Rattle.sheet.specs.Rows.{_≔_, copy, fixed, sum, difference, product, negation, quotient, less, SheetLine, sheetRowOf}
 use Rattle.sheet.specs.inner.RowLines.{lineOfRow}
 use Rattle.sheet.specs.Reading.{fits, wordsFit}
@@ -29,7 +29,8 @@ line-back (basic (d ≔ quotient a b)) = refl
 line-back (ifLine (less a b)) = refl
 line-back elseLine = refl
 line-back endIf = refl
-line-back (repeat m) = refl
+line-back (repeat (times m)) = refl
+line-back (repeat (while (less a b) m)) = refl
 line-back endRepeat = refl
 
 only-line : (l l′ : SheetLine) → sheetRowOf l ≡ sheetRowOf l′ → l ≡ l′
@@ -98,6 +99,7 @@ module _ (v k d a b : ℕ) where
       then fitting 11 refl (λ p q r. rw (unused-is-0 v k d p, unused-is-0 v k a q, unused-is-0 v k b r))
       then gap (gap (gap (gap (gap (gap
       (fitting 18 refl (λ p q r. refl)
+      then fitting 19 refl (λ p q r. rw (turns-above-0 v k d p))
       then end)))))))
 
 pub row-back : (v k : ℕ) (r : Row) (kind : Kind) → kindOf (r .kind) ≡ some kind → wordsFit v k kind r ≡ true

@@ -3,7 +3,7 @@ use Prim.Native.Nat.{_≤_}
 use mathlib.Core.Path.{subst}
 use lib.ListN.{length}
 use native.Mathlib.Omega.{arith}
-use Rattle.sheet.specs.Tree.{basic, ifLine, elseLine, endIf, repeat, endRepeat}
+use Rattle.sheet.specs.Tree.{times, while, basic, ifLine, elseLine, endIf, repeat, endRepeat}
 use Rattle.sheet.specs.Rows.{_≔_, copy, fixed, sum, difference, product, negation, quotient, less, SheetLine, Row, sheetRowOf, kinds}
 use Rattle.sheet.specs.inner.RowLines.{lineOfRow, SaysLine}
 
@@ -19,7 +19,8 @@ line-kind (basic (d ≔ quotient a b)) = omega arith
 line-kind (ifLine (less a b)) = omega arith
 line-kind elseLine = omega arith
 line-kind endIf = omega arith
-line-kind (repeat m) = omega arith
+line-kind (repeat (times m)) = omega arith
+line-kind (repeat (while (less a b) m)) = omega arith
 line-kind endRepeat = omega arith
 
 pub row-kind : {r : Row} → SaysLine r → r .kind ≤ length kinds

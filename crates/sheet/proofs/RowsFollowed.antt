@@ -15,7 +15,7 @@ use Rattle.sheet.specs.Rows.{SheetLine, Row}
 use Rattle.sheet.specs.Tree.{longestRun}
 use Rattle.sheet.specs.Sheets.{rowAt, rowsAt}
 use Rattle.sheet.specs.Reading.{Item, Block, RowsTaken, closed, lineOf, taken, bodyOf}
-use Rattle.sheet.specs.inner.Kinds.{partOf, partFor}
+use Rattle.sheet.specs.inner.Kinds.{partOf, partFor, turnsIn}
 use Rattle.sheet.specs.inner.Steps.{rowFits, saturated, stepOf, bodySaid, afterRowsOf, bodyRun}
 use Rattle.sheet.specs.declared.Level.{Level}
 use Rattle.sheet.specs.declared.Step.{Step}
@@ -29,7 +29,7 @@ pub record Says (v k place : ℕ) (r : Row) : Type 0 where
   pub line : SheetLine
   pub is : lineOf v k r place ≡ given line
   pub same : (depth : ℕ) (inner outer : Level)
-      → stepOf (partFor (r .kind)) (r .a) depth inner outer ≡ stepOf (partOf line) (turnsOf line) depth inner outer
+      → stepOf (partFor (r .kind)) (turnsIn r) depth inner outer ≡ stepOf (partOf line) (turnsOf line) depth inner outer
 
 module _ (v k place : ℕ) (r : Row) where
   says-line : rowFits v k r ≡ true → Says v k place r
@@ -133,7 +133,7 @@ module _ {words : List ℕ} {first count v k : ℕ} {levels : List Level} {depth
   unfit-refused e = rw (says-none v k place (rowAt words place) e)
 
   pub step-follows : (s : Step) → rowFits v k (rowAt words place) ≡ true
-      → s ≡ stepOf (partFor (rowAt words place .kind)) (rowAt words place .a) depth inner (getD levels depth bottom)
+      → s ≡ stepOf (partFor (rowAt words place .kind)) (turnsIn (rowAt words place)) depth inner (getD levels depth bottom)
       → Follows place depth levels inner s rowHere
   step-follows s fits is =
       let says = says-line v k place (rowAt words place) fits in

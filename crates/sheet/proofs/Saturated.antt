@@ -1,5 +1,5 @@
 -- W up to one above its bound: sums, products and the larger of two can be taken of it as of W.
-use Prim.Native.Nat.{ℕ, suc, _+_, _*_, _≤_, _<_, max}
+use Prim.Native.Nat.{ℕ, zero, suc, _+_, _*_, _≤_, _<_, max}
 use mathlib.Core.Path.{_≡_}
 use native.Mathlib.Decide.{decLe}
 use native.Mathlib.Omega.{arith}
@@ -20,16 +20,17 @@ pub saturated-larger : (a b c : ℕ) → saturated (a + (1 + max (saturated b) (
 unfolding saturated
 saturated-larger a b c = omega arith
 
--- m + 1 turns of a body: beyond the bound as soon as the body is
-pub saturated-product : (a m b : ℕ) → saturated (a + (1 + suc m * (1 + saturated b))) ≡ saturated (a + (1 + suc m * (1 + b)))
+-- so many turns of a body: beyond the bound as soon as the body is, unless there are none
+pub saturated-product : (a n b : ℕ) → saturated (a + (1 + n * (1 + saturated b))) ≡ saturated (a + (1 + n * (1 + b)))
 unfolding saturated
-saturated-product a m b = by (decLe b (suc (limit .longestRun)))
+saturated-product a n b = by n (decLe b (suc (limit .longestRun)))
   where
-    above : (n : ℕ) → n ≤ suc m * n
-    above n = omega (arith, suc-mul m n)
+    above : (m x : ℕ) → x ≤ suc m * x
+    above m x = omega (arith, suc-mul m x)
 
-    by : Dec (b ≤ suc (limit .longestRun)) → saturated (a + (1 + suc m * (1 + saturated b))) ≡ saturated (a + (1 + suc m * (1 + b)))
-    by (yes h) = rw (min-eq-left h)
-    by (no h) =
+    by : (n : ℕ) → Dec (b ≤ suc (limit .longestRun)) → saturated (a + (1 + n * (1 + saturated b))) ≡ saturated (a + (1 + n * (1 + b)))
+    by n (yes h) = rw (min-eq-left h)
+    by zero (no h) = omega arith
+    by (suc m) (no h) =
         let beyond : suc (limit .longestRun) ≤ b = omega arith in
-        rw (min-eq-right beyond) (omega (arith, above (suc (suc (limit .longestRun))), above (1 + b)))
+        rw (min-eq-right beyond) (omega (arith, above m (suc (suc (limit .longestRun))), above m (1 + b)))

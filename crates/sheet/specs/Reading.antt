@@ -7,7 +7,7 @@ use lib.ListN.{length, getD, take, drop}
 use lib.Dec.{leb, ltb, eqb}
 use Rattle.sheet.specs.Bounds.{limit}
 use Rattle.sheet.specs.Refusals.{wordsEnd, wordsLeft, countBeyond, roleAbove, badRow, badBlock, tooLong, holdsQuotient}
-use Rattle.sheet.specs.Tree.{Tree, done, one, fork, again, basic, ifLine, elseLine, endIf, repeat, endRepeat, longestRun}
+use Rattle.sheet.specs.Tree.{Loop, Tree, done, one, fork, again, basic, ifLine, elseLine, endIf, repeat, endRepeat, longestRun}
 use Rattle.sheet.specs.Rows.{Assignment, Test, SheetLine, Row, Slot, variable, constant, turns, unused, Kind, kindOf, quotientKind}
 use Rattle.sheet.specs.Sheets.{Sheet, firstRow, rowsAt}
 use Rattle.sheet.specs.Judging.{Answer, refused, given, _>>=_, unless}
@@ -37,25 +37,25 @@ rolesFit (role ∷ roles) place = do
 pub data Item : Type 0 where
   row : Assignment → Item
   branches : Test → Tree Assignment Test → Tree Assignment Test → Item
-  repeated : ℕ → Tree Assignment Test → Item
+  repeated : Loop Test → Tree Assignment Test → Item
 
 pub data Block : Type 0 where
   inFirst : Test → List Item → Block
   inSecond : Test → Tree Assignment Test → List Item → Block
-  inRepeat : ℕ → List Item → Block
+  inRepeat : Loop Test → List Item → Block
 
 -- the items read in a block, nearest first, and then `rest`
 unfoldable pub closed : List Item → Tree Assignment Test → Tree Assignment Test
 closed [] rest = rest
 closed (row b ∷ items) rest = closed items (one b rest)
 closed (branches f a b ∷ items) rest = closed items (fork f a b rest)
-closed (repeated m a ∷ items) rest = closed items (again m a rest)
+closed (repeated l a ∷ items) rest = closed items (again l a rest)
 
 pub record RowsTaken : Type 0 where
   pub blocks : List Block
   pub items : List Item
 
--- "absent variable or constant, repeat count not 1 to 1000, unused word not 0"
+-- "absent variable or constant, repeat count not 1 to 1000, unused word not 0"; of kind 19 "d from 1 to 1000 (else 5)" (02 §6)
 unfoldable pub fits : (variables constants : ℕ) → Slot → ℕ → Bool
 fits v k variable word = ltb word v
 fits v k constant word = ltb word k
@@ -66,7 +66,7 @@ unfoldable pub wordsFit : (variables constants : ℕ) → Kind → Row → Bool
 unfolding fits
 wordsFit v k kind r = fits v k (kind .d) (r .d) && fits v k (kind .a) (r .a) && fits v k (kind .b) (r .b)
 
--- "kind not 1 to 11", nor 18, or a word that doesn't fit its slot: 5
+-- "kind not 1 to 11", nor 18 or 19, or a word that doesn't fit its slot: 5
 unfoldable pub lineBy : (variables constants : ℕ) → Option Kind → Row → (place : ℕ) → Answer SheetLine
 unfolding wordsFit
 lineBy v k none r place = refused (badRow place)
@@ -89,21 +89,21 @@ unfolding closed
 splitAt place [] items = refused (badBlock place)
 splitAt place (inFirst f outer ∷ blocks) items = given (record { blocks = inSecond f (closed items done) outer ∷ blocks; items = [] })
 splitAt place (inSecond f a outer ∷ blocks) items = refused (badBlock place)
-splitAt place (inRepeat m outer ∷ blocks) items = refused (badBlock place)
+splitAt place (inRepeat l outer ∷ blocks) items = refused (badBlock place)
 
 unfoldable pub ifEndedAt : (place : ℕ) → List Block → List Item → Answer RowsTaken
 unfolding closed
 ifEndedAt place [] items = refused (badBlock place)
 ifEndedAt place (inFirst f outer ∷ blocks) items = refused (badBlock place)
 ifEndedAt place (inSecond f a outer ∷ blocks) items = given (record { blocks = blocks; items = branches f a (closed items done) ∷ outer })
-ifEndedAt place (inRepeat m outer ∷ blocks) items = refused (badBlock place)
+ifEndedAt place (inRepeat l outer ∷ blocks) items = refused (badBlock place)
 
 unfoldable pub repeatEndedAt : (place : ℕ) → List Block → List Item → Answer RowsTaken
 unfolding closed
 repeatEndedAt place [] items = refused (badBlock place)
 repeatEndedAt place (inFirst f outer ∷ blocks) items = refused (badBlock place)
 repeatEndedAt place (inSecond f a outer ∷ blocks) items = refused (badBlock place)
-repeatEndedAt place (inRepeat m outer ∷ blocks) items = given (record { blocks = blocks; items = repeated m (closed items done) ∷ outer })
+repeatEndedAt place (inRepeat l outer ∷ blocks) items = given (record { blocks = blocks; items = repeated l (closed items done) ∷ outer })
 
 unfoldable pub taken : SheetLine → (place : ℕ) → List Block → List Item → Answer RowsTaken
 unfolding entered splitAt ifEndedAt repeatEndedAt
@@ -111,7 +111,7 @@ taken (basic b) place blocks items = given (record { blocks = blocks; items = ro
 taken (ifLine f) place blocks items = entered (inFirst f items) place blocks
 taken elseLine place blocks items = splitAt place blocks items
 taken endIf place blocks items = ifEndedAt place blocks items
-taken (repeat m) place blocks items = entered (inRepeat m items) place blocks
+taken (repeat l) place blocks items = entered (inRepeat l items) place blocks
 taken endRepeat place blocks items = repeatEndedAt place blocks items
 
 -- "At a row 5 comes before 6"; "never closed: the index after the rows"

@@ -10,7 +10,7 @@ pub data Refusal : Type 0 where
   countBeyond : ℕ → Refusal
   -- role above 3
   roleAbove : ℕ → Refusal
-  -- kind not 1 to 11 and not 18, absent variable or constant, repeat count not 1 to 1000, unused word not 0
+  -- kind not 1 to 11, 18 or 19, absent variable or constant, count of turns not 1 to 1000, unused word not 0
   badRow : ℕ → Refusal
   -- a block closed or split wrongly, never closed, or a ninth level opened
   badBlock : ℕ → Refusal

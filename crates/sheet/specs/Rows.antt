@@ -5,7 +5,7 @@ use mathlib.Core.List.{List, [], _∷_, map}
 use mathlib.Core.Option.{Option, none, some}
 use lib.ListN.{getD}
 use lib.Dec.{eqb}
-use Rattle.sheet.specs.Tree.{Tree, flat, Line, basic, ifLine, elseLine, endIf, repeat, endRepeat}
+use Rattle.sheet.specs.Tree.{Loop, times, while, Tree, flat, Line, basic, ifLine, elseLine, endIf, repeat, endRepeat}
 
 -- "0 parameter, 1 independent, 2 dependent, 3 both"
 abbrev pub isIndependent : ℕ → Bool
@@ -62,6 +62,10 @@ pub record Kind : Type 0 where
 abbrev pub quotientKind : ℕ
 quotientKind = 18
 
+-- kind 19, "while a < b, at most d turns", d from 1 to 1000, "closed by kind 11" (02 §6)
+abbrev pub whileKind : ℕ
+whileKind = 19
+
 -- 01's table of kinds, from kind 1 on, with 02's. "One fixed table says for each kind which of its three words name a variable." Kinds 12 to 17 are
 -- a table's own, and no sheet's.
 abbrev pub kinds : List (Option Kind)
@@ -75,7 +79,7 @@ kinds =
     ∷ some (record { d = unused; a = variable; b = variable; means = λ d a b. ifLine (less a b) })
     ∷ some (record { d = unused; a = unused; b = unused; means = λ d a b. elseLine })
     ∷ some (record { d = unused; a = unused; b = unused; means = λ d a b. endIf })
-    ∷ some (record { d = unused; a = turns; b = unused; means = λ d a b. repeat (pred a) })
+    ∷ some (record { d = unused; a = turns; b = unused; means = λ d a b. repeat (times (pred a)) })
     ∷ some (record { d = unused; a = unused; b = unused; means = λ d a b. endRepeat })
     ∷ none
     ∷ none
@@ -84,6 +88,7 @@ kinds =
     ∷ none
     ∷ none
     ∷ some (record { d = variable; a = variable; b = variable; means = λ d a b. basic (d ≔ quotient a b) })
+    ∷ some (record { d = turns; a = variable; b = variable; means = λ d a b. repeat (while (less a b) (pred d)) })
     ∷ []
 
 unfoldable pub kindOf : ℕ → Option Kind
@@ -103,18 +108,23 @@ rowOfAssignment (d ≔ quotient a b) = record { kind = quotientKind; d = d; a = 
 unfoldable pub rowOfTest : Test → Row
 rowOfTest (less a b) = record { kind = 7; d = 0; a = a; b = b }
 
-module _ {B F : Type 0} (ofBasic : B → Row) (ofTest : F → Row) where
+-- of a loop with this test, at most m + 1 turns
+unfoldable pub rowOfWhile : Test → (m : ℕ) → Row
+rowOfWhile (less a b) m = record { kind = whileKind; d = suc m; a = a; b = b }
+
+module _ {B F : Type 0} (ofBasic : B → Row) (ofTest : F → Row) (ofWhile : F → ℕ → Row) where
   unfoldable pub rowOf : Line B F → Row
   rowOf (basic b) = ofBasic b
   rowOf (ifLine f) = ofTest f
   rowOf elseLine = record { kind = 8; d = 0; a = 0; b = 0 }
   rowOf endIf = record { kind = 9; d = 0; a = 0; b = 0 }
-  rowOf (repeat m) = record { kind = 10; d = 0; a = suc m; b = 0 }
+  rowOf (repeat (times m)) = record { kind = 10; d = 0; a = suc m; b = 0 }
+  rowOf (repeat (while f m)) = ofWhile f m
   rowOf endRepeat = record { kind = 11; d = 0; a = 0; b = 0 }
 
 unfoldable pub sheetRowOf : SheetLine → Row
-unfolding rowOf rowOfAssignment rowOfTest
-sheetRowOf = rowOf rowOfAssignment rowOfTest
+unfolding rowOf rowOfAssignment rowOfTest rowOfWhile
+sheetRowOf = rowOf rowOfAssignment rowOfTest rowOfWhile
 
 -- the rows that a sheet's tree says
 unfoldable pub treeRows : Tree Assignment Test → List Row

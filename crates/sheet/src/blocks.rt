@@ -42,7 +42,7 @@ fn larger(first: u16, second: u16) -> u16
     if first < second { second } else { first }
 }
 
-// "if" and "repeat": a ninth level is refused.
+// "if" and a loop: a ninth level is refused.
 fn enter(depth: usize, block: Open) -> Step
     ensures { λ r. ⌜ r ≡ enterOf depth block ⌝ }
 {
@@ -86,7 +86,7 @@ fn end_if(block: Open, longest: u16, outer: Level) -> Step
     Step::Leave(counted(outer, run))
 }
 
-// "end repeat": only in a repeat; the block counts 1 + turns × (1 + its body).
+// "end repeat": only in a loop; the block counts 1 + turns × (1 + its body).
 fn end_repeat(block: Open, longest: u16, outer: Level) -> Step
     ensures { λ r. ⌜ r ≡ repeatEndOf block longest outer ⌝ }
 {
@@ -158,7 +158,7 @@ pub fn rows_read(
         if let Part::Assignment = part {
             inner = counted(inner, 1);
         } else {
-            match follow(part, row.a, depth, inner, levels[depth]) {
+            match follow(part, kinds::turns_of(row), depth, inner, levels[depth]) {
                 Step::BadBlock => return Body::Refused(No::BadBlock(place)),
                 Step::Stay(level) => inner = level,
                 Step::Enter(level) => {

@@ -1,6 +1,8 @@
 // The kinds of a sheet's rows: each by its number, and one fixed table that says what a row of each kind is.
 ghost use mathlib.Core.Path.{_≡_};
-ghost use Rattle.sheet.specs.inner.Kinds.{allForms, formFor, namesVariable, assigns};
+ghost use Rattle.sheet.specs.Answers.{rowSaid};
+ghost use Rattle.sheet.specs.inner.Kinds.{allForms, formFor, namesVariable, assigns, turnsIn};
+use super::RowWords;
 use super::wide;
 
 pub const COPY: u16 = 1;
@@ -28,8 +30,10 @@ pub const END_REPEAT: u16 = 11;
 // 12 to 17 are a table's own (crate table).
 pub const QUOTIENT: u16 = 18;
 
+pub const WHILE: u16 = 19;
+
 // As many numbers as `kinds` in specs/Rows.antt has.
-pub const LAST: usize = 18;
+pub const LAST: usize = 19;
 
 // What a word of a row may be.
 pub enum Slot {
@@ -40,7 +44,7 @@ pub enum Slot {
     Nothing,
 }
 
-// What a row is to the blocks.
+// What a row is to the blocks. Every loop is a repeat to them: which one, its kind tells.
 pub enum Part {
     Assignment,
     If,
@@ -118,6 +122,7 @@ const FORMS: [Form; LAST + 1] = [
         Slot::Variable,
         Part::Assignment,
     ),
+    Form(Slot::Turns, Slot::Variable, Slot::Variable, Part::Repeat),
 ];
 
 // The table, to be taken once a pass: a constant array that a loop looks up is made anew at each turn.
@@ -162,4 +167,11 @@ pub fn assigns(part: Part) -> bool
         Part::Repeat => false,
         Part::EndRepeat => false,
     }
+}
+
+// The most turns of the loop that a row opens.
+pub fn turns_of(row: RowWords) -> u16
+    ensures { λ r. ⌜ r ≡ turnsIn (rowSaid row) ⌝ }
+{
+    if row.kind == WHILE { row.d } else { row.a }
 }

@@ -131,7 +131,7 @@ struct Rule {
     pub part: kinds::Part,
 }
 
-// The block that is being read: the second branch knows the first one's W, a repeat its turns.
+// The block that is being read: the second branch knows the first one's W, a loop its turns.
 enum Open {
     Outermost,
     First,

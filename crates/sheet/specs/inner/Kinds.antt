@@ -1,10 +1,11 @@
 -- 01's table of kinds as the code has it: what a kind's words are, and what its rows are to the blocks.
 use Prim.Native.Nat.{ℕ}
-use mathlib.Core.Bool.{Bool, true, false}
+use mathlib.Core.Bool.{Bool, true, false, cond}
 use mathlib.Core.List.{List, _∷_, map}
 use mathlib.Core.Option.{Option, none, some}
+use lib.Dec.{eqb}
 use Rattle.sheet.specs.Tree.{basic, ifLine, elseLine, endIf, repeat, endRepeat}
-use Rattle.sheet.specs.Rows.{SheetLine, Kind, kinds, kindOf}
+use Rattle.sheet.specs.Rows.{SheetLine, Row, Kind, kinds, kindOf, whileKind}
 use Rattle.sheet.specs.Rows as rows
 use Rattle.sheet.specs.declared.kinds.Slot.{Slot}
 use Rattle.sheet.specs.declared.kinds.Slot.the-variants as slot
@@ -40,7 +41,7 @@ partOf (basic b) = part.Assignment
 partOf (ifLine f) = part.If
 partOf elseLine = part.Else
 partOf endIf = part.EndIf
-partOf (repeat m) = part.Repeat
+partOf (repeat l) = part.Repeat
 partOf endRepeat = part.EndRepeat
 
 -- a kind's lines are the same to the blocks whatever their words are, so that those with all words 0 tell it
@@ -66,3 +67,7 @@ allForms = noForm ∷ map formBy kinds
 -- what a row of a kind is to the blocks
 abbrev pub partFor : ℕ → Part
 partFor n = formFor n .3
+
+-- the most turns of the loop that a row opens, by its words
+abbrev pub turnsIn : Row → ℕ
+turnsIn r = cond (eqb (r .kind) whileKind) (r .d) (r .a)

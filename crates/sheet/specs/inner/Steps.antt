@@ -149,7 +149,7 @@ repeatEndOf block.First longest outer = step.BadBlock
 repeatEndOf (block.Second first) longest outer = step.BadBlock
 repeatEndOf (block.Turns m) longest outer = step.Leave (counted outer (1 + m * (1 + longest)))
 
--- by what the row is to the blocks, and a repeat's count
+-- by what the row is to the blocks, and a loop's count of turns
 unfoldable pub stepOf : Part → (turns depth : ℕ) → (inner outer : Level) → Step
 unfolding saturated enterOf splitOf ifEndOf repeatEndOf
 stepOf part.Assignment turns depth inner outer = step.Stay (counted inner 1)

@@ -9,6 +9,7 @@ use borrow.Author.Tests.{not-true, not-false}
 use native.Mathlib.Omega.{arith}
 use Rattle.sheet.specs.Sheets.{rowAt}
 use Rattle.sheet.specs.Answers.{rowSaid}
+use Rattle.sheet.specs.inner.Kinds.{turnsIn}
 use Rattle.sheet.specs.inner.Steps.{noRule, fitsRule, rowFits, stepOf, bodySaid}
 use Rattle.sheet.specs.Rows.{Row}
 use Rattle.sheet.specs.declared.Rule.{Rule}
@@ -61,22 +62,26 @@ module _ (c : tie.After-row-fits Inv-loop μ-loop) where
 
   -- of a row that fits, what it does to the blocks says what it comes to
   says : (s : Step) → c .row-fits .result ≡ true
-      → s ≡ stepOf (rule .part) (c .before .before .before .before .row-at .result .a) (head .loop .depth) (head .loop .inner)
+      → s ≡ stepOf (rule .part) (turnsIn (rowSaid (c .before .before .before .before .row-at .result))) (head .loop .depth) (head .loop .inner)
       (getD (head .loop .levels) (head .loop .depth) bottom)
       → Follows (head .loop .place) (head .loop .depth) (head .loop .levels) (head .loop .inner) s (rowHere (head .loop .inv))
   says s fits e =
       let fit : rowFits v k here ≡ true = sym fits-same ∙ fits in
       let part = part-by-rule v k here (head .before .rules-of .result) (head .before .rules-of .ensures) _ kind-read (c .before .before .if1 .left) in
-      step-follows (head .loop .inv) s fit (e ∙ cc (part, ap (λ r. r .a) read))
+      step-follows (head .loop .inv) s fit (e ∙ cc (part, read))
 
 -- the step that was found says what the row comes to
 module _ (c : tie.After-follow Inv-loop μ-loop) where
   abbrev row : tie.After-row-fits Inv-loop μ-loop
-  row = c .before .before .before .before
+  row = c .before .before .before .before .before
 
   stepped : (s : Step) → c .follow .result ≡ s
       → Follows (head row .loop .place) (head row .loop .depth) (head row .loop .levels) (head row .loop .inner) s (rowHere (head row .loop .inv))
-  stepped s e = says row s (not-false _ (c .before .before .before .if2 .left)) (sym e ∙ c .follow .ensures)
+  stepped s e =
+      says row s (not-false _ (c .before .before .before .before .if2 .left))
+      (sym e ∙ c .follow .ensures
+      ∙ ap (λ (turns : ℕ). stepOf (rule row .part) turns (head row .loop .depth) (head row .loop .inner) (getD (head row .loop .levels) (head row .loop .depth) bottom))
+      (c .before .before .turns-of .ensures))
 
 -- ---- the needs
 
@@ -133,11 +138,14 @@ enum-told c = search needs
 counted-requires : tie.Need-counted-requires Inv-loop μ-loop
 counted-requires c κs = search needs
 
+turns-of-requires : tie.Need-turns-of-requires Inv-loop μ-loop
+turns-of-requires c κs = search needs
+
 mul-follow : tie.Need-mul-follow Inv-loop μ-loop
-mul-follow c = omega (arith, head (c .before .before) .loop .inv .within)
+mul-follow c = omega (arith, head (c .before .before .before) .loop .inv .within)
 
 array-copy-out-follow : tie.Need-array-copy-out-follow Inv-loop μ-loop
-array-copy-out-follow c = omega (arith, head (c .before .before) .loop .inv .within)
+array-copy-out-follow c = omega (arith, head (c .before .before .before) .loop .inv .within)
 
 follow-requires : tie.Need-follow-requires Inv-loop μ-loop
 follow-requires c κs = search needs
@@ -232,6 +240,7 @@ rows-read-spec =
     sub-fewer
     enum-told
     counted-requires
+    turns-of-requires
     mul-follow
     array-copy-out-follow
     follow-requires
