@@ -4,10 +4,10 @@ use mathlib.Core.Path.{_≡_}
 use mathlib.Core.List.{List}
 use Rattle.sheet.specs.Tree.{Tree, done, one, fork, again, rows}
 use Rattle.sets.specs.VariableSets.{VariableSet, _∪_}
-use Rattle.sets.specs.Equations.{Equation, Satisfy, forward, backward}
+use Rattle.sets.specs.Equations.{Equation, Satisfy, leftFrom, forward, backward}
 
 module _ {B F : Type 0} (turns : ℕ → B → VariableSet → VariableSet) (at : ℕ → VariableSet) where
-  -- "After an if block: union of the branch ends. Repeat: body start = before ∪ body end; after = body end."
+  -- "After an if block: union of the branch ends. Repeat: body start = before ∪ body end; after = body end", with a test "body start".
   unfoldable pub ForwardAlong : Tree B F → ℕ → Type 0
   unfolding rows
   ForwardAlong done p = Unit {0}
@@ -17,11 +17,11 @@ module _ {B F : Type 0} (turns : ℕ → B → VariableSet → VariableSet) (at 
       let end = suc split + rows b in
       (at (suc p) ≡ at p) × ForwardAlong a (suc p) × (at (suc split) ≡ at p) × ForwardAlong b (suc split)
       × (at (suc end) ≡ at split ∪ at end) × ForwardAlong k (suc end)
-  ForwardAlong (again m a k) p =
+  ForwardAlong (again l a k) p =
       let end = suc p + rows a in
-      (at (suc p) ≡ at p ∪ at end) × ForwardAlong a (suc p) × (at (suc end) ≡ at end) × ForwardAlong k (suc end)
+      (at (suc p) ≡ at p ∪ at end) × ForwardAlong a (suc p) × (at (suc end) ≡ at (leftFrom l (suc p) end)) × ForwardAlong k (suc end)
 
-  -- "Before an if block: union of branch starts. Repeat: body end = after ∪ body start; before = body start."
+  -- "Before an if block: union of branch starts. Repeat: body end = after ∪ body start; before = body start", with a test the set at the body's end.
   unfoldable pub BackwardAlong : Tree B F → ℕ → Type 0
   unfolding rows
   BackwardAlong done p = Unit {0}
@@ -31,9 +31,9 @@ module _ {B F : Type 0} (turns : ℕ → B → VariableSet → VariableSet) (at 
       let end = suc split + rows b in
       (at p ≡ at (suc p) ∪ at (suc split)) × BackwardAlong a (suc p) × (at split ≡ at (suc end)) × BackwardAlong b (suc split)
       × (at end ≡ at (suc end)) × BackwardAlong k (suc end)
-  BackwardAlong (again m a k) p =
+  BackwardAlong (again l a k) p =
       let end = suc p + rows a in
-      (at p ≡ at (suc p)) × BackwardAlong a (suc p) × (at end ≡ at (suc end) ∪ at (suc p)) × BackwardAlong k (suc end)
+      (at p ≡ at (leftFrom l end (suc p))) × BackwardAlong a (suc p) × (at end ≡ at (suc end) ∪ at (suc p)) × BackwardAlong k (suc end)
 
   pub forward-along : (t : Tree B F) (p : ℕ) (rest : List Equation) → Satisfy (forward turns t p rest) at → ForwardAlong t p × Satisfy rest at
   unfolding Satisfy forward ForwardAlong

@@ -6,11 +6,11 @@ use mathlib.Core.List.{List}
 use lib.ListN.{length}
 use Rattle.sheet.specs.inner.Words.{wordValues}
 use Rattle.sheet.specs.Rows.{SheetLine}
-use Rattle.sheet.specs.inner.Kinds.{partOf}
+use Rattle.sheet.specs.inner.Kinds.{partOf, opensTest}
 use Rattle.sheet.specs.declared.kinds.Form.{Form}
 use Rattle.sheet.specs.declared.kinds.Part.{Part}
 use Rattle.sheet.proofs.LinesByPart.{row-part}
-use Rattle.sets.specs.inner.PartnerPass.{PartnersSoFar, found, foundBy, foundAt, foundOver, TopsWithin, Findable, Listed, PartnersFound}
+use Rattle.sets.specs.inner.PartnerPass.{PartnersSoFar, found, foundBy, foundAt, inTested, foundOver, TopsWithin, Findable, Listed, PartnersFound}
 use Rattle.sets.specs.inner.RowEquations.{lineIn, RowReadable, Formed}
 
 -- what holds before a row of the pass
@@ -28,17 +28,17 @@ module _ (line : ℕ → SheetLine) (n : ℕ) (came₀ goes₀ : List ℕ) where
       let all : n - 0 ≡ n = omega arith in
       record { within = omega arith; tops = rw all (findable .within); follows = rw all; cameLong = refl; goesLong = refl }
 
-  found-more : (p m : ℕ) (s : PartnersSoFar) → foundOver line p (suc m) s ≡ foundOver line (suc p) m (foundAt (line p) p s)
+  found-more : (p m : ℕ) (s : PartnersSoFar) → foundOver line p (suc m) s ≡ foundOver line (suc p) m (foundAt (line p) (inTested line s) p s)
   unfolding foundOver
   found-more p m s = refl
 
-  tops-more : (p m : ℕ) (s : PartnersSoFar) → TopsWithin line n p (suc m) s → (s .top < n) × TopsWithin line n (suc p) m (foundAt (line p) p s)
+  tops-more : (p m : ℕ) (s : PartnersSoFar) → TopsWithin line n p (suc m) s → (s .top < n) × TopsWithin line n (suc p) m (foundAt (line p) (inTested line s) p s)
   unfolding TopsWithin
   tops-more p m s w = w
 
-  -- the row and the innermost open one have places in both lists
+  -- the row and the innermost open one, which is a row too, have places in both lists
   pub both-listed : {came goes : List ℕ} {top row : ℕ} → Findable line n came₀ goes₀ → Finding line n came₀ goes₀ came goes top row → row < n
-      → ((p : ℕ) → p < n → p < wordValues) → Listed came goes row × Listed came goes top
+      → ((p : ℕ) → p < n → p < wordValues) → Listed came goes row × Listed came goes top × (top + 1 < wordValues) × (top < n)
   both-listed {came} {goes} {top} {row} findable f h small =
       let left : n - row ≡ suc (n - suc row) = omega arith in
       let below : top < n = tops-more row (n - suc row) (found top came goes) (rw left at (f .tops)) .0 in
@@ -49,11 +49,11 @@ module _ (line : ℕ → SheetLine) (n : ℕ) (came₀ goes₀ : List ℕ) where
         inCame = omega (arith, f .cameLong, findable .cameRoom);
         inGoes = omega (arith, f .goesLong, findable .goesRoom);
       } in
-      (there row h, there top below)
+      (there row h, there top below, omega (arith, findable .few), below)
 
   pub finding-on : (came goes : List ℕ) (top row : ℕ) → Finding line n came₀ goes₀ came goes top row → row < n → (part : Part)
       → part ≡ partOf (line row) → (came′ goes′ : List ℕ) (top′ : ℕ)
-      → found top′ came′ goes′ ≡ foundBy part row (found top came goes)
+      → found top′ came′ goes′ ≡ foundBy part (opensTest (line top)) row (found top came goes)
       → length came′ ≡ length came → length goes′ ≡ length goes → Finding line n came₀ goes₀ came′ goes′ top′ (row + 1)
   unfolding foundAt
   finding-on came goes top row f h part is came′ goes′ top′ step cl gl =

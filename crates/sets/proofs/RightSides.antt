@@ -3,7 +3,7 @@ use Prim.Native.Nat.{ℕ, suc, _+_, _<_}
 use native.Mathlib.Omega.{arith}
 use native.Mathlib.Numerals.{add-one}
 use mathlib.Core.Path.{_≡_, refl, sym}
-use mathlib.Core.Bool.{true, false}
+use mathlib.Core.Bool.{true, false, _||_}
 use mathlib.Core.List.{List}
 use lib.Bits.{or-comm}
 use Rattle.sheet.specs.Tree.{basic, ifLine, elseLine, endIf, repeat, endRepeat}
@@ -16,9 +16,9 @@ use Rattle.sets.specs.VariableSets.{VariableSet}
 use Rattle.sets.specs.Equations.{rightSide, pointOf}
 use Rattle.sets.specs.Transfers.{Activity}
 use Rattle.sets.specs.Rounds.{setAt}
-use Rattle.sets.specs.inner.RowEquations.{equationOf, forwardOf, backwardOf, turnOf, ownPoint, settledPoint, splits, joinsBy, blockSide}
+use Rattle.sets.specs.inner.RowEquations.{equationOf, forwardOf, backwardOf, turnOf, ownPoint, settledPoint, splits, joinsBy}
 use Rattle.sets.specs.inner.RowEquations.{Given, equationIn, startOf}
-use Rattle.sets.specs.inner.Walks.{asksPartner}
+use Rattle.sets.specs.inner.Walks.{endsRepeat, asksPartner, sideBy}
 use Rattle.sets.proofs.Truths.{T-of, of-T, or-right}
 
 module _ (which : Which) (known : Activity) (sets : List VariableSet) (p c : ℕ) where
@@ -39,8 +39,8 @@ assigned-side Useful known sets p c b = rw (add-one p)
 assigned-side Required known sets p c b = refl
 
 pub block-side : (which : Which) (known : Activity) (sets : List VariableSet) (p c : ℕ) (l : SheetLine) → assigns (partOf l) ≡ false
-    → blockSide which (partOf l) (own which known sets p c) (other which known sets p c) ≡ sideOf which known sets p c l
-unfolding equationOf rightSide ownPoint joinsBy
+    → sideBy which (partOf l) (own which known sets p c) (other which known sets p c) (setAt sets c) ≡ sideOf which known sets p c l
+unfolding equationOf rightSide ownPoint joinsBy endsRepeat
 block-side which known sets p c (basic b) h = let z : _≡_ {A = ℕ} 0 1 = cc in absurd (omega arith)
 block-side Varied known sets p c (ifLine f) h = refl
 block-side Useful known sets p c (ifLine f) h = rw (add-one p, add-one c)
@@ -52,7 +52,7 @@ block-side Varied known sets p c endIf h = or-comm (setAt sets p) (setAt sets c)
 block-side Useful known sets p c endIf h = rw (add-one p)
 block-side Required known sets p c endIf h = or-comm (setAt sets p) (setAt sets c)
 block-side Varied known sets p c (repeat m) h = refl
-block-side Useful known sets p c (repeat m) h = rw (add-one p)
+block-side Useful known sets p c (repeat m) h = refl
 block-side Required known sets p c (repeat m) h = refl
 block-side Varied known sets p c endRepeat h = refl
 block-side Useful known sets p c endRepeat h = rw (add-one p, add-one c)
@@ -80,11 +80,17 @@ start-below Required n size h = omega arith
 
 -- ---- which rows ask their partner's set
 
-pub asks-else : (which : Which) (part : Part) → splits part ≡ true → asksPartner which part ≡ true
+pub asks-else : (which : Which) (part : Part) → splits part ≡ true → (splits part || joinsBy which part) ≡ true
 asks-else which part e = rw e
 
-pub asks-joined : (which : Which) (part : Part) → joinsBy which part ≡ true → asksPartner which part ≡ true
+pub asks-joined : (which : Which) (part : Part) → joinsBy which part ≡ true → (splits part || joinsBy which part) ≡ true
 asks-joined which part e = of-T _ (or-right (splits part) (joinsBy which part) (T-of e))
+
+pub asks-beyond : (which : Which) (part : Part) → endsRepeat which part ≡ true → asksPartner which part ≡ true
+asks-beyond which part e = rw e
+
+pub asks-inside : (which : Which) (part : Part) → (splits part || joinsBy which part) ≡ true → asksPartner which part ≡ true
+asks-inside which part e = of-T _ (or-right (endsRepeat which part) (splits part || joinsBy which part) (T-of e))
 
 -- ---- the point that a row settles
 

@@ -7,7 +7,7 @@ use lib.ListN.{getD}
 use Rattle.sheet.specs.Tree.{Tree, done, one, fork, again, rows, basic, ifLine, elseLine, endIf, repeat, endRepeat}
 use Rattle.sheet.specs.Rows.{Assignment, Test, SheetLine}
 use Rattle.sets.specs.VariableSets.{VariableSet}
-use Rattle.sets.specs.Equations.{Equation, passes, joins, unchanged, forward, backward}
+use Rattle.sets.specs.Equations.{Equation, passes, joins, unchanged, leftFrom, forward, backward}
 use Rattle.sets.specs.Partners.{CameFrom, GoesTo}
 use Rattle.sets.specs.inner.RowEquations.{forwardOf, backwardOf, listed}
 
@@ -145,8 +145,8 @@ module _ (line : ℕ → SheetLine) (partners : List ℕ) (turn turns : ℕ → 
       cc (
         up-again forwardAt p (rows a) (rows k) rest,
         forward-line p q (repeat m) (l .0) (c .0),
-        forward-line q _ endRepeat (l .2) refl,
-        forward-up a (suc p) (passes q (suc q) unchanged ∷ forward turns k (suc q) rest) (omega arith) (l .1) (c .1),
+        forward-line q _ endRepeat (l .2) (c .3),
+        forward-up a (suc p) (passes (leftFrom m (suc p) q) (suc q) unchanged ∷ forward turns k (suc q) rest) (omega arith) (l .1) (c .1),
         forward-up k (suc q) rest (omega arith) (l .3) (c .2),
       )
 
@@ -175,11 +175,11 @@ module _ (line : ℕ → SheetLine) (partners : List ℕ) (turn turns : ℕ → 
       )
   backward-down (again m a k) p rest w l c =
       let q = suc p + rows a in
-      let first = passes (suc p) p unchanged ∷ rest in
+      let first = passes (leftFrom m q (suc p)) p unchanged ∷ rest in
       let second = joins (suc q) (suc p) q ∷ backward turns a (suc p) first in
       cc (
         down-again backwardAt p (rows a) (rows k) rest,
-        backward-line p _ (repeat m) (l .0) refl,
+        backward-line p _ (repeat m) (l .0) (c .3),
         backward-line q p endRepeat (l .2) (c .1),
         backward-down a (suc p) first (omega arith) (l .1) (c .0),
         backward-down k (suc q) second (omega arith) (l .3) (c .2),

@@ -90,7 +90,7 @@ module _ (words : List ℕ) (variables first count : ℕ) (laid : Laid words var
     pub cameFrom : CameFrom came′ (laid .sheet .body) 0
     pub goesTo : GoesTo goes′ (laid .sheet .body) 0
     pub cameIs : came′ ≡ cameBy (laid .sheet .body) 0 came
-    pub goesIs : goes′ ≡ goesBy 0 (laid .sheet .body) 0 goes
+    pub goesIs : goes′ ≡ goesBy (laid .sheet .body) 0 goes
 
   pub partners-right : (came goes came′ goes′ : List ℕ) → PartnersFound (lineIn words first) count came goes came′ goes′ → count ≤ length came
       → count ≤ length goes → PartnersAre came goes came′ goes′

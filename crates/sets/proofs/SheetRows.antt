@@ -7,7 +7,7 @@ use mathlib.Core.List.{List, []}
 use lib.ListN.{length}
 use Rattle.sheet.specs.inner.Words.{wordValues}
 use Rattle.sheet.specs.Bounds.{limit}
-use Rattle.sheet.specs.Tree.{Tree, done, one, fork, again, rows, flat}
+use Rattle.sheet.specs.Tree.{Loop, times, while, Tree, done, one, fork, again, repeat, rows, flat}
 use Rattle.sheet.specs.Rows.{Assignment, _≔_, copy, fixed, sum, difference, product, negation, quotient, less, Test, SheetLine}
 use Rattle.sheet.specs.Rows.{rowOfAssignment, sheetRowOf, treeRows}
 use Rattle.sheet.specs.inner.Kinds.{formFor, allForms}
@@ -69,6 +69,11 @@ module _ (v k : ℕ) (vs : v ≤ maskBits) (ks : k ≤ maskBits) where
   assignment-small (d ≔ negation a) h = record { d = omega (arith, h); a = omega (arith, h); b = omega arith }
   assignment-small (d ≔ quotient a b) h = record { d = omega (arith, h); a = omega (arith, h); b = omega (arith, h) }
 
+  loop-small : (l : Loop Test) → SmallLine (repeat l)
+  unfolding sheetRowOf formFor
+  loop-small (times m) z = absurd (not-true z)
+  loop-small (while (less x y) m) z = absurd (not-true z)
+
   tree-small : (t : Tree Assignment Test) (rest : List SheetLine) → Present v k t → Each SmallLine rest → Each SmallLine (flat t rest)
   unfolding flat Present sheetRowOf formFor
   tree-small done rest n h = h
@@ -78,8 +83,8 @@ module _ (v k : ℕ) (vs : v ≤ maskBits) (ks : k ≤ maskBits) where
     tree-small a _ (n .1)
         (λ z. absurd (not-true z), tree-small b _ (n .2) (λ z. absurd (not-true z), tree-small t rest (n .3) h)),
   )
-  tree-small (again m a t) rest n h =
-      (λ z. absurd (not-true z), tree-small a _ (n .0) (λ z. absurd (not-true z), tree-small t rest (n .1) h))
+  tree-small (again l a t) rest n h =
+      (loop-small l, tree-small a _ (n .0) (λ z. absurd (not-true z), tree-small t rest (n .1) h))
 
   pub rows-readable : (words : List ℕ) (first n : ℕ) (t : Tree Assignment Test) → treeRows t ≡ rowsAt words first n → Present v k t
       → (p : ℕ) → p < rows t → p < wordValues → first + (p + 1) * limit .rowWords ≤ length words → RowReadable words first p

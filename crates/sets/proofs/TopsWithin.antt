@@ -5,8 +5,9 @@ use mathlib.Core.Path.{_≡_, refl, sym, subst, _∙_}
 use mathlib.Core.List.{List}
 use lib.ListN.{length}
 use Rattle.sheet.specs.Tree.{Tree, done, one, fork, again, rows, basic, ifLine, elseLine, endIf, repeat, endRepeat}
+use Rattle.sheet.specs.inner.Words.{wordValues}
 use Rattle.sheet.specs.Rows.{Assignment, Test, SheetLine}
-use Rattle.sets.specs.inner.PartnerPass.{PartnersSoFar, found, foundAt, foundOver, TopsWithin, Findable}
+use Rattle.sets.specs.inner.PartnerPass.{PartnersSoFar, found, foundAt, inTested, foundOver, TopsWithin, Findable}
 use Rattle.sets.proofs.RowByRow.{LinesAt}
 use Rattle.sets.proofs.PartnersRight.{Passed, found-one, found-again, found-fork, found-long, passed-over}
 
@@ -17,14 +18,14 @@ module _ (line : ℕ → SheetLine) (n : ℕ) where
     goesRoom : n ≤ length (s .goes)
     topWithin : s .top < n
 
-  tops-turn : (l : SheetLine) (p m : ℕ) (s : PartnersSoFar) → line p ≡ l → s .top < n → TopsWithin line n (suc p) m (foundAt l p s)
+  tops-turn : (l : SheetLine) (p m : ℕ) (s : PartnersSoFar) → line p ≡ l → s .top < n → TopsWithin line n (suc p) m (foundAt l (inTested line s) p s)
       → TopsWithin line n p (suc m) s
   unfolding TopsWithin
   tops-turn l p m s is h w = (h, rw is w)
 
-  ready-on : (l : SheetLine) (p : ℕ) (s : PartnersSoFar) → Ready s → foundAt l p s .top < n → Ready (foundAt l p s)
+  ready-on : (l : SheetLine) (p : ℕ) (s : PartnersSoFar) → Ready s → foundAt l (inTested line s) p s .top < n → Ready (foundAt l (inTested line s) p s)
   ready-on l p s r h =
-      let long = found-long line l p s in
+      let long = found-long line l (inTested line s) p s in
       record { cameRoom = omega (arith, long .0, r .cameRoom); goesRoom = omega (arith, long .1, r .goesRoom); topWithin = h }
 
   ready-over : (t : Tree Assignment Test) (p : ℕ) (s s′ : PartnersSoFar) → Ready s → Passed t p s s′ → Ready s′
@@ -56,11 +57,11 @@ module _ (line : ℕ → SheetLine) (n : ℕ) where
       let end = suc q + rows b in
       let behind = rows k + m in
       let after = rows b + suc behind in
-      let s₁ = foundAt (ifLine f) p s in
+      let s₁ = foundAt (ifLine f) (inTested line s) p s in
       let s₂ = foundOver line (suc p) (rows a) s₁ in
-      let s₃ = foundAt elseLine q s₂ in
+      let s₃ = foundAt elseLine (inTested line s₂) q s₂ in
       let s₄ = foundOver line (suc q) (rows b) s₃ in
-      let s₅ = foundAt endIf end s₄ in
+      let s₅ = foundAt endIf (inTested line s₄) end s₄ in
       let r₁ : Ready s₁ = ready-on (ifLine f) p s r (omega arith) in
       let r₂ : Ready s₂ = ready-over a (suc p) s₁ s₂ r₁ (pass a (suc p) s₁ (l .1) (omega arith) r₁) in
       let r₃ : Ready s₃ = ready-on elseLine q s₂ r₂ (omega arith) in
@@ -82,9 +83,9 @@ module _ (line : ℕ → SheetLine) (n : ℕ) where
   tops-tree (again t a k) p m c e s hc he below l r w =
       let q = suc p + rows a in
       let behind = rows k + m in
-      let s₁ = foundAt (repeat t) p s in
+      let s₁ = foundAt (repeat t) (inTested line s) p s in
       let s₂ = foundOver line (suc p) (rows a) s₁ in
-      let s₃ = foundAt endRepeat q s₂ in
+      let s₃ = foundAt endRepeat (inTested line s₂) q s₂ in
       let r₁ : Ready s₁ = ready-on (repeat t) p s r (omega arith) in
       let r₂ : Ready s₂ = ready-over a (suc p) s₁ s₂ r₁ (pass a (suc p) s₁ (l .1) (omega arith) r₁) in
       let closed : foundOver line p (2 + (rows a + 0)) s ≡ s₃ = found-again line p (rows a) 0 s ∙ rw (l .0, l .2) in
@@ -105,13 +106,14 @@ module _ (line : ℕ → SheetLine) (n : ℕ) where
 
 -- all rows
 pub findable : (line : ℕ → SheetLine) (n : ℕ) (t : Tree Assignment Test) (came goes : List ℕ) → LinesAt line t 0 → n ≡ rows t → n ≤ length came
-    → n ≤ length goes → Findable line n came goes
-findable line zero t came goes l is lc lg = record { cameRoom = lc; goesRoom = lg; within = tops-none line 0 0 (found 0 came goes) }
-findable line (suc m) t came goes l is lc lg =
+    → n ≤ length goes → n < wordValues → Findable line n came goes
+findable line zero t came goes l is lc lg few = record { few = few; cameRoom = lc; goesRoom = lg; within = tops-none line 0 0 (found 0 came goes) }
+findable line (suc m) t came goes l is lc lg few =
     let n = suc m in
     let start = found 0 came goes in
     let ready : Ready line n start = record { cameRoom = lc; goesRoom = lg; topWithin = omega arith } in
     record {
+      few = few;
       cameRoom = lc;
       goesRoom = lg;
       within = tops-tree line n t 0 0 n n start (omega arith) (omega arith) (omega arith) l ready (tops-none line n n (foundOver line 0 (rows t) start));

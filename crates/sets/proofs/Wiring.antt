@@ -4,10 +4,10 @@ use native.Mathlib.Decide.{ℕ-discrete, decLt}
 use native.Mathlib.Numerals.{add-one}
 use native.Mathlib.Omega.{arith}
 use mathlib.Core.Path.{_≡_, refl, sym, ap, subst, _∙_}
-use mathlib.Core.Bool.{Bool, true, _||_}
+use mathlib.Core.Bool.{Bool, true, false, _||_, cond}
 use mathlib.Core.List.{List}
 use lib.ListN.{getD}
-use Rattle.sheet.specs.Tree.{Tree, done, one, fork, again, rows, basic, ifLine, elseLine, endIf, repeat, endRepeat}
+use Rattle.sheet.specs.Tree.{Loop, hasTest, Tree, done, one, fork, again, rows, basic, ifLine, elseLine, endIf, repeat, endRepeat}
 use Rattle.sheet.specs.Rows.{Assignment, Test, SheetLine}
 use Rattle.sheet.specs.inner.Kinds.{partOf, partFor}
 use Rattle.sheet.specs.declared.kinds.Part.{Part}
@@ -16,7 +16,7 @@ use Rattle.sheet.proofs.LinesByPart.{row-part}
 use Rattle.sets.specs.declared.Which.{Which}
 use Rattle.sets.specs.declared.Which.the-variants.{Varied, Useful, Required}
 use Rattle.sets.specs.VariableSets.{VariableSet, _∪_}
-use Rattle.sets.specs.Equations.{Equation, passes, joins, unchanged, rightSide}
+use Rattle.sets.specs.Equations.{Equation, passes, joins, unchanged, leftFrom, rightSide}
 use Rattle.sets.specs.Partners.{CameFrom, GoesTo}
 use Rattle.sets.specs.Transfers.{Activity}
 use Rattle.sets.specs.inner.RowEquations.{Given, givenBy, lineIn, equationOf, equationIn, forwardOf, backwardOf, turnOf}
@@ -24,6 +24,11 @@ use Rattle.sets.specs.inner.RowEquations.{rowInTurn, ownPoint, settledPo
 use Rattle.sets.specs.inner.Walks.{placeInTurn, endsOn, endsBack, endsRepeat, asksPartner, inTurn, Behind, FarEnd, Asks, behind, around, Wired}
 use Rattle.sets.proofs.Truths.{never}
 use Rattle.sets.proofs.RowByRow.{LinesAt}
+
+-- one of two numbers lies where both do
+between : (first : Bool) (x y low high : ℕ) → low ≤ x → x ≤ high → low ≤ y → y ≤ high → (low ≤ cond first x y) × (cond first x y ≤ high)
+between true x y low high a b c d = (a, b)
+between false x y low high a b c d = (c, d)
 
 -- ---- where each row stands in its block
 
@@ -39,8 +44,9 @@ module _ (line : ℕ → SheetLine) (came goes : List ℕ) (n : ℕ) where
     opens : (f : Test) → line p ≡ ifLine f → p < goesOf p → goesOf p < n → Placed p
     splits : line p ≡ elseLine → cameOf p < p → p < goesOf p → goesOf p < n → Placed p
     closes : line p ≡ endIf → cameOf p < p → Placed p
-    repeats : (m : ℕ) → line p ≡ repeat m → p < cameOf p → cameOf p < n → line (cameOf p) ≡ endRepeat → goesOf (cameOf p) ≡ p → Placed p
-    ends : (m : ℕ) → line p ≡ endRepeat → goesOf p < p → line (goesOf p) ≡ repeat m → cameOf (goesOf p) ≡ p → Placed p
+    repeats : (m : Loop Test) → line p ≡ repeat m → p < cameOf p → cameOf p < n → line (cameOf p) ≡ endRepeat → goesOf (cameOf p) ≡ p
+        → p < goesOf p → goesOf p ≤ cameOf p → Placed p
+    ends : (m : Loop Test) → line p ≡ endRepeat → goesOf p < p → line (goesOf p) ≡ repeat m → cameOf (goesOf p) ≡ p → cameOf p ≤ p → Placed p
 
   pub placed : (t : Tree Assignment Test) (p : ℕ) → p + rows t ≤ n → LinesAt line t p → CameFrom came t p → GoesTo goes t p
       → (i : ℕ) → p ≤ i → i < p + rows t → Placed i
@@ -80,11 +86,16 @@ module _ (line : ℕ → SheetLine) (came goes : List ℕ) (n : ℕ) where
           → Placed i
       go (yes e) d₂ d₃ inA inK =
           let there : cameOf i ≡ suc p + rows a = ap cameOf e ∙ c .0 in
+          let out : goesOf i ≡ leftFrom m (suc p + rows a) (suc p) = ap goesOf e ∙ g .3 in
+          let within = between (hasTest m) (suc p + rows a) (suc p) (suc p) (suc p + rows a) (omega arith) (omega arith) (omega arith) (omega arith) in
           repeats m (ap line e ∙ l .0) (omega arith) (omega arith) (ap line there ∙ l .2) (ap goesOf there ∙ g .1 ∙ sym e)
+          (omega (arith, within .0)) (omega (arith, within .1))
       go (no x) (yes e) d₃ inA inK = inA (omega arith) e
       go (no x) (no y) (yes e) inA inK =
           let there : goesOf i ≡ p = ap goesOf e ∙ g .1 in
-          ends m (ap line e ∙ l .2) (omega arith) (ap line there ∙ l .0) (ap cameOf there ∙ c .0 ∙ sym e)
+          let out : cameOf i ≡ leftFrom m (suc p) (suc p + rows a) = ap cameOf e ∙ c .3 in
+          let within = between (hasTest m) (suc p) (suc p + rows a) 0 (suc p + rows a) (omega arith) (omega arith) (omega arith) (omega arith) in
+          ends m (ap line e ∙ l .2) (omega arith) (ap line there ∙ l .0) (ap cameOf there ∙ c .0 ∙ sym e) (omega (arith, within .1))
       go (no x) (no y) (no z) inA inK = inK (omega arith) (omega arith)
 
 -- ---- what a right side asks
@@ -123,7 +134,7 @@ module _ (words : List ℕ) (first : ℕ) (known : ℕ → Activity) (came goes 
   module _ (which : Which) (turns : (i : ℕ) → rowInTurn which n i ≡ i) (places-are : (i : ℕ) → placeInTurn which n i ≡ i)
       (own : (p : ℕ) → ownPoint which p ≡ p) (settled : (p : ℕ) → settledPoint which p ≡ suc p)
       (far : (part : Part) → endsRepeat which part ≡ endsOn part)
-      (asks-by : (part : Part) → asksPartner which part ≡ (isElse part || joinsOn part))
+      (asks-by : (part : Part) → asksPartner which part ≡ (endsOn part || (isElse part || joinsOn part)))
       (equation-is : (acts : Activity) (l : SheetLine) (p c : ℕ) → equationOf which acts l p c ≡ forwardOf (turnOf which acts) l p c) where
     abbrev given : Given
     given = givenBy words first known came
@@ -140,18 +151,18 @@ module _ (words : List ℕ) (first : ℕ) (known : ℕ → Activity) (came goes 
     forward-taken : (p : ℕ) → p < n → asksPartner which (partAt p) ≡ true → getD came p 0 < n
     forward-taken p h asked = go (all p h)
       where
-        by-line : (l : SheetLine) → line p ≡ l → (isElse (partOf l) || joinsOn (partOf l)) ≡ true
-        by-line l e = part-told (λ part. isElse part || joinsOn part) p l h e (sym (asks-by (partAt p)) ∙ asked)
+        by-line : (l : SheetLine) → line p ≡ l → (endsOn (partOf l) || (isElse (partOf l) || joinsOn (partOf l))) ≡ true
+        by-line l e = part-told (λ part. endsOn part || (isElse part || joinsOn part)) p l h e (sym (asks-by (partAt p)) ∙ asked)
 
         go : Placed line came goes n p → getD came p 0 < n
         go (assigns b e) = never (by-line (basic b) e)
         go (opens f e u w) = never (by-line (ifLine f) e)
         go (splits e u w z) = omega arith
         go (closes e u) = omega arith
-        go (repeats m e u w x y) = w
-        go (ends m e u w x) = never (by-line endRepeat e)
+        go (repeats m e u w x y o out) = w
+        go (ends m e u w x out) = omega arith
 
-    forward-far : (near c : ℕ) (m : ℕ) → c < n → line c ≡ endRepeat → getD goes c 0 ≡ near → line near ≡ repeat m → getD came near 0 ≡ c
+    forward-far : (near c : ℕ) (m : Loop Test) → c < n → line c ≡ endRepeat → getD goes c 0 ≡ near → line near ≡ repeat m → getD came near 0 ≡ c
         → FarEnd which given goes near c
     unfolding forwardOf
     forward-far near c m h e g f k =
@@ -173,8 +184,8 @@ module _ (words : List ℕ) (first : ℕ) (known : ℕ → Activity) (came goes 
         go (opens f e u w) = never (by-line (ifLine f) e)
         go (splits e u w z) = never (by-line elseLine e)
         go (closes e u) = never (by-line endIf e)
-        go (repeats m e u w x y) = never (by-line (repeat m) e)
-        go (ends m e u w x) = (omega arith, u, forward-far (getD goes i 0) i m h e refl w x)
+        go (repeats m e u w x y o out) = never (by-line (repeat m) e)
+        go (ends m e u w x out) = (omega arith, u, forward-far (getD goes i 0) i m h e refl w x)
 
     forward-asks : (i : ℕ) → i < n → Asks which given goes n i
     unfolding forwardOf
@@ -188,11 +199,12 @@ module _ (words : List ℕ) (first : ℕ) (known : ℕ → Activity) (came goes 
         go (closes e u) =
             behind (behind-two which n i _ (getD came i 0) i (suc i) (in-turn i _ endIf e refl) (getD came i 0) i (omega arith) (omega arith)
             (places-are _) (places-are i))
-        go (repeats m e u w x y) =
+        go (repeats m e u w x y o out) =
             around (getD came i 0) u w
             (subst (λ r. FarEnd which given goes r (rowInTurn which n (getD came i 0))) (sym (turns i))
             (subst (FarEnd which given goes i) (sym (turns (getD came i 0))) (forward-far i (getD came i 0) m w x y e refl)))
-        go (ends m e u w x) = behind (behind-one which n i _ i (suc i) _ (in-turn i _ endRepeat e refl) i (omega arith) (places-are i))
+        go (ends m e u w x out) =
+            behind (behind-one which n i _ (getD came i 0) (suc i) _ (in-turn i _ endRepeat e refl) (getD came i 0) out (places-are _))
 
     forward-wired : Wired which given goes n
     forward-wired =
@@ -225,21 +237,21 @@ module _ (words : List ℕ) (first : ℕ) (known : ℕ → Activity) (came goes 
   back-equation p c l e f = rw (e, f)
 
   backward-taken : (p : ℕ) → p < n → asksPartner Useful (partAt p) ≡ true → getD goes p 0 < n
-  unfolding joinsBy
+  unfolding joinsBy endsRepeat
   backward-taken p h asked = go (all p h)
     where
-      by-line : (l : SheetLine) → line p ≡ l → (isElse (partOf l) || joinsBack (partOf l)) ≡ true
-      by-line l e = part-told (λ part. isElse part || joinsBack part) p l h e asked
+      by-line : (l : SheetLine) → line p ≡ l → (endsBack (partOf l) || (isElse (partOf l) || joinsBack (partOf l))) ≡ true
+      by-line l e = part-told (λ part. endsBack part || (isElse part || joinsBack part)) p l h e asked
 
       go : Placed line came goes n p → getD goes p 0 < n
       go (assigns b e) = never (by-line (basic b) e)
       go (opens f e u w) = w
       go (splits e u w z) = z
       go (closes e u) = never (by-line endIf e)
-      go (repeats m e u w x y) = never (by-line (repeat m) e)
-      go (ends m e u w x) = omega arith
+      go (repeats m e u w x y o out) = omega arith
+      go (ends m e u w x out) = omega arith
 
-  backward-far : (near c : ℕ) (m : ℕ) → c < n → line c ≡ repeat m → getD came c 0 ≡ near → line near ≡ endRepeat → getD goes near 0 ≡ c
+  backward-far : (near c : ℕ) (m : Loop Test) → c < n → line c ≡ repeat m → getD came c 0 ≡ near → line near ≡ endRepeat → getD goes near 0 ≡ c
       → FarEnd Useful givenBack came near c
   unfolding backwardOf endsRepeat ownPoint settledPoint
   backward-far near c m h e g f k =
@@ -262,8 +274,8 @@ module _ (words : List ℕ) (first : ℕ) (known : ℕ → Activity) (came goes 
       go (opens f e u w) = never (by-line (ifLine f) e)
       go (splits e u w z) = never (by-line elseLine e)
       go (closes e u) = never (by-line endIf e)
-      go (repeats m e u w x y) = (w, u, backward-far (getD came p 0) p m h e refl x y)
-      go (ends m e u w x) = never (by-line endRepeat e)
+      go (repeats m e u w x y o out) = (w, u, backward-far (getD came p 0) p m h e refl x y)
+      go (ends m e u w x out) = never (by-line endRepeat e)
 
   backward-asks : (i : ℕ) → i < n → Asks Useful givenBack came n i
   unfolding backwardOf rowInTurn placeInTurn
@@ -288,8 +300,10 @@ module _ (words : List ℕ) (first : ℕ) (known : ℕ → Activity) (came goes 
           let c = getD goes p 0 in
           behind (behind-one Useful n i _ (suc c) p unchanged (back-equation p _ elseLine e refl) (n - suc c) (omega arith) (omega arith))
       go (closes e u) = one-behind _ (back-equation p _ endIf e refl)
-      go (repeats m e u w x y) = one-behind _ (back-equation p _ (repeat m) e refl)
-      go (ends m e u w x) =
+      go (repeats m e u w x y o out) =
+          let c = getD goes p 0 in
+          behind (behind-one Useful n i _ c p unchanged (back-equation p _ (repeat m) e refl) (n - c) (omega arith) (omega arith))
+      go (ends m e u w x out) =
           let c = getD goes p 0 in
           let same : n - suc (n - suc c) ≡ c = omega arith in
           around (n - suc c) (omega arith) (omega arith)

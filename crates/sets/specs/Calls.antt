@@ -63,7 +63,7 @@ pub record SheetMarks (sheet : Sheet) (before after : Lent) : Type 0 where
   pub goesTo : GoesTo (after .goes) (sheet .body) 0
   -- and every place of the two lists is settled
   pub came : after .came ≡ cameBy (sheet .body) 0 (before .came)
-  pub goes : after .goes ≡ goesBy 0 (sheet .body) 0 (before .goes)
+  pub goes : after .goes ≡ goesBy (sheet .body) 0 (before .goes)
 
 -- by what the reader answers: refused words leave every lent place as it was
 abbrev pub MarksSaid : Answer Sheet → (before after : Lent) → Type 0

@@ -3,7 +3,7 @@
 use Prim.Native.Nat.{ℕ, suc, _+_}
 use mathlib.Core.Bool.{Bool}
 use mathlib.Core.List.{List, [], _∷_}
-use Rattle.sheet.specs.Tree.{Tree, done, one, fork, again, rows, RowNumber}
+use Rattle.sheet.specs.Tree.{loopBy, Tree, done, one, fork, again, rows, RowNumber}
 use Rattle.sheet.specs.Rows.{Assignment, Test, isIndependent, isDependent}
 use Rattle.sheet.specs.Sheets.{Sheet}
 use Rattle.sets.specs.VariableSets.{VariableSet, empty, places}
@@ -26,7 +26,7 @@ unfoldable pub activityAt : (varied useful : ℕ → VariableSet) → ℕ → As
 unfolding activityOf
 activityAt varied useful p b = activityOf b (varied p) (useful (suc p))
 
--- "Required: empty before the sheet. .. Branches join by union; repeat as for varied."
+-- "Required: empty before the sheet. .. Branches join by union; repeat as for varied." So do loops with a test.
 unfoldable pub requiredEquations : Sheet → (varied useful : ℕ → VariableSet) → List Equation
 unfolding forward activityAt requiredAfter
 requiredEquations sheet varied useful =
@@ -58,6 +58,9 @@ pub record MarkedTest : Type 0 where
   pub row : RowNumber
   pub test : Test
 
+abbrev pub testAt : (row : ℕ) → Test → MarkedTest
+testAt p f = record { row = record { index = p }; test = f }
+
 -- the body with each row's number, and each assignment marked by it
 unfoldable pub numbered : (ℕ → Assignment → Marked) → Tree Assignment Test → ℕ → Tree Marked MarkedTest
 unfolding rows
@@ -66,8 +69,8 @@ numbered mark (one b k) p = one (mark p b) (numbered mark k (suc p))
 numbered mark (fork f a b k) p =
     let split = suc p + rows a in
     let end = suc split + rows b in
-    fork (record { row = record { index = p }; test = f }) (numbered mark a (suc p)) (numbered mark b (suc split)) (numbered mark k (suc end))
-numbered mark (again m a k) p = again m (numbered mark a (suc p)) (numbered mark k (suc (suc p + rows a)))
+    fork (testAt p f) (numbered mark a (suc p)) (numbered mark b (suc split)) (numbered mark k (suc end))
+numbered mark (again l a k) p = again (loopBy (testAt p) l) (numbered mark a (suc p)) (numbered mark k (suc (suc p + rows a)))
 
 -- row p, an assignment, as the sets at its points mark it
 unfoldable pub markBy : Sets → ℕ → Assignment → Marked

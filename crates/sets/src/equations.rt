@@ -1,12 +1,11 @@
 // A row's equation: the point that it settles, and what the set there must hold.
 ghost use mathlib.Core.Path.{_≡_};
-ghost use mathlib.Core.Bool.{true};
+ghost use mathlib.Core.Bool.{true, _||_};
 ghost use Prim.Native.Nat.{_<_};
 ghost use lib.ListN.{length};
 ghost use Rattle.sheet.specs.inner.Words.{wordValues};
 ghost use Rattle.sets.specs.Rounds.{setAt};
 ghost use Rattle.sets.specs.inner.RowEquations.{splits, joinsOn, joinsBack, joinsBy, ownPoint, settledPoint, blockSide};
-ghost use Rattle.sets.specs.inner.Walks.{asksPartner};
 use super::Which;
 use sheet::RowNumber;
 use sheet::kinds::Part;
@@ -100,9 +99,9 @@ fn joins(which: Which, part: Part) -> bool
     }
 }
 
-// What a row of a block puts into the set that it settles, `own` being the set at its own point.
+// What a row of a block that is no loop's far end puts into the set that it settles, `own` being the set at its own point.
 pub fn right_side(which: Which, part: Part, own: u64, sets: &[u64], partner: RowNumber) -> u64
-    requires { ⌜ (partner .0 < wordValues) × (asksPartner which part ≡ true → ownPoint which (partner .0) < length (now sets)) ⌝ }
+    requires { ⌜ (partner .0 < wordValues) × ((splits part || joinsBy which part) ≡ true → ownPoint which (partner .0) < length (now sets)) ⌝ }
     ensures { λ r. ⌜ r ≡ blockSide which part own (setAt (now (sets .entry)) (ownPoint which (partner .0))) ⌝ }
 {
     if splits(part) {

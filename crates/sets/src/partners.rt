@@ -1,11 +1,13 @@
 // The partners of a block's rows: where an equation takes a set from besides the row's own point. One pass finds them all: `came` has for an "else" its
-// "if", for an "end if" its "else" and for a "repeat" its "end repeat", `goes` the other way.
+// "if", for an "end if" its "else" and for a "repeat" its "end repeat", `goes` the other way. A loop's far end, in `came` the "end repeat", has the point whose set
+// it takes.
 ghost use mathlib.Core.Path.{_≡_};
-ghost use Prim.Native.Nat.{_<_};
+ghost use Prim.Native.Nat.{suc, _+_, _<_};
 ghost use lib.ListN.{getD, set, length};
 ghost use Rattle.sheet.specs.inner.Words.{wordValues};
-ghost use Rattle.sets.specs.inner.RowEquations.{AllReadable, lineIn};
-ghost use Rattle.sets.specs.inner.PartnerPass.{found, paired, foundBy, Findable, Listed, PartnersFound};
+ghost use Rattle.sets.specs.inner.RowEquations.{RowReadable, AllReadable, lineIn};
+ghost use Rattle.sheet.specs.inner.Kinds.{opensTest};
+ghost use Rattle.sets.specs.inner.PartnerPass.{found, paired, wayOut, ended, foundBy, Findable, Listed, PartnersFound};
 use super::Extent;
 use super::rows;
 use sheet::RowNumber;
@@ -47,17 +49,52 @@ fn pair(
     outer
 }
 
+// A loop's rows, once they are partners, as far ends: beyond a loop with a test, which may do no turn, stands the set of the body's near end.
+fn put_ways_out(tests: bool, start: RowNumber, end: RowNumber, came: &mut [u16], goes: &mut [u16])
+    requires { ⌜ Listed (now came) (now goes) (start .0) × Listed (now came) (now goes) (end .0) × (start .0 + 1 < wordValues) ⌝ }
+    ensures { λ r. ⌜ (now (came .exit) ≡ set (now (came .entry)) (end .0) (wayOut tests (suc (start .0)) (end .0)))
+        × (now (goes .exit) ≡ set (now (goes .entry)) (start .0) (wayOut tests (end .0) (suc (start .0)))) ⌝ }
+{
+    let inside = RowNumber(start.0 + 1);
+    if tests {
+        put(came, end, inside);
+        put(goes, start, end);
+    } else {
+        put(came, end, end);
+        put(goes, start, inside);
+    }
+}
+
+// The last row of a loop that `top` opened.
+fn end_loop(
+    tests: bool,
+    row: RowNumber,
+    top: RowNumber,
+    came: &mut [u16],
+    goes: &mut [u16],
+) -> RowNumber
+    requires { ⌜ Listed (now came) (now goes) (row .0) × Listed (now came) (now goes) (top .0) × (top .0 + 1 < wordValues) ⌝ }
+    ensures { λ r. ⌜ found (r .0) (now (came .exit)) (now (goes .exit))
+        ≡ ended tests (top .0) (row .0) (paired (top .0) (row .0) (found (top .0) (now (came .entry)) (now (goes .entry)))) ⌝ }
+{
+    let outer = pair(top, row, top, came, goes);
+    put_ways_out(tests, top, row, came, goes);
+    outer
+}
+
 // One row: `top` is the innermost open block's last row so far, and the answer is the same after this row.
 fn partner_step(
+    words: &[u16],
+    first: usize,
     part: Part,
     row: RowNumber,
     top: RowNumber,
     came: &mut [u16],
     goes: &mut [u16],
 ) -> RowNumber
-    requires { ⌜ Listed (now came) (now goes) (row .0) × Listed (now came) (now goes) (top .0) ⌝ }
+    requires { ⌜ Listed (now came) (now goes) (row .0) × Listed (now came) (now goes) (top .0) × (top .0 + 1 < wordValues) × RowReadable (now words) first (top .0) ⌝ }
     ensures { λ r. ⌜ found (r .0) (now (came .exit)) (now (goes .exit))
-        ≡ foundBy part (row .0) (found (top .0) (now (came .entry)) (now (goes .entry))) ⌝ }
+        ≡ foundBy part (opensTest (lineIn (now (words .entry)) first (top .0))) (row .0) (found (top .0) (now (came .entry)) (now (goes .entry))) ⌝ }
 {
     match part {
         Part::Assignment => top,
@@ -75,7 +112,7 @@ fn partner_step(
             put(goes, row, top);
             row
         }
-        Part::EndRepeat => pair(top, row, top, came, goes),
+        Part::EndRepeat => end_loop(rows::opens_test(words, first, top), row, top, came, goes),
     }
 }
 
@@ -94,7 +131,7 @@ pub fn find_partners(words: &[u16], extent: Extent, came: &mut [u16], goes: &mut
         let kind = rows::kind_of(words, extent.first, row);
         let form = forms[kind];
         let part = form.3;
-        top = partner_step(part, row, top, came, goes);
+        top = partner_step(words, extent.first, part, row, top, came, goes);
         number += 1;
     }
 }

@@ -5,12 +5,13 @@ ghost use lib.ListN.{length};
 ghost use Rattle.sheet.specs.inner.Words.{wordValues};
 ghost use Rattle.sheet.specs.Rows.{Assignment};
 ghost use Rattle.sets.specs.declared.Which.the-variants.{Varied, Useful, Required};
-ghost use Rattle.sets.specs.Rounds.{least};
+ghost use mathlib.Core.Bool.{true};
+ghost use Rattle.sets.specs.Rounds.{setAt, least};
 ghost use Rattle.sets.specs.inner.Operations.{maskBits, TargetSmall, Performs, activityBy};
-ghost use Rattle.sets.specs.inner.RowEquations.{givenBy, unasked, knownFrom, lineIn, turnOf, rowInTurn, settledPoint};
+ghost use Rattle.sets.specs.inner.RowEquations.{givenBy, unasked, knownFrom, lineIn, turnOf, rowInTurn, ownPoint, settledPoint};
 ghost use Rattle.sets.specs.inner.RowEquations.{startOf, allEquations, hasRole, seedIn};
 ghost use Rattle.sets.specs.inner.RowBytes.{bytesOf, written};
-ghost use Rattle.sets.specs.inner.Walks.{endsOn, endsBack, endsRepeat, Grown, Judging, Brings, AtBlock, ownSide, PassedRow, Settles};
+ghost use Rattle.sets.specs.inner.Walks.{endsOn, endsBack, endsRepeat, asksPartner, sideBy, Grown, Judging, Brings, AtBlock, ownSide, PassedRow, Settles};
 use super::Extent;
 use super::Which;
 use super::equations;
@@ -179,6 +180,18 @@ fn brings_more(
     false
 }
 
+// What a row of a block puts into the set that it settles. A loop's far end takes the set of the point that stands for its partner.
+fn side_of(which: Which, part: Part, own: u64, sets: &[u64], partner: RowNumber) -> u64
+    requires { ⌜ (partner .0 < wordValues) × (asksPartner which part ≡ true → (ownPoint which (partner .0) < length (now sets)) × (partner .0 < length (now sets))) ⌝ }
+    ensures { λ r. ⌜ r ≡ sideBy which part own (setAt (now (sets .entry)) (ownPoint which (partner .0))) (setAt (now (sets .entry)) (partner .0)) ⌝ }
+{
+    if ends_repeat(which, part) {
+        let point = partner.0;
+        return equations::set_at(sets, point);
+    }
+    equations::right_side(which, part, own, sets, partner)
+}
+
 // The equation of a block's row; or, where the row brings more to the start of a repeat's body, that of the repeat's other end, after which the walk goes on.
 fn pass_block_row(
     which: Which,
@@ -204,7 +217,7 @@ fn pass_block_row(
         return WalkedTo { turn, own };
     }
     let partner = partners::partner_there(partners, row);
-    let right = equations::right_side(which, part, own, sets, partner);
+    let right = side_of(which, part, own, sets, partner);
     let own = grow(sets, equations::settled_point(which, row), right);
     let turn = reached.turn + 1;
     WalkedTo { turn, own }

@@ -1,5 +1,6 @@
 -- Rows as blocks. One tree serves as a sheet's body, as that body with marks, and as an adjoint table.
 use Prim.Native.Nat.{ℕ, _+_, suc, _*_, max}
+use mathlib.Core.Bool.{Bool, true, false}
 use mathlib.Core.List.{List, _∷_}
 
 -- how a loop turns, as the row that opens it says
@@ -13,6 +14,10 @@ pub data Loop (F : Type 0) : Type 0 where
 abbrev pub mostTurns : {F : Type 0} → Loop F → ℕ
 mostTurns (times m) = suc m
 mostTurns (while f m) = suc m
+
+abbrev pub hasTest : {F : Type 0} → Loop F → Bool
+hasTest (times m) = false
+hasTest (while f m) = true
 
 -- the same loop, by something else that it asks
 abbrev pub loopBy : {F G : Type 0} → (F → G) → Loop F → Loop G

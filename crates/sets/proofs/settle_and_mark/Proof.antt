@@ -66,7 +66,7 @@ find-partners-requires c κs =
     let start = c .before .before .before .before .before .before .before .before .before in
     let known = facts _ _ _ _ (handed start) in
     let room = start .pre .1 in
-    (known .readable, findable _ _ (handed start .sheet .body) _ _ (known .lines) (handed start .rowsAre) (room .cameRoom) (room .goesRoom))
+    (known .readable, findable _ _ (handed start .sheet .body) _ _ (known .lines) (handed start .rowsAre) (room .cameRoom) (room .goesRoom) (omega (arith, known .fewRows)))
 
 settle-varied-requires : tie.Need-settle-varied-requires
 settle-varied-requires c κs =

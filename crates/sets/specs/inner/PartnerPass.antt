@@ -1,11 +1,12 @@
 -- How one pass over the rows finds every block row's partners both ways.
 use Prim.Native.Nat.{ℕ, zero, suc, _≤_, _<_}
 use mathlib.Core.Path.{_≡_}
+use mathlib.Core.Bool.{Bool, cond}
 use mathlib.Core.List.{List}
 use lib.ListN.{length, getD, set}
 use Rattle.sheet.specs.inner.Words.{wordValues}
 use Rattle.sheet.specs.Rows.{SheetLine}
-use Rattle.sheet.specs.inner.Kinds.{partOf}
+use Rattle.sheet.specs.inner.Kinds.{partOf, opensTest}
 use Rattle.sheet.specs.declared.kinds.Part.{Part}
 use Rattle.sheet.specs.declared.kinds.Part.the-variants as part
 
@@ -27,33 +28,45 @@ opened p s = found p (s .came) (set (s .goes) p (s .top))
 abbrev pub paired : (to from : ℕ) → PartnersSoFar → PartnersSoFar
 paired to from s = found (getD (s .goes) (s .top) 0) (set (s .came) to from) (set (s .goes) from to)
 
--- what one row does, by what it is to the blocks
-unfoldable pub foundBy : Part → (row : ℕ) → PartnersSoFar → PartnersSoFar
-foundBy part.Assignment p s = s
-foundBy part.If p s = opened p s
-foundBy part.Else p s = opened p (paired p (s .top) s)
-foundBy part.EndIf p s = paired p (s .top) s
-foundBy part.Repeat p s = opened p s
-foundBy part.EndRepeat p s = paired (s .top) p s
+-- a loop's first and last row get the points whose sets they take as far ends; `tests` is whether the loop has a test
+abbrev pub wayOut : (tests : Bool) → (near far : ℕ) → ℕ
+wayOut tests near far = cond tests near far
+
+abbrev pub ended : (tests : Bool) → (start end : ℕ) → PartnersSoFar → PartnersSoFar
+ended tests start end s = found (s .top) (set (s .came) end (wayOut tests (suc start) end)) (set (s .goes) start (wayOut tests end (suc start)))
+
+-- what one row does, by what it is to the blocks, and by whether the innermost open block is a loop with a test
+unfoldable pub foundBy : Part → (tests : Bool) → (row : ℕ) → PartnersSoFar → PartnersSoFar
+foundBy part.Assignment tests p s = s
+foundBy part.If tests p s = opened p s
+foundBy part.Else tests p s = opened p (paired p (s .top) s)
+foundBy part.EndIf tests p s = paired p (s .top) s
+foundBy part.Repeat tests p s = opened p s
+foundBy part.EndRepeat tests p s = ended tests (s .top) p (paired (s .top) p s)
 
 -- and so by its line
-unfoldable pub foundAt : SheetLine → (row : ℕ) → PartnersSoFar → PartnersSoFar
+unfoldable pub foundAt : SheetLine → (tests : Bool) → (row : ℕ) → PartnersSoFar → PartnersSoFar
 unfolding foundBy
-foundAt l p s = foundBy (partOf l) p s
+foundAt l tests p s = foundBy (partOf l) tests p s
+
+-- the innermost open block is a loop with a test
+abbrev pub inTested : (ℕ → SheetLine) → PartnersSoFar → Bool
+inTested line s = opensTest (line (s .top))
 
 unfoldable pub foundOver : (ℕ → SheetLine) → (from count : ℕ) → PartnersSoFar → PartnersSoFar
 unfolding foundAt
 foundOver line p zero s = s
-foundOver line p (suc n) s = foundOver line (suc p) n (foundAt (line p) p s)
+foundOver line p (suc n) s = foundOver line (suc p) n (foundAt (line p) (inTested line s) p s)
 
 -- before each of so many rows the innermost open block's last row so far is one of n rows
 unfoldable pub TopsWithin : (ℕ → SheetLine) → (n from count : ℕ) → PartnersSoFar → Type 0
 unfolding foundAt
 TopsWithin line n p zero s = Unit
-TopsWithin line n p (suc m) s = (s .top < n) × TopsWithin line n (suc p) m (foundAt (line p) p s)
+TopsWithin line n p (suc m) s = (s .top < n) × TopsWithin line n (suc p) m (foundAt (line p) (inTested line s) p s)
 
 -- both lists have a place for each row, and what they are asked for is a row
 pub record Findable (line : ℕ → SheetLine) (n : ℕ) (came goes : List ℕ) : Type 0 where
+  pub few : n < wordValues
   pub cameRoom : n ≤ length came
   pub goesRoom : n ≤ length goes
   pub within : TopsWithin line n 0 n (found 0 came goes)

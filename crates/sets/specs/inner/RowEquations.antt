@@ -1,5 +1,5 @@
 -- 01's equations row by row, as the code goes through them: each row gives one, from its line, its own number and that of its partner, the
--- row of the same block that its set comes from.
+-- row of the same block that its set comes from; a loop's far end has the point itself.
 use Prim.Native.Nat.{ℕ, zero, suc, _+_, _*_, _-_, _≤_, _<_}
 use mathlib.Core.Path.{_≡_}
 use mathlib.Core.Bool.{Bool, true, false, cond}
@@ -33,15 +33,15 @@ forwardOf turn (basic b) p c = passes p (suc p) (turn b)
 forwardOf turn (ifLine f) p c = passes p (suc p) unchanged
 forwardOf turn elseLine p c = passes c (suc p) unchanged
 forwardOf turn endIf p c = joins c p (suc p)
-forwardOf turn (repeat m) p c = joins p c (suc p)
-forwardOf turn endRepeat p c = passes p (suc p) unchanged
+forwardOf turn (repeat l) p c = joins p c (suc p)
+forwardOf turn endRepeat p c = passes c (suc p) unchanged
 
 unfoldable pub backwardOf : (Assignment → VariableSet → VariableSet) → SheetLine → (row partner : ℕ) → Equation
 backwardOf turn (basic b) p c = passes (suc p) p (turn b)
 backwardOf turn (ifLine f) p c = joins (suc p) (suc c) p
 backwardOf turn elseLine p c = passes (suc c) p unchanged
 backwardOf turn endIf p c = passes (suc p) p unchanged
-backwardOf turn (repeat m) p c = passes (suc p) p unchanged
+backwardOf turn (repeat l) p c = passes c p unchanged
 backwardOf turn endRepeat p c = joins (suc p) (suc c) p
 
 -- what an assignment does to the set, by what is known of it

@@ -2,7 +2,7 @@
 -- while the set there grows.
 use Prim.Native.Nat.{ℕ, suc, _+_, _-_, _≤_, _<_}
 use mathlib.Core.Path.{_≡_}
-use mathlib.Core.Bool.{Bool, true, false, _||_}
+use mathlib.Core.Bool.{Bool, true, false, _||_, cond}
 use mathlib.Core.List.{List}
 use lib.ListN.{getD, set, replicate, length as List·length}
 use Rattle.sheet.specs.inner.Kinds.{partFor}
@@ -50,7 +50,11 @@ endsRepeat Required part = endsOn part
 
 -- a row whose equation asks its partner's set
 abbrev pub asksPartner : Which → Part → Bool
-asksPartner which part = splits part || joinsBy which part
+asksPartner which part = endsRepeat which part || (splits part || joinsBy which part)
+
+-- what such a row puts into the set that it settles: a loop's far end the set at a point that its partner is
+abbrev pub sideBy : Which → Part → (own other there : VariableSet) → VariableSet
+sideBy which part own other there = cond (endsRepeat which part) there (blockSide which part own other)
 
 -- what a row is to the blocks
 abbrev pub partIn : Given → ℕ → Part
@@ -130,7 +134,9 @@ pub record AtBlock (which : Which) (part : Part) (rows row : ℕ) (partners othe
 
 -- that row's own right side
 abbrev pub ownSide : Which → Part → (row : ℕ) (partners : List ℕ) → List VariableSet → VariableSet
-ownSide which part row partners sets = blockSide which part (setAt sets (ownPoint which row)) (setAt sets (ownPoint which (getD partners row 0)))
+ownSide which part row partners sets =
+    let c = getD partners row 0 in
+    sideBy which part (setAt sets (ownPoint which row)) (setAt sets (ownPoint which c)) (setAt sets c)
 
 -- what the code needs to settle the sets
 pub record Settles (which : Which) (given : Given) (others : List ℕ) (rows variables : ℕ) (sets : List VariableSet) : Type 0 where

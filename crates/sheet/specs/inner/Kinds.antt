@@ -4,7 +4,7 @@ use mathlib.Core.Bool.{Bool, true, false, cond}
 use mathlib.Core.List.{List, _∷_, map}
 use mathlib.Core.Option.{Option, none, some}
 use lib.Dec.{eqb}
-use Rattle.sheet.specs.Tree.{basic, ifLine, elseLine, endIf, repeat, endRepeat}
+use Rattle.sheet.specs.Tree.{hasTest, basic, ifLine, elseLine, endIf, repeat, endRepeat}
 use Rattle.sheet.specs.Rows.{SheetLine, Row, Kind, kinds, kindOf, whileKind}
 use Rattle.sheet.specs.Rows as rows
 use Rattle.sheet.specs.declared.kinds.Slot.{Slot}
@@ -43,6 +43,15 @@ partOf elseLine = part.Else
 partOf endIf = part.EndIf
 partOf (repeat l) = part.Repeat
 partOf endRepeat = part.EndRepeat
+
+-- whether a line opens a loop with a test
+abbrev pub opensTest : SheetLine → Bool
+opensTest (basic b) = false
+opensTest (ifLine f) = false
+opensTest elseLine = false
+opensTest endIf = false
+opensTest (repeat l) = hasTest l
+opensTest endRepeat = false
 
 -- a kind's lines are the same to the blocks whatever their words are, so that those with all words 0 tell it
 abbrev pub formOf : Kind → Form

@@ -36,7 +36,8 @@ partner-step-requires : tie.Need-partner-step-requires Inv-loop μ-loop
 partner-step-requires c κs =
     let inside = c .before .before .before .before in
     let start = inside .before .before .before .before .before .before in
-    both-listed _ _ _ _ (start .pre .1) (inside .before .loop .inv) (inside .loop-test .taken) (λ p h. start .pre .0 p h .numbered)
+    let listed = both-listed _ _ _ _ (start .pre .1) (inside .before .loop .inv) (inside .loop-test .taken) (λ p h. start .pre .0 p h .numbered) in
+    (listed .0, listed .1, listed .2, start .pre .0 _ (listed .3))
 
 add-number : tie.Need-add-number Inv-loop μ-loop
 add-number c =
@@ -56,7 +57,7 @@ loop-again c =
     let start = inside .before .before .before .before .before .before in
     finding-on _ _ _ _ _ _ _ _ (inside .before .loop .inv) (inside .loop-test .taken) _
     (part-read (start .pre .0 _ (inside .loop-test .taken)) (form-read (forms .forms .ensures) (read .kind-of .ensures))) _ _ _ (step .partner-step .ensures)
-    (step .partner-step .kept .1 .1 .1 .0) (step .partner-step .kept .1 .1 .1 .1 .0)
+    (step .partner-step .kept .1 .1 .1 .1 .1 .0) (step .partner-step .kept .1 .1 .1 .1 .1 .1 .0)
 
 same-length : tie.Need-same-length Inv-loop μ-loop
 same-length c = c .before .loop .inv .cameLong

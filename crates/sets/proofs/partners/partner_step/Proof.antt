@@ -1,6 +1,6 @@
 -- `sets::partners::partner_step` meets its contract: each arm is one case of what the row is to the blocks.
 use borrow.Author.Needs.{needs}
-use mathlib.Core.Path.{ap}
+use mathlib.Core.Path.{sym, ap}
 use Rattle.sets.specs.inner.PartnerPass.{opened, foundBy}
 use Rattle.sets.proofs.partners.partner_step.Statement.{statement}
 use Rattle.sets.proofs.partners.partner_step.Tie as tie
@@ -38,8 +38,11 @@ put-requires-3 c κs = search needs
 enum-told-6 : tie.Need-enum-told-6
 enum-told-6 c = search needs
 
-pair-requires-3 : tie.Need-pair-requires-3
-pair-requires-3 c κs = search needs
+opens-test-requires : tie.Need-opens-test-requires
+opens-test-requires c κs = search needs
+
+end-loop-requires : tie.Need-end-loop-requires
+end-loop-requires c κs = search needs
 
 returns : tie.Need-returns
 unfolding foundBy
@@ -64,7 +67,7 @@ returns-3 c =
     let put = c .before .before in
     let closed = put .before .before .before .before .before .before in
     let told = closed .before .before .before in
-    rw (told .enum-told3 .given .1, put .put2 .ensures) (ap (opened (told .before .before .before .before .args .row .0)) (closed .pair .ensures .0))
+    rw (told .enum-told3 .given .1, put .put2 .ensures) (ap (opened (told .before .before .before .before .before .args .row .0)) (closed .pair .ensures .0))
 
 same-length-4 : tie.Need-same-length-4
 same-length-4 c = search needs
@@ -95,7 +98,8 @@ returns-6 : tie.Need-returns-6
 unfolding foundBy
 returns-6 c =
     let closed = c .before .before .before .before in
-    rw (closed .before .before .before .enum-told6 .given .1) (closed .pair3 .ensures .0)
+    let asked = closed .before .before .before in
+    rw (asked .before .enum-told6 .given .1, sym (asked .opens-test .ensures)) (closed .end-loop .ensures)
 
 pub partner-step-spec : {M : Type 1} → statement M
 partner-step-spec =
@@ -112,7 +116,8 @@ partner-step-spec =
     enum-told-5
     put-requires-3
     enum-told-6
-    pair-requires-3
+    opens-test-requires
+    end-loop-requires
     returns
     same-length
     returns-2

@@ -83,11 +83,16 @@ returns c =
 partner-there-requires-2 : tie.Need-partner-there-requires-2
 partner-there-requires-2 c κs = search needs
 
-right-side-requires : tie.Need-right-side-requires
-right-side-requires c κs =
+side-of-requires : tie.Need-side-of-requires
+side-of-requires c κs =
     let partner = c .before in
-    let first = start (partner .before .before) in
-    (partner .partner-there2 .ensures .1, λ e. own-below (first .args .which) _ _ (omega (arith, partner .partner-there2 .ensures .0, first .pre .taken e, first .pre .long)))
+    let first = start (partner .before .before) in (
+      partner .partner-there2 .ensures .1,
+      λ e. (
+        own-below (first .args .which) _ _ (omega (arith, partner .partner-there2 .ensures .0, first .pre .taken e, first .pre .long)),
+        omega (arith, partner .partner-there2 .ensures .0, first .pre .taken e, first .pre .long),
+      ),
+    )
 
 settled-point-requires-2 : tie.Need-settled-point-requires-2
 settled-point-requires-2 c κs = search needs
@@ -116,11 +121,15 @@ returns-2 c =
     let args = first .args in
     record {
       due = args .row .0;
-      more = found .right-side .result;
+      more = found .side-of .result;
       isDue =
           onward refl
-          (found .right-side .ensures
-          ∙ cc (first .pre .judging .inHand, ap (λ p. setAt (now (args .sets)) (ownPoint (args .which) p)) (partner .partner-there2 .ensures .0)))
+          (found .side-of .ensures
+          ∙ cc (
+            first .pre .judging .inHand,
+            ap (λ p. setAt (now (args .sets)) (ownPoint (args .which) p)) (partner .partner-there2 .ensures .0),
+            ap (setAt (now (args .sets))) (partner .partner-there2 .ensures .0),
+          ))
           (brings .brings-more .ensures .nothing (partner .before .if1 .left));
       grown = rw (sym (settled .settled-point2 .ensures)) (grown .grow2 .ensures);
       turns = ap (λ t. t + 1) (first .pre .turns);
@@ -140,7 +149,7 @@ pass-block-row-spec =
     same-length
     returns
     partner-there-requires-2
-    right-side-requires
+    side-of-requires
     settled-point-requires-2
     grow-requires-2
     add-turn-2
