@@ -5,13 +5,13 @@ use mathlib.Core.Bool.{true, false}
 use mathlib.Core.List.{List, [], _∷_}
 use lib.ListN.{length, length-append, getD}
 use native.Mathlib.Omega.{arith}
-use Rattle.sheet.specs.Tree.{Tree, done, one, fork, again, basic, ifLine, elseLine, endIf, repeat, endRepeat, flat, rows}
+use Rattle.sheet.specs.Tree.{loopBy, Tree, done, one, fork, again, basic, ifLine, elseLine, endIf, repeat, endRepeat, flat, rows}
 use Rattle.sheet.specs.Rows.{Assignment, Test, SheetLine, sheetRowOf, treeRows}
 use Rattle.sheet.specs.inner.RowLines.{lineOfRow, numberedRow}
 use Rattle.sheet.specs.Sheets.{rowsAt}
 use Rattle.sheet.proofs.RowsBack.{line-back}
 use Rattle.sheet.proofs.RowsByNumber.{StandsAt, tree-stands, stands-after, rows-of-tree}
-use Rattle.sets.specs.Marks.{Marked, numbered}
+use Rattle.sets.specs.Marks.{Marked, testAt, numbered}
 use Rattle.table.specs.TableRows.{Table, saveTurn, turning, onTurn, turnRound, ofTurningRound}
 use Rattle.table.specs.Adjoint.{put, forwardRow, forwardPart, backwardOf, backwardPart, adjointTable}
 use Rattle.table.specs.Sizes.{tableRows}
@@ -104,7 +104,7 @@ module _ (v : ℕ) (words : List ℕ) (first : ℕ) (marks came goes : List ℕ)
         count-step (repeat m) p (rows a + suc (rows k + n)) c (omega arith) (s .0),
         count-tree a (endRepeat ∷ flat k ls) done done (suc p) (suc (rows k + n)) (rows a + suc (rows k + n)) end refl refl (s .1) (w .1 .0),
         count-step endRepeat end (rows k + n) (suc (rows k + n)) refl (atEnd .0),
-        count-tree k ls after (again m A before) (suc end) n (rows k + n) e refl (omega arith) (atEnd .1) (w .1 .1),
+        count-tree k ls after (again (loopBy (λ f. onTurn) (loopBy (testAt p) m)) A before) (suc end) n (rows k + n) e refl (omega arith) (atEnd .1) (w .1 .1),
       )
 
   count-end : (e : ℕ) → countRows v words first marks e 0 ≡ 0

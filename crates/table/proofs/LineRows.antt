@@ -1,19 +1,20 @@
 -- What the code learns of a sheet row from what it is to the blocks: the line that it says, and that line's rows in both parts of the table.
-use Prim.Native.Nat.{ℕ}
+use Prim.Native.Nat.{ℕ, suc}
 use mathlib.Core.Path.{_≡_, refl, sym, ap, _∙_, subst}
 use mathlib.Core.Bool.{Bool}
 use mathlib.Core.List.{List, [], _∷_, _++_}
 use native.Mathlib.Omega.{arith}
-use Rattle.sheet.specs.Tree.{basic, ifLine, elseLine, endIf, repeat, endRepeat}
-use Rattle.sheet.specs.Rows.{Assignment, Source, copy, fixed, sum, difference, product, negation, quotient, Row, SheetLine, rowOf, rowOfAssignment, sheetRowOf, _≔_}
+use Rattle.sheet.specs.Tree.{Loop, times, while, loopBy, basic, ifLine, elseLine, endIf, repeat, endRepeat}
+use Rattle.sheet.specs.Rows.{Assignment, Source, copy, fixed, sum, difference, product, negation, quotient, Test, Row, SheetLine, rowOf, rowOfAssignment, sheetRowOf, _≔_}
 use Rattle.sheet.specs.inner.RowLines.{lineOfRow, SaysLine}
 use Rattle.sheet.specs.inner.Kinds.{partOf, partFor}
 use Rattle.sheet.specs.declared.kinds.Part.{Part}
 use Rattle.sheet.specs.declared.kinds.Part.the-variants as part
 use Rattle.sheet.proofs.LinesByPart.{row-part}
-use Rattle.table.specs.TableRows.{tableRowOf, rowOfAction, rowOfTableTest}
+use Rattle.sets.specs.Marks.{testAt}
+use Rattle.table.specs.TableRows.{tableRowOf, whether, onTurn, rowOfAction, rowOfTableTest}
 use Rattle.table.specs.Adjoint.{forwardRow}
-use Rattle.table.specs.inner.MarkedRows.{rowWith, rowIf, savedBy, Assigns, SaysPart, sourceSaid, sourceOf, assignmentBack, forwardOfLine, backwardOfLine}
+use Rattle.table.specs.inner.MarkedRows.{rowWith, rowIf, savedBy, Assigns, SaysPart, sourceSaid, sourceOf, assignmentBack, loopBack, forwardOfLine, backwardOfLine}
 use Rattle.table.proofs.AssignmentRows.{rows-of-put, rows-of-put-if, rows-of-done}
 
 -- ---- the line that a row says
@@ -114,7 +115,7 @@ backwardFor v mark turns part.If r = rowWith 8 0 0 0 ∷ []
 backwardFor v mark turns part.Else r = rowWith 9 0 0 0 ∷ []
 backwardFor v mark turns part.EndIf r = rowWith 15 0 0 0 ∷ []
 backwardFor v mark turns part.Repeat r = rowWith 11 0 0 0 ∷ []
-backwardFor v mark turns part.EndRepeat r = rowWith 10 0 turns 0 ∷ []
+backwardFor v mark turns part.EndRepeat r = loopBack turns ∷ []
 
 pub backward-by : {r : Row} {p q : Part} → SaysPart r p → p ≡ q → (v mark turns : ℕ)
     → backwardOfLine v mark turns (lineOfRow r) ≡ backwardFor v mark turns q r
@@ -128,3 +129,20 @@ backward-by {r} {p} {q} s told v mark turns = by (lineOfRow r) refl ∙ rw (sym 
     by endIf e = refl
     by (repeat m) e = refl
     by endRepeat e = refl
+
+-- ---- a loop's first row, as the tree has it
+
+pub loop-forward : (p : ℕ) (l : Loop Test) → tableRowOf (repeat (loopBy (λ f. whether (f .test)) (loopBy (testAt p) l))) ≡ sheetRowOf (repeat l)
+unfolding tableRowOf sheetRowOf
+loop-forward p (times m) = refl
+loop-forward p (while f m) = refl
+
+-- the turns that it says in the backward part
+abbrev pub turnsSaid : {F : Type 0} → Loop F → ℕ
+turnsSaid (times m) = suc m
+turnsSaid (while f m) = 0
+
+pub loop-backward : (p : ℕ) (l : Loop Test) → tableRowOf (repeat (loopBy (λ f. onTurn) (loopBy (testAt p) l))) ≡ loopBack (turnsSaid l)
+unfolding tableRowOf
+loop-backward p (times m) = refl
+loop-backward p (while f m) = refl

@@ -4,19 +4,20 @@ use mathlib.Core.Path.{_≡_, refl, ap}
 use mathlib.Core.Bool.{cond}
 use mathlib.Core.List.{List, [], _∷_}
 use lib.ListN.{length, getD}
+use lib.Dec.{eqb}
 use native.Mathlib.Nat.{suc-mul}
 use native.Mathlib.Omega.{arith}
 use Rattle.sheet.specs.inner.RowLines.{numberedRow}
 use Rattle.sheet.specs.Bounds.{limit}
-use Rattle.sheet.specs.Tree.{Tree, done, one, fork, again, basic, ifLine, elseLine, endIf, repeat, endRepeat, flat, rows, longestRun}
-use Rattle.sheet.specs.Rows.{Assignment, Test, SheetLine, rowOf, sheetRowOf, treeRows}
-use Rattle.sheet.specs.inner.Kinds.{partOf, partFor}
+use Rattle.sheet.specs.Tree.{Loop, times, while, mostTurns, hasTest, loopBy, Tree, done, one, fork, again, basic, ifLine, elseLine, endIf, repeat, endRepeat, flat, rows, longestRun}
+use Rattle.sheet.specs.Rows.{Assignment, Test, less, SheetLine, whileKind, rowOf, sheetRowOf, treeRows}
+use Rattle.sheet.specs.inner.Kinds.{partOf, partFor, turnsIn}
 use Rattle.sheet.specs.Sheets.{rowsAt}
 use Rattle.sheet.proofs.Depth.{deep}
 use Rattle.sheet.proofs.LinesByPart.{line-part}
 use Rattle.sheet.proofs.RowsByNumber.{StandsAt, tree-stands, stands-after, rows-of-tree}
-use Rattle.sets.specs.Marks.{Marked, numbered}
-use Rattle.table.specs.Sizes.{valuesNeeded, turnsNeeded}
+use Rattle.sets.specs.Marks.{Marked, testAt, numbered}
+use Rattle.table.specs.Sizes.{valuesNeeded, ownCount, turnsNeeded}
 use Rattle.table.specs.declared.needs.Need.{Need}
 use Rattle.table.specs.declared.needs.Level.{Level}
 use Rattle.table.specs.inner.MarkedRows.{savedBy, Noted}
@@ -29,14 +30,30 @@ module _ (words : List ℕ) (first : ℕ) (marks came goes : List ℕ) (mark : �
 
   row-comes : (p n : ℕ) (need : Need) (around : List Level)
       → let r = numberedRow words first p in
-      Takes (partFor (r .kind)) (r .a) (savedBy (getD marks p 0)) need around (ComesFrom (suc p) n) → ComesFrom p (suc n) need around
+      Takes (partFor (r .kind)) (turnsIn r) (eqb (r .kind) whileKind) (savedBy (getD marks p 0)) need around (ComesFrom (suc p) n)
+      → ComesFrom p (suc n) need around
   unfolding Comes
   row-comes p n need around takes = takes
 
   -- a line that stands at row p
   line-comes : (l : SheetLine) (p n c : ℕ) (need : Need) (around : List Level) → c ≡ suc n → numberedRow words first p ≡ sheetRowOf l
-      → Takes (partOf l) (sheetRowOf l .a) (savedBy (getD marks p 0)) need around (ComesFrom (suc p) n) → ComesFrom p c need around
+      → Takes (partOf l) (turnsIn (sheetRowOf l)) (eqb (sheetRowOf l .kind) whileKind) (savedBy (getD marks p 0)) need around (ComesFrom (suc p) n)
+      → ComesFrom p c need around
   line-comes l p n c need around more stands takes = rw more (row-comes p n need around (rw (stands, line-part l) takes))
+
+  -- a loop's row says how many turns it does at most and whether it has a test; marks change neither
+  loop-said : (l : Loop Test) → (turnsIn (sheetRowOf (repeat l)) ≡ mostTurns l) × (eqb (sheetRowOf (repeat l) .kind) whileKind ≡ hasTest l)
+  unfolding sheetRowOf
+  loop-said (times m) = (refl, refl)
+  loop-said (while (less a b) m) = (refl, refl)
+
+  marked-loop : (p : ℕ) (l : Loop Test) → (mostTurns (loopBy (testAt p) l) ≡ mostTurns l) × (ownCount (loopBy (testAt p) l) ≡ ownCount l)
+  marked-loop p (times m) = (refl, refl)
+  marked-loop p (while f m) = (refl, refl)
+
+  some-turn : (l : Loop Test) (x : ℕ) → x ≤ mostTurns l * x
+  some-turn (times m) x = omega (arith, suc-mul m x)
+  some-turn (while f m) x = omega (arith, suc-mul m x)
 
   -- the rows of a tree add what it needs, whatever blocks stand around it
   tree-comes : (t : Tree Assignment Test) (ls : List SheetLine) (p n c e values turns : ℕ) {values′ turns′ : ℕ} (around : List Level)
@@ -84,23 +101,29 @@ module _ (words : List ℕ) (first : ℕ) (marks came goes : List ℕ) (mark : �
         tree-comes a (elseLine ∷ flat b (endIf ∷ flat k ls)) (suc p) (suc second) (rows a + suc second) at 0 0 (level ∷ around) refl refl (s .1) (w .1 .0)
             (omega arith) (omega arith) (omega arith) (omega arith) (omega arith) splitting,
       )
-  tree-comes (again m a k) ls p n c e values turns around hc he s w hv ht few fewer room h =
+  tree-comes (again l a k) ls p n c e values turns around hc he s w hv ht few fewer room h =
       let end = suc p + rows a in
       let rest = rows k + n in
       let A = numbered mark a (suc p) in
-      let level = opened (suc m) (needing values turns) in
+      let least = some-turn l in
+      let count = ownCount l in
+      let level = opened (mostTurns l) (needing values (turns + count)) in
+      let same = marked-loop p l in
       let atEnd = stands-after words first a (endRepeat ∷ flat k ls) (suc p) refl (s .1) in
-      let valuesOnce : valuesNeeded A ≤ suc m * valuesNeeded A = omega (arith, suc-mul m (valuesNeeded A)) in
-      let turnsOnce : turnsNeeded A ≤ suc m * turnsNeeded A = omega (arith, suc-mul m (turnsNeeded A)) in
-      let after : ComesFrom (suc end) rest (needing (values + suc m * valuesNeeded A) (turns + suc m * turnsNeeded A)) around =
-      tree-comes k ls (suc end) n rest e _ _ around refl (omega arith) (atEnd .1) (w .1 .1) (omega arith) (omega arith) few fewer (omega arith) h in
+      let valuesOnce : valuesNeeded A ≤ mostTurns l * valuesNeeded A = omega (arith, least (valuesNeeded A)) in
+      let turnsOnce : turnsNeeded A ≤ mostTurns l * turnsNeeded A = omega (arith, least (turnsNeeded A)) in
+      let valuesAll : mostTurns (loopBy (testAt p) l) * valuesNeeded A ≡ mostTurns l * valuesNeeded A = ap (λ m. m * valuesNeeded A) (same .0) in
+      let turnsAll : mostTurns (loopBy (testAt p) l) * turnsNeeded A ≡ mostTurns l * turnsNeeded A = ap (λ m. m * turnsNeeded A) (same .0) in
+      let after : ComesFrom (suc end) rest (needing (values + mostTurns l * valuesNeeded A) (turns + count + mostTurns l * turnsNeeded A)) around =
+      tree-comes k ls (suc end) n rest e _ _ around refl (omega arith) (atEnd .1) (w .1 .1) (omega arith) (omega (arith, same .1)) few fewer (omega arith) h in
       let closing : ComesFrom end (suc rest) (needing (valuesNeeded A) (turnsNeeded A)) (level ∷ around) =
-      line-comes endRepeat end rest (suc rest) _ (level ∷ around) refl (atEnd .0) (record { values = omega arith; turns = omega arith }, after) in
-      line-comes (repeat m) p (rows a + suc rest) c _ around (omega arith) (s .0) (
-        omega arith,
-        tree-comes a (endRepeat ∷ flat k ls) (suc p) (suc rest) (rows a + suc rest) end 0 0 (level ∷ around) refl refl (s .1) (w .1 .0)
-            (omega arith) (omega arith) (omega arith) (omega arith) (omega arith) closing,
-      )
+      line-comes endRepeat end rest (suc rest) _ (level ∷ around) refl (atEnd .0)
+      (record { values = omega arith; turns = omega (arith, same .1) }, after) in
+      let body : ComesFrom (suc p) (rows a + suc rest) nothing (level ∷ around) =
+      tree-comes a (endRepeat ∷ flat k ls) (suc p) (suc rest) (rows a + suc rest) end 0 0 (level ∷ around) refl refl (s .1) (w .1 .0)
+      (omega arith) (omega arith) (omega arith) (omega (arith, same .1)) (omega arith) closing in
+      line-comes (repeat l) p (rows a + suc rest) c _ around (omega arith) (s .0)
+      (rw (loop-said l .0, loop-said l .1) (omega arith, body, record { values = omega arith; turns = omega (arith, same .1) }))
 
 -- of a whole body: its S and T
 module _ (words : List ℕ) (first : ℕ) (marks came goes : List ℕ) (mark : ℕ → Assignment → Marked) (t : Tree Assignment Test) where

@@ -5,17 +5,18 @@ use mathlib.Core.List.{List, [], _∷_}
 use native.Mathlib.Omega.{arith}
 use native.Mathlib.Numerals.{add-one}
 use lib.ListN.{length, length-set, getD, set}
+use lib.Dec.{eqb}
 use lib.Seq.{getD-set-same, getD-set-other}
 use Rattle.sheet.specs.inner.RowLines.{numberedRow}
 use Rattle.sheet.specs.Bounds.{limit}
-use Rattle.sheet.specs.Rows.{Row}
-use Rattle.sheet.specs.inner.Kinds.{partFor}
+use Rattle.sheet.specs.Rows.{Row, whileKind}
+use Rattle.sheet.specs.inner.Kinds.{partFor, turnsIn}
 use Rattle.sheet.specs.declared.kinds.Part.{Part}
 use Rattle.sheet.specs.declared.kinds.Part.the-variants as part
 use Rattle.table.specs.declared.needs.Need.{Need}
 use Rattle.table.specs.declared.needs.Level.{Level}
 use Rattle.table.specs.inner.MarkedRows.{savedBy}
-use Rattle.table.specs.inner.Needs.{nothing, Few, withSaved, opened, split, afterIf, afterRepeat, Takes, Comes, Sized}
+use Rattle.table.specs.inner.Needs.{nothing, Few, withSaved, withCount, opened, split, afterIf, afterRepeat, Takes, Comes, Sized}
 
 -- ---- the levels
 
@@ -79,7 +80,7 @@ module _ {words : List ℕ} {first rows : ℕ} {marks : List ℕ} {levels : List
     After total = Comes words first marks total (p + 1) (rows - (p + 1))
 
     taken : {q : Part} → is ≡ q → (total : Need) → Comes words first marks total 0 rows nothing []
-        → Takes q (r .a) (savedBy (getD marks p 0)) need (going .around) (After total)
+        → Takes q (turnsIn r) (eqb (r .kind) whileKind) (savedBy (getD marks p 0)) need (going .around) (After total)
     unfolding Comes
     taken {q} told total start =
         let some : rows - p ≡ suc (rows - suc p) = omega arith in
@@ -87,7 +88,8 @@ module _ {words : List ℕ} {first rows : ℕ} {marks : List ℕ} {levels : List
         rw (add-one p, read, ← kind) (rw some at (going .comes total start))
 
     -- for the one total that there is
-    taken-now : {q : Part} → is ≡ q → Takes q (r .a) (savedBy (getD marks p 0)) need (going .around) (After (sized .total))
+    taken-now : {q : Part} → is ≡ q
+        → Takes q (turnsIn r) (eqb (r .kind) whileKind) (savedBy (getD marks p 0)) need (going .around) (After (sized .total))
     taken-now told = taken told (sized .total) (sized .comes)
 
     abbrev GoingOn : List Level → ℕ → Need → Type 0
@@ -129,8 +131,14 @@ module _ {words : List ℕ} {first rows : ℕ} {marks : List ℕ} {levels : List
     pub repeat-fits : is ≡ part.Repeat → depth < limit .depth
     repeat-fits told = omega (arith, taken-now told .0, going .deep)
 
-    pub goes-into-repeat : is ≡ part.Repeat → GoingOn (set levels (depth + 1) (opened (r .a) need)) (depth + 1) nothing
-    goes-into-repeat told = goes-into (opened (r .a) need) (repeat-fits told) (λ total start. taken told total start .1)
+    pub count-few : is ≡ part.Repeat → Few (withCount (eqb (r .kind) whileKind) need)
+    count-few told = taken-now told .2
+
+    abbrev loopLevel : Level
+    loopLevel = opened (turnsIn r) (withCount (eqb (r .kind) whileKind) need)
+
+    pub goes-into-repeat : is ≡ part.Repeat → GoingOn (set levels (depth + 1) loopLevel) (depth + 1) nothing
+    goes-into-repeat told = goes-into loopLevel (repeat-fits told) (λ total start. taken told total start .1)
 
     abbrev Top : Type 0
     Top = Topped levels depth (going .around)

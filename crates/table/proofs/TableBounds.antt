@@ -4,15 +4,15 @@ use mathlib.Core.Path.{_≡_, refl}
 use mathlib.Core.Bool.{Bool, true, false, cond}
 use native.Mathlib.Nat.{mul-le-mul-left}
 use native.Mathlib.Omega.{arith}
-use Rattle.sheet.specs.Tree.{Tree, done, one, fork, again, rows, RowNumber, longestRun}
+use Rattle.sheet.specs.Tree.{Loop, times, while, mostTurns, loopBy, Tree, done, one, fork, again, rows, RowNumber, longestRun}
 use Rattle.sheet.specs.Rows.{Assignment, Test, _≔_, Source, copy, fixed, sum, difference, product, negation, quotient}
 use Rattle.sheet.proofs.Depth.{deep}
 use Rattle.sets.specs.Transfers.{Activity}
-use Rattle.sets.specs.Marks.{Marked, numbered}
+use Rattle.sets.specs.Marks.{Marked, MarkedTest, testAt, numbered}
 use Rattle.table.specs.TableRows.{Table, TableRow, Action, saveTurn, turnRound, whether, onTurn, Operation, turning, ofRow, ofTurningRound}
 use Rattle.table.specs.Adjoint.{Body, put, putIf, forwardRow, forwardPart, partsOf, derivativeRows, backwardOf, backwardPart, adjointTable}
 use Rattle.table.specs.RowBounds.{mostForward, mostParts, mostBackward, mostRowsEach}
-use Rattle.table.specs.Sizes.{tableRows, valuesNeeded, turnsNeeded}
+use Rattle.table.specs.Sizes.{tableRows, valuesNeeded, ownCount, turnsNeeded}
 
 -- ---- R
 
@@ -96,7 +96,8 @@ backward-rows v (one m k) rest =
 backward-rows v (fork f a b k) rest =
     let turned = fork onTurn (backwardPart v a done) (backwardPart v b done) rest in
     omega (arith, backward-rows v k turned, backward-rows v a done, backward-rows v b done)
-backward-rows v (again n a k) rest = omega (arith, backward-rows v k (again n (backwardPart v a done) rest), backward-rows v a done)
+backward-rows v (again l a k) rest =
+    omega (arith, backward-rows v k (again (loopBy (λ f. onTurn) l) (backwardPart v a done) rest), backward-rows v a done)
 
 forward-rows : (t : Body) (rest : Table) → rows (forwardPart t rest) ≤ mostForward * rows t + rows rest
 unfolding forwardPart rows
@@ -128,7 +129,7 @@ values-within-run (one m k) = omega (arith, values-within-run k, at-most-one (m 
 values-within-run (fork f a b k) = omega (arith, values-within-run a, values-within-run b, values-within-run k)
 values-within-run (again n a k) =
     let turn : valuesNeeded a ≤ 1 + longestRun a = omega (arith, values-within-run a) in
-    omega (arith, values-within-run k, mul-le-mul-left (suc n) turn)
+    omega (arith, values-within-run k, mul-le-mul-left (mostTurns n) turn)
 
 pub turns-within-run : (t : Body) → turnsNeeded t ≤ longestRun t
 unfolding turnsNeeded longestRun
@@ -137,7 +138,11 @@ turns-within-run (one m k) = omega (arith, turns-within-run k)
 turns-within-run (fork f a b k) = omega (arith, turns-within-run a, turns-within-run b, turns-within-run k)
 turns-within-run (again n a k) =
     let turn : turnsNeeded a ≤ 1 + longestRun a = omega (arith, turns-within-run a) in
-    omega (arith, turns-within-run k, mul-le-mul-left (suc n) turn)
+    omega (arith, turns-within-run k, mul-le-mul-left (mostTurns n) turn, own-count n)
+  where
+    own-count : (l : Loop MarkedTest) → ownCount l ≤ 1
+    own-count (times m) = omega arith
+    own-count (while f m) = omega arith
 
 -- ---- depth
 
@@ -164,7 +169,7 @@ backward-deep v most (fork f a b k) rest h g =
     (fork-deep most onTurn (backwardPart v a done) (backwardPart v b done) rest (omega (arith, parts .0)) (omega (arith, parts .1)) g)
 backward-deep v most (again n a k) rest h g =
     let body = backward-deep v (deep a) a done (omega arith) (omega arith) in
-    backward-deep v most k (again n (backwardPart v a done) rest) (omega arith) (omega arith)
+    backward-deep v most k (again (loopBy (λ f. onTurn) n) (backwardPart v a done) rest) (omega arith) (omega arith)
 
 forward-deep : (most : ℕ) (t : Body) (rest : Table) → deep t ≤ most → deep rest ≤ most → deep (forwardPart t rest) ≤ most
 unfolding forwardPart deep
@@ -190,6 +195,11 @@ table-deep v t =
     forward-deep (deep t) t (one (record { origin = ofTurningRound; action = turnRound }) (backwardPart v t done)) (omega arith)
     (backward-deep v (deep t) t done (omega arith) (omega arith))
 
+-- whatever a loop asks
+pub most-turns-by : {F G : Type 0} (g : F → G) (l : Loop F) → mostTurns (loopBy g l) ≡ mostTurns l
+most-turns-by g (times m) = refl
+most-turns-by g (while f m) = refl
+
 -- of an accepted sheet's own tree: marks change no count
 pub marked-run : (mark : ℕ → Assignment → Marked) (t : Tree Assignment Test) (p : ℕ) → longestRun (numbered mark t p) ≡ longestRun t
 unfolding numbered longestRun
@@ -197,7 +207,7 @@ marked-run mark done p = refl
 marked-run mark (one b k) p = rw (marked-run mark k (suc p))
 marked-run mark (fork f a b k) p =
     rw (marked-run mark a (suc p), marked-run mark b (suc (suc p + rows a)), marked-run mark k (suc (suc (suc p + rows a) + rows b)))
-marked-run mark (again n a k) p = rw (marked-run mark a (suc p), marked-run mark k (suc (suc p + rows a)))
+marked-run mark (again n a k) p = rw (marked-run mark a (suc p), marked-run mark k (suc (suc p + rows a)), most-turns-by (testAt p) n)
 
 pub marked-deep : (mark : ℕ → Assignment → Marked) (t : Tree Assignment Test) (p : ℕ) → deep (numbered mark t p) ≡ deep t
 unfolding numbered deep

@@ -1,7 +1,7 @@
 -- The adjoint table of a marked body, for any choice of saved rows, and of a sheet, by its sets.
 use Prim.Native.Nat.{ℕ}
 use mathlib.Core.Bool.{Bool, true, false}
-use Rattle.sheet.specs.Tree.{Tree, done, one, fork, again, RowNumber}
+use Rattle.sheet.specs.Tree.{loopBy, Tree, done, one, fork, again, RowNumber}
 use Rattle.sheet.specs.Rows.{Assignment, _≔_, targetOf, Source, copy, fixed, sum, difference, product, negation, quotient}
 use Rattle.sheet.specs.Sheets.{Sheet, variablesOf}
 use Rattle.sets.specs.Transfers.{Activity}
@@ -33,7 +33,7 @@ forwardPart (one m k) rest = forwardRow m (forwardPart k rest)
 forwardPart (fork f a b k) rest =
     fork (whether (f .test)) (forwardPart a (put (f .row) turning (saveTurn true) done))
     (forwardPart b (put (f .row) turning (saveTurn false) done)) (forwardPart k rest)
-forwardPart (again n a k) rest = again n (forwardPart a done) (forwardPart k rest)
+forwardPart (again l a k) rest = again (loopBy (λ f. whether (f .test)) l) (forwardPart a done) (forwardPart k rest)
 
 module _ (variables : ℕ) where
   -- into ā, into b̄: the adjoint of i with t or u added or subtracted
@@ -91,13 +91,13 @@ module _ (variables : ℕ) where
       putIf saved row takingBack (takeBack d) (derivativeRows (known .active) d source row known rest)
 
   -- "Backward part: blocks and rows in reverse; an "if" becomes kind 15 with both branches kept in their places and reversed inside;
-  -- a repeat stays a repeat."
+  -- a repeat stays a repeat." "Backward the loop opens with kind 20 .., closed by kind 11" (02 §6).
   unfoldable pub backwardPart : Body → Table → Table
   unfolding backwardOf
   backwardPart done rest = rest
   backwardPart (one m k) rest = backwardPart k (backwardOf (m .assignment) (m .row) (m .known) (m .saved) rest)
   backwardPart (fork f a b k) rest = backwardPart k (fork onTurn (backwardPart a done) (backwardPart b done) rest)
-  backwardPart (again n a k) rest = backwardPart k (again n (backwardPart a done) rest)
+  backwardPart (again l a k) rest = backwardPart k (again (loopBy (λ f. onTurn) l) (backwardPart a done) rest)
 
   -- "Then one row 17."
   unfoldable pub adjointTable : Body → Table

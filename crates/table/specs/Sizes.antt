@@ -2,7 +2,7 @@
 use Prim.Native.Nat.{ℕ, suc, _+_, _*_, max}
 use mathlib.Core.Bool.{cond}
 use mathlib.Core.List.{List}
-use Rattle.sheet.specs.Tree.{done, one, fork, again, rows, longestRun}
+use Rattle.sheet.specs.Tree.{Loop, mostTurns, hasTest, done, one, fork, again, rows, longestRun}
 use Rattle.sheet.specs.Sheets.{Sheet, variablesOf}
 use Rattle.sheet.specs.Bounds.{limit}
 use Rattle.sets.specs.Marks.{Sets, markedBy}
@@ -15,19 +15,24 @@ unfoldable pub tableRows : (variables : ℕ) → Body → ℕ
 unfolding rows adjointTable
 tableRows variables body = rows (adjointTable variables body)
 
--- "S, the value stack needed: a recorded row counts 1, an if block the larger branch, a repeat a times its body."
+-- "S, the value stack needed: a recorded row counts 1, an if block the larger branch, a repeat a times its body." A loop with a
+-- test counts "as a repeat of d" (02 §6).
 unfoldable pub valuesNeeded : Body → ℕ
 valuesNeeded done = 0
 valuesNeeded (one m k) = cond (m .saved) 1 0 + valuesNeeded k
 valuesNeeded (fork f a b k) = max (valuesNeeded a) (valuesNeeded b) + valuesNeeded k
-valuesNeeded (again n a k) = suc n * valuesNeeded a + valuesNeeded k
+valuesNeeded (again l a k) = mostTurns l * valuesNeeded a + valuesNeeded k
 
--- "T, the turn stack: an if block counts 1 + the larger branch; repeats multiply."
+-- a loop with a test puts one count away, when it ends
+abbrev pub ownCount : {F : Type 0} → Loop F → ℕ
+ownCount l = cond (hasTest l) 1 0
+
+-- "T, the turn stack: an if block counts 1 + the larger branch; repeats multiply." Of a loop with a test "T counts d × body + 1" (02 §6).
 unfoldable pub turnsNeeded : Body → ℕ
 turnsNeeded done = 0
 turnsNeeded (one m k) = turnsNeeded k
 turnsNeeded (fork f a b k) = 1 + max (turnsNeeded a) (turnsNeeded b) + turnsNeeded k
-turnsNeeded (again n a k) = suc n * turnsNeeded a + turnsNeeded k
+turnsNeeded (again l a k) = mostTurns l * turnsNeeded a + ownCount l + turnsNeeded k
 
 -- ---- of a sheet, by its sets
 

@@ -1,10 +1,10 @@
--- The rows of a table, adjoint or tangent: the sheet's kinds and six more, the variables that they name, and where each row comes from.
+-- The rows of a table, adjoint or tangent: the sheet's kinds and seven more, the variables that they name, and where each row comes from.
 use Prim.Native.Nat.{ℕ, _+_, _*_}
 use mathlib.Core.Bool.{Bool, cond}
 use mathlib.Core.List.{List, [], _∷_, map}
 use lib.ListN.{length}
 use Rattle.sheet.specs.Tree.{Tree, Line, flat, RowNumber}
-use Rattle.sheet.specs.Rows.{Assignment, Test, Row, rowOfAssignment, rowOfTest, rowOf}
+use Rattle.sheet.specs.Rows.{Assignment, Test, Row, rowOfAssignment, rowOfTest, rowOfWhile, rowOf}
 
 -- "Variables 0 to V−1 are the originals, V+i is the adjoint of i, t = 2V, u = 2V+1."
 module _ (variables : ℕ) where
@@ -26,7 +26,7 @@ pub data Action : Type 0 where
   clear : ℕ → Action
   turnRound : Action
 
--- "15 if on a turn taken back (1 takes the first branch)"
+-- "15 if on a turn taken back (1 takes the first branch)"; and a loop on a count taken back, kind 20, which "repeats that often" (02 §6)
 pub data TableTest : Type 0 where
   whether : Test → TableTest
   onTurn : TableTest
@@ -90,9 +90,15 @@ unfolding rowOfTest
 rowOfTableTest (whether f) = rowOfTest f
 rowOfTableTest onTurn = record { kind = 15; d = 0; a = 0; b = 0 }
 
+-- of a loop with a test. Kind 20, "other words 0", doesn't say how many turns the loop does at most.
+unfoldable pub rowOfTableWhile : TableTest → (m : ℕ) → Row
+unfolding rowOfWhile
+rowOfTableWhile (whether f) m = rowOfWhile f m
+rowOfTableWhile onTurn m = record { kind = 20; d = 0; a = 0; b = 0 }
+
 unfoldable pub tableRowOf : TableLine → Row
-unfolding rowOf rowOfAction rowOfTableTest
-tableRowOf = rowOf (λ r. rowOfAction (r .action)) rowOfTableTest
+unfolding rowOf rowOfAction rowOfTableTest rowOfTableWhile
+tableRowOf = rowOf (λ r. rowOfAction (r .action)) rowOfTableTest rowOfTableWhile
 
 unfoldable pub linesOf : Table → List TableLine
 unfolding flat

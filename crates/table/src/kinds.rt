@@ -10,3 +10,5 @@ pub const ON_TURN: u16 = 15;
 pub const CLEAR: u16 = 16;
 
 pub const TURN_ROUND: u16 = 17;
+
+pub const ON_COUNT: u16 = 20;

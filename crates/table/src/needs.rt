@@ -2,9 +2,15 @@
 ghost use mathlib.Core.Path.{_≡_};
 ghost use Prim.Native.Nat.{max};
 ghost use Rattle.table.specs.inner.MarkedRows.{savedBy};
-ghost use Rattle.table.specs.inner.Needs.{Few, withSaved, opened, split, afterIf, afterRepeat};
+ghost use lib.Dec.{eqb};
+ghost use Rattle.sheet.specs.Rows.{whileKind};
+ghost use Rattle.sheet.specs.Answers.{rowSaid};
+ghost use Rattle.sheet.specs.inner.Kinds.{turnsIn};
+ghost use Rattle.table.specs.inner.Needs.{Few, withSaved, withCount, opened, split, afterIf, afterRepeat};
 use super::count;
 use super::marks;
+use sheet::RowWords;
+use sheet::kinds;
 
 // Of the value stack and of the turn stack: S and T of the rows.
 pub struct Need {
@@ -44,7 +50,20 @@ pub fn with_saved(need: Need, mark: u8) -> Need
     }
 }
 
-// "if" and "repeat": the block begins with nothing needed in it.
+// Before a loop: one with a test puts its count away.
+fn with_count(need: Need, kind: u16) -> Need
+    requires { ⌜ Few (withCount (eqb kind whileKind) need) ⌝ }
+    ensures { λ r. ⌜ r ≡ withCount (eqb kind whileKind) need ⌝ }
+{
+    let more = count::one_if(kind == kinds::WHILE);
+    let values = need.values;
+    Need {
+        values,
+        turns: need.turns + more,
+    }
+}
+
+// The block begins with nothing needed in it.
 pub fn opened(need: Need, times: usize) -> Level
     ensures { λ r. ⌜ r ≡ opened times need ⌝ }
 {
@@ -53,6 +72,15 @@ pub fn opened(need: Need, times: usize) -> Level
         first: NOTHING,
         times,
     }
+}
+
+// A loop's row.
+pub fn loop_opened(need: Need, row: RowWords) -> Level
+    requires { ⌜ Few (withCount (eqb (row .kind) whileKind) need) ⌝ }
+    ensures { λ r. ⌜ r ≡ opened (turnsIn (rowSaid row)) (withCount (eqb (row .kind) whileKind) need) ⌝ }
+{
+    let before = with_count(need, row.kind);
+    opened(before, sheet::wide(kinds::turns_of(row)))
 }
 
 // "else": the second branch begins.

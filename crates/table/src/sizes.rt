@@ -49,7 +49,7 @@ pub fn sizes_of(words: &[u16], shape: sheet::Shape, marks: &[u8]) -> Sizes
             }
             Part::Repeat => {
                 depth = depth + 1;
-                levels[depth] = needs::opened(need, sheet::wide(row.a));
+                levels[depth] = needs::loop_opened(need, row);
                 need = needs::NOTHING;
             }
             Part::EndRepeat => {

@@ -9,7 +9,7 @@ use lib.ListN.{length, getD}
 use Rattle.sheet.specs.Sheets.{rowAt}
 use Rattle.sheet.specs.Bounds.{limit}
 use Rattle.sheet.specs.Tree.{Tree, done, one, fork, again, rows, RowNumber, basic, ifLine, elseLine, endIf, repeat, endRepeat}
-use Rattle.sheet.specs.Rows.{Assignment, Test, _≔_, Source, fixed, SheetLine, Row, rowOfTest, quotientKind}
+use Rattle.sheet.specs.Rows.{Assignment, Test, _≔_, Source, fixed, SheetLine, Row, rowOfTest, sheetRowOf, quotientKind}
 use Rattle.sheet.specs.inner.RowLines.{lineOfRow, SaysLine, numberedRow}
 use Rattle.sheet.specs.inner.Kinds.{partOf}
 use Rattle.sheet.specs.declared.Shape.{Shape}
@@ -67,7 +67,7 @@ sourceSaid (basic (d ≔ source)) = source
 sourceSaid (ifLine f) = fixed 0
 sourceSaid elseLine = fixed 0
 sourceSaid endIf = fixed 0
-sourceSaid (repeat m) = fixed 0
+sourceSaid (repeat l) = fixed 0
 sourceSaid endRepeat = fixed 0
 
 -- an assignment's kinds
@@ -111,13 +111,18 @@ assignmentBack v r mark = rowsIn (backwardOf v (r .d ≔ sourceOf r) anyRow (kno
 
 -- a sheet row's rows in the forward part
 unfoldable pub forwardOfLine : (mark : ℕ) → SheetLine → List Row
-unfolding forwardRow rowsIn rowOfTest rowOfAction tableRowOf
+unfolding forwardRow rowsIn rowOfTest rowOfAction tableRowOf sheetRowOf
 forwardOfLine mark (basic b) = rowsIn (forwardRow (record { row = anyRow; assignment = b; known = knownBy mark; saved = savedBy mark }) done)
 forwardOfLine mark (ifLine f) = rowOfTest f ∷ []
 forwardOfLine mark elseLine = rowOfAction (saveTurn true) ∷ tableRowOf elseLine ∷ []
 forwardOfLine mark endIf = rowOfAction (saveTurn false) ∷ tableRowOf endIf ∷ []
-forwardOfLine mark (repeat m) = tableRowOf (repeat m) ∷ []
+forwardOfLine mark (repeat l) = sheetRowOf (repeat l) ∷ []
 forwardOfLine mark endRepeat = tableRowOf endRepeat ∷ []
+
+-- a loop's first row in the backward part: a repeat has turns; a loop that takes its count back has none to say
+abbrev pub loopBack : (turns : ℕ) → Row
+loopBack zero = rowWith 20 0 0 0
+loopBack (suc m) = rowWith 10 0 (suc m) 0
 
 -- and in the backward part: a block's end is its start there, with the turns of its "repeat"
 unfoldable pub backwardOfLine : (variables mark turns : ℕ) → SheetLine → List Row
@@ -126,8 +131,8 @@ backwardOfLine v mark turns (basic b) = rowsIn (backwardOf v b anyRow (knownBy m
 backwardOfLine v mark turns (ifLine f) = tableRowOf elseLine ∷ []
 backwardOfLine v mark turns elseLine = tableRowOf endIf ∷ []
 backwardOfLine v mark turns endIf = tableRowOf (ifLine onTurn) ∷ []
-backwardOfLine v mark turns (repeat m) = tableRowOf endRepeat ∷ []
-backwardOfLine v mark turns endRepeat = rowWith 10 0 turns 0 ∷ []
+backwardOfLine v mark turns (repeat l) = tableRowOf endRepeat ∷ []
+backwardOfLine v mark turns endRepeat = loopBack turns ∷ []
 
 -- in both parts; how many they are doesn't hang on the turns
 abbrev pub bothParts : (variables mark : ℕ) → SheetLine → List Row
@@ -186,4 +191,4 @@ module _ (marks came goes : List ℕ) (mark : ℕ → Assignment → Marked) whe
       let split = suc p + rows a in
       let end = suc split + rows b in
       BranchNoted p split end × (Noted a (suc p) × (Noted b (suc split) × Noted k (suc end)))
-  Noted (again m a k) p = let end = suc p + rows a in RepeatNoted p end × (Noted a (suc p) × Noted k (suc end))
+  Noted (again l a k) p = let end = suc p + rows a in RepeatNoted p end × (Noted a (suc p) × Noted k (suc end))

@@ -4,10 +4,12 @@ use mathlib.Core.Path.{_≡_}
 use mathlib.Core.Bool.{Bool, cond}
 use mathlib.Core.List.{List, [], _∷_}
 use lib.ListN.{length, getD}
+use lib.Dec.{eqb}
+use Rattle.sheet.specs.Rows.{whileKind}
 use Rattle.sheet.specs.inner.RowLines.{numberedRow}
 use Rattle.sheet.specs.Bounds.{limit}
 use Rattle.sheet.specs.Sheets.{rowAt}
-use Rattle.sheet.specs.inner.Kinds.{formFor, partFor}
+use Rattle.sheet.specs.inner.Kinds.{formFor, partFor, turnsIn}
 use Rattle.sheet.specs.declared.Shape.{Shape}
 use Rattle.sheet.specs.declared.kinds.Part.{Part}
 use Rattle.sheet.specs.declared.kinds.Part.the-variants as part
@@ -31,6 +33,10 @@ pub record Few (need : Need) : Type 0 where
 abbrev pub withSaved : Bool → Need → Need
 withSaved saved need = needing (need .values + cond saved 1 0) (need .turns)
 
+-- a loop with a test puts a count away, its body apart
+abbrev pub withCount : Bool → Need → Need
+withCount tests need = needing (need .values) (need .turns + cond tests 1 0)
+
 -- a block begins, so many turns of it
 abbrev pub opened : (times : ℕ) → Need → Level
 opened times need = record { before = need; first = nothing; times = times }
@@ -51,16 +57,17 @@ afterRepeat level body = needing (level .before .values + level .times * body .v
 
 -- What a row does to the need of the block at hand and to the blocks around it, the innermost first: the pass goes on from there, few enough
 -- of everything.
-abbrev pub Takes : Part → (times : ℕ) (saved : Bool) → Need → (around : List Level) → (GoesOn : Need → List Level → Type 0) → Type 0
-Takes part.Assignment times saved need around GoesOn = Few (withSaved saved need) × GoesOn (withSaved saved need) around
-Takes part.If times saved need around GoesOn = (length around < limit .depth) × GoesOn nothing (opened 1 need ∷ around)
-Takes part.Else times saved need [] GoesOn = ⊥
-Takes part.Else times saved need (level ∷ around) GoesOn = GoesOn nothing (split level need ∷ around)
-Takes part.EndIf times saved need [] GoesOn = ⊥
-Takes part.EndIf times saved need (level ∷ around) GoesOn = Few (afterIf level need) × GoesOn (afterIf level need) around
-Takes part.Repeat times saved need around GoesOn = (length around < limit .depth) × GoesOn nothing (opened times need ∷ around)
-Takes part.EndRepeat times saved need [] GoesOn = ⊥
-Takes part.EndRepeat times saved need (level ∷ around) GoesOn = Few (afterRepeat level need) × GoesOn (afterRepeat level need) around
+abbrev pub Takes : Part → (times : ℕ) (tests saved : Bool) → Need → (around : List Level) → (GoesOn : Need → List Level → Type 0) → Type 0
+Takes part.Assignment times tests saved need around GoesOn = Few (withSaved saved need) × GoesOn (withSaved saved need) around
+Takes part.If times tests saved need around GoesOn = (length around < limit .depth) × GoesOn nothing (opened 1 need ∷ around)
+Takes part.Else times tests saved need [] GoesOn = ⊥
+Takes part.Else times tests saved need (level ∷ around) GoesOn = GoesOn nothing (split level need ∷ around)
+Takes part.EndIf times tests saved need [] GoesOn = ⊥
+Takes part.EndIf times tests saved need (level ∷ around) GoesOn = Few (afterIf level need) × GoesOn (afterIf level need) around
+Takes part.Repeat times tests saved need around GoesOn =
+    (length around < limit .depth) × GoesOn nothing (opened times (withCount tests need) ∷ around) × Few (withCount tests need)
+Takes part.EndRepeat times tests saved need [] GoesOn = ⊥
+Takes part.EndRepeat times tests saved need (level ∷ around) GoesOn = Few (afterRepeat level need) × GoesOn (afterRepeat level need) around
 
 module _ (words : List ℕ) (first : ℕ) (marks : List ℕ) (total : Need) where
   -- so many rows from row p on come to the total
@@ -69,7 +76,7 @@ module _ (words : List ℕ) (first : ℕ) (marks : List ℕ) (total : Need) wher
   Comes p zero need around = need ≡ total
   Comes p (suc n) need around =
       let row = numberedRow words first p in
-      Takes (partFor (row .kind)) (row .a) (savedBy (getD marks p 0)) need around (λ next outside. Comes (suc p) n next outside)
+      Takes (partFor (row .kind)) (turnsIn row) (eqb (row .kind) whileKind) (savedBy (getD marks p 0)) need around (λ next outside. Comes (suc p) n next outside)
 
 -- all rows do, to some total
 pub record Sized (words : List ℕ) (first rows : ℕ) (marks : List ℕ) : Type 0 where

@@ -19,7 +19,7 @@ use Rattle.table.specs.inner.MarkedRows.{SaysPart, countRows, countAll}
 use Rattle.table.specs.inner.Needs.{Sized}
 use Rattle.table.proofs.LineRows.{says-part}
 use Rattle.table.proofs.RowCounts.{count-more, count-done}
-use Rattle.table.proofs.SizesPass.{Going, going-starts, going-ends, saved-few, goes-saved, if-fits, goes-into-if, repeat-fits, goes-into-repeat, goes-to-second, if-few, if-inside, goes-past-if, repeat-few, repeat-inside, goes-past-repeat}
+use Rattle.table.proofs.SizesPass.{Going, going-starts, going-ends, saved-few, goes-saved, if-fits, goes-into-if, repeat-fits, count-few, goes-into-repeat, goes-to-second, if-few, if-inside, goes-past-if, repeat-few, repeat-inside, goes-past-repeat}
 use Rattle.table.proofs.sizes.sizes_of.Statement.{statement}
 use Rattle.table.proofs.sizes.sizes_of.Tie as tie
 
@@ -235,25 +235,22 @@ enum-told-5 c = search needs
 add-depth-2 : tie.Need-add-depth-2 Inv-loop μ-loop
 add-depth-2 c = omega (arith, going (c .before .before) .within)
 
-wide-requires-2 : tie.Need-wide-requires-2 Inv-loop μ-loop
-wide-requires-2 c κs = search needs
-
-opened-requires-2 : tie.Need-opened-requires-2 Inv-loop μ-loop
-opened-requires-2 c κs = search needs
+loop-opened-requires : tie.Need-loop-opened-requires Inv-loop μ-loop
+loop-opened-requires c κs = let at = c .before .before in count-few (going at) (sized at) (below at) (read at) (found at) (c .enum-told5 .given .1)
 
 mul-levels-3 : tie.Need-mul-levels-3 Inv-loop μ-loop
-mul-levels-3 c = omega (arith, going (c .before .before .before .before) .within)
+mul-levels-3 c = omega (arith, going (c .before .before .before) .within)
 
 array-set-from-levels-3 : tie.Need-array-set-from-levels-3 Inv-loop μ-loop
-array-set-from-levels-3 c = let at = c .before .before .before .before in omega (arith, repeat-fits (going at) (sized at) (below at) (read at) (found at) (c .before .before .enum-told5 .given .1))
+array-set-from-levels-3 c = let at = c .before .before .before in omega (arith, repeat-fits (going at) (sized at) (below at) (read at) (found at) (c .before .enum-told5 .given .1))
 
 loop-less-5 : tie.Need-loop-less-5 Inv-loop μ-loop
-loop-less-5 c = omega (arith, below (c .before .before .before .before))
+loop-less-5 c = omega (arith, below (c .before .before .before))
 
 loop-again-5 : tie.Need-loop-again-5 Inv-loop μ-loop
 loop-again-5 c =
-    let at = c .before .before .before .before in
-    (counted at, rw (c .opened2 .ensures, c .before .wide2 .ensures .0) (goes-into-repeat (going at) (sized at) (below at) (read at) (found at) (c .before .before .enum-told5 .given .1)))
+    let at = c .before .before .before in
+    (counted at, rw (c .loop-opened .ensures) (goes-into-repeat (going at) (sized at) (below at) (read at) (found at) (c .before .enum-told5 .given .1)))
 
 enum-told-6 : tie.Need-enum-told-6 Inv-loop μ-loop
 enum-told-6 c = search needs
@@ -332,8 +329,7 @@ sizes-of-spec =
     loop-again-4
     enum-told-5
     add-depth-2
-    wide-requires-2
-    opened-requires-2
+    loop-opened-requires
     mul-levels-3
     array-set-from-levels-3
     loop-less-5
