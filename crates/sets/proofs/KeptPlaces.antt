@@ -1,4 +1,4 @@
--- Lists of which a pass over some rows changes only those rows' places, and what an "if" block leaves there.
+-- Lists of which a pass over some rows changes only those rows' places, and what a block leaves there.
 use Prim.Native.Nat.{ℕ, suc, _+_, _≤_, _<_}
 use native.Mathlib.Omega.{arith}
 use mathlib.Core.Path.{_≡_, refl, _∙_}
@@ -33,10 +33,33 @@ store-keeps xs j v = record { long = length-set xs j v; at = λ i o. getD-set-ot
     go i (inl x) e = omega arith
     go i (inr x) e = omega arith
 
--- ---- what an "if" block leaves that notes as it is passed where its rows go to
+-- ---- what a block leaves that notes as it is passed where its rows go to
 
--- While a branch is open its row, "if" p or "else" q, has the row that was innermost around the block; then what it goes to.
--- x to z are the sizes of the block's branches and of what is behind it, r is the row of "end if", e the place after all.
+-- While a branch or a loop is open its row p has the row that was innermost around the block; then what it goes to. q is the row that ends it,
+-- e the place after all.
+pub record GoesBlock (p q e top to : ℕ) (g g₂ g₄ : List ℕ) : Type 0 where
+  pub around : getD g₂ p 0 ≡ top
+  pub whole : Keeps p e g g₄
+  pub inside : (i : ℕ) → suc p ≤ i → i < q → getD g₄ i 0 ≡ getD g₂ i 0
+  pub at : getD g₄ p 0 ≡ to
+
+pub goes-block : (p q e top to : ℕ) (g g₂ g₄ : List ℕ) → p < q → q ≤ e → p < length g
+    → Keeps (suc p) q (set g p top) g₂ → Keeps q e (set g₂ p to) g₄ → GoesBlock p q e top to g g₂ g₄
+goes-block p q e top to g g₂ g₄ before until l k₁ k₃ =
+    let k₀ = store-keeps g p top in
+    let k₂ = store-keeps g₂ p to in
+    record {
+      around = k₁ .at p (inl (omega arith)) ∙ getD-set-same g p top 0 l;
+      whole =
+          keeps-then (wider k₀ (omega arith) (omega arith))
+          (keeps-then (wider k₁ (omega arith) (omega arith))
+          (keeps-then (wider k₂ (omega arith) (omega arith)) (wider k₃ (omega arith) (omega arith))));
+      inside = λ i lo hi. k₃ .at i (inl hi) ∙ k₂ .at i (inr lo);
+      at = k₃ .at p (inl before) ∙ getD-set-same g₂ p to 0 (omega (arith, k₁ .long, k₀ .long));
+    }
+
+-- An "if" block is two of them, from "if" p to "else" q and from there to "end if" r. x to z are the sizes of the block's branches and of what is
+-- behind it.
 pub record GoesFork (p q r e top toElse toEnd : ℕ) (g g₂ g₄ g₆ : List ℕ) : Type 0 where
   pub inner : getD g₂ p 0 ≡ top
   pub outer : getD g₄ q 0 ≡ top
@@ -53,29 +76,16 @@ goes-fork p x y z top toElse toEnd g g₂ g₄ g₆ l k₁ k₃ k₅ =
     let q = suc p + x in
     let r = suc q + y in
     let e = suc r + z in
-    let k₀ = store-keeps g p top in
-    let k₂ = store-keeps g₂ p toElse in
-    let k₂′ = store-keeps (set g₂ p toElse) q (getD g₂ p 0) in
-    let k₄ = store-keeps g₄ q toEnd in
-    let long₂ : length g₂ ≡ length g = k₁ .long ∙ k₀ .long in
-    let long₃ : length (set g₂ p toElse) ≡ length g = k₂ .long ∙ long₂ in
-    let long₄ : length g₄ ≡ length g = k₃ .long ∙ k₂′ .long ∙ long₃ in
-    let kept : getD g₂ p 0 ≡ top = k₁ .at p (inl (omega arith)) ∙ getD-set-same g p top 0 (omega arith) in
+    let long : length (set g₂ p toElse) ≡ length g = length-set g₂ p toElse ∙ k₁ .long ∙ length-set g p top in
+    let k₄ : Keeps r e (set g₄ q toEnd) g₆ = wider k₅ (omega arith) (omega arith) in
+    let second = goes-block q r e (getD g₂ p 0) toEnd (set g₂ p toElse) g₄ g₆ (omega arith) (omega arith) (omega arith) k₃ k₄ in
+    let first = goes-block p q e top toElse g g₂ g₆ (omega arith) (omega arith) (omega arith) k₁ (second .whole) in
     record {
-      inner = kept;
-      outer = k₃ .at q (inl (omega arith)) ∙ getD-set-same (set g₂ p toElse) q _ 0 (omega arith) ∙ kept;
-      whole =
-          keeps-then (wider k₀ (omega arith) (omega arith))
-          (keeps-then (wider k₁ (omega arith) (omega arith))
-          (keeps-then (wider k₂ (omega arith) (omega arith))
-          (keeps-then (wider k₂′ (omega arith) (omega arith))
-          (keeps-then (wider k₃ (omega arith) (omega arith))
-          (keeps-then (wider k₄ (omega arith) (omega arith)) (wider k₅ (omega arith) (omega arith)))))));
-      first =
-          λ i lo hi. k₅ .at i (inl (omega arith)) ∙ k₄ .at i (inl hi) ∙ k₃ .at i (inl (omega arith)) ∙ k₂′ .at i (inl hi) ∙ k₂ .at i (inr lo);
-      second = λ i lo hi. k₅ .at i (inl (omega arith)) ∙ k₄ .at i (inr lo);
-      atIf =
-          k₅ .at p (inl (omega arith)) ∙ k₄ .at p (inl (omega arith)) ∙ k₃ .at p (inl (omega arith)) ∙ k₂′ .at p (inl (omega arith))
-          ∙ getD-set-same g₂ p toElse 0 (omega arith);
-      atElse = k₅ .at q (inl (omega arith)) ∙ getD-set-same g₄ q toEnd 0 (omega arith);
+      inner = first .around;
+      outer = second .around ∙ first .around;
+      whole = first .whole;
+      first = first .inside;
+      second = second .inside;
+      atIf = first .at;
+      atElse = second .at;
     }
