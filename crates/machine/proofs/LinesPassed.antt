@@ -1,4 +1,4 @@
--- Passing over a tree's lines: what stands behind them, and where a search for an "else" or an "end if" ends.
+-- Passing over a tree's lines: what stands behind them, and where a search for an "else", an "end if" or an "end repeat" ends.
 use Prim.Native.Nat.{ℕ, suc, _+_}
 use mathlib.Core.Path.{_≡_, sym, ap, refl, _∙_}
 use mathlib.Core.List.{List, _∷_}
@@ -7,8 +7,8 @@ use lib.ListN.{drop}
 use lib.Seq.{drop-drop}
 use native.Mathlib.Nat.{zero-add}
 use native.Mathlib.Omega.{arith}
-use Rattle.sheet.specs.Tree.{Tree, done, one, fork, again, Line, elseLine, endIf, flat, rows}
-use Rattle.machine.specs.Machine.{Sought, itsElse, itsEnd, oneMore, seek}
+use Rattle.sheet.specs.Tree.{Tree, done, one, fork, again, Line, basic, ifLine, elseLine, endIf, repeat, endRepeat, flat, rows}
+use Rattle.machine.specs.Machine.{Sought, itsElse, itsEnd, oneMore, seek, seekClose}
 
 -- what a search finds so many lines further on
 further : ℕ → Option ℕ → Option ℕ
@@ -62,24 +62,67 @@ module _ {B F : Type 0} where
       let h : rows t ≡ rows t + 0 = omega arith in
       sym (drop-drop (rows t) p lines) ∙ ap (drop (rows t)) e ∙ ap (λ n. drop n (flat t rest)) h ∙ past-flat t rest 0
 
-  -- no line of another block stops a search: it passes over a tree, however deep it is
-  seek-flat : (sought : Sought) (n : ℕ) (t : Tree B F) (rest : List (Line B F)) → seek sought n (flat t rest) ≡ further (rows t) (seek sought n rest)
-  unfolding seek flat rows
-  seek-flat sought n done rest = sym (further-none (seek sought n rest))
-  seek-flat sought n (one b k) rest = ap oneMore (seek-flat sought n k rest) ∙ further-row (rows k) (seek sought n rest)
-  seek-flat sought n (fork f a b k) rest =
-      ap oneMore (seek-flat sought (suc n) a _
-      ∙ ap (λ o. further (rows a) (oneMore o)) (seek-flat sought (suc n) b _
-      ∙ ap (λ o. further (rows b) (oneMore o)) (seek-flat sought n k rest)))
-      ∙ further-fork (rows a) (rows b) (rows k) (seek sought n rest)
-  seek-flat sought n (again m a k) rest =
-      ap oneMore (seek-flat sought n a _ ∙ ap (λ o. further (rows a) (oneMore o)) (seek-flat sought n k rest))
-      ∙ further-repeat (rows a) (rows k) (seek sought n rest)
+  -- A search that no line of another block stops: at each such line it goes on to the next, and at the block's end it is as it was before the
+  -- block. What it keeps of the blocks that it is in may differ inside "if" blocks and inside loops.
+  record Searches (search : ℕ → List (Line B F) → Option ℕ) (inFork inLoop : ℕ → ℕ) : Type 0 where
+    overBasic : (n : ℕ) (b : B) (rest : List (Line B F)) → search n (basic b ∷ rest) ≡ oneMore (search n rest)
+    overIf : (n : ℕ) (f : F) (rest : List (Line B F)) → search n (ifLine f ∷ rest) ≡ oneMore (search (inFork n) rest)
+    overElse : (n : ℕ) (rest : List (Line B F)) → search (inFork n) (elseLine ∷ rest) ≡ oneMore (search (inFork n) rest)
+    overEndIf : (n : ℕ) (rest : List (Line B F)) → search (inFork n) (endIf ∷ rest) ≡ oneMore (search n rest)
+    overRepeat : (n : ℕ) (m : _) (rest : List (Line B F)) → search n (repeat m ∷ rest) ≡ oneMore (search (inLoop n) rest)
+    overEndRepeat : (n : ℕ) (rest : List (Line B F)) → search (inLoop n) (endRepeat ∷ rest) ≡ oneMore (search n rest)
+
+  -- it passes over a tree, however deep it is
+  search-flat : {search : ℕ → List (Line B F) → Option ℕ} {inFork inLoop : ℕ → ℕ} → Searches search inFork inLoop
+      → (n : ℕ) (t : Tree B F) (rest : List (Line B F)) → search n (flat t rest) ≡ further (rows t) (search n rest)
+  unfolding flat rows
+  search-flat {search} over n done rest = sym (further-none (search n rest))
+  search-flat {search} over n (one b k) rest =
+      over .overBasic n b _ ∙ ap oneMore (search-flat over n k rest) ∙ further-row (rows k) (search n rest)
+  search-flat {search} {inFork} over n (fork f a b k) rest =
+      over .overIf n f _
+      ∙ ap oneMore (search-flat over (inFork n) a _
+      ∙ ap (further (rows a)) (over .overElse n _
+      ∙ ap oneMore (search-flat over (inFork n) b _
+      ∙ ap (further (rows b)) (over .overEndIf n _ ∙ ap oneMore (search-flat over n k rest)))))
+      ∙ further-fork (rows a) (rows b) (rows k) (search n rest)
+  search-flat {search} {inLoop = inLoop} over n (again m a k) rest =
+      over .overRepeat n m _
+      ∙ ap oneMore (search-flat over (inLoop n) a _ ∙ ap (further (rows a)) (over .overEndRepeat n _ ∙ ap oneMore (search-flat over n k rest)))
+      ∙ further-repeat (rows a) (rows k) (search n rest)
+
+  seek-searches : (sought : Sought) → Searches (seek sought) suc (λ n. n)
+  unfolding seek
+  seek-searches sought =
+      record {
+        overBasic = λ n b rest. refl;
+        overIf = λ n f rest. refl;
+        overElse = λ n rest. refl;
+        overEndIf = λ n rest. refl;
+        overRepeat = λ n m rest. refl;
+        overEndRepeat = λ n rest. refl;
+      }
+
+  close-searches : Searches seekClose (λ n. n) suc
+  unfolding seekClose
+  close-searches =
+      record {
+        overBasic = λ n b rest. refl;
+        overIf = λ n f rest. refl;
+        overElse = λ n rest. refl;
+        overEndIf = λ n rest. refl;
+        overRepeat = λ n m rest. refl;
+        overEndRepeat = λ n rest. refl;
+      }
 
   pub seek-else : (t : Tree B F) (rest : List (Line B F)) → seek itsElse 0 (flat t (elseLine ∷ rest)) ≡ some (rows t + 1)
   unfolding seek further
-  seek-else t rest = seek-flat itsElse 0 t (elseLine ∷ rest)
+  seek-else t rest = search-flat (seek-searches itsElse) 0 t (elseLine ∷ rest)
 
   pub seek-end : (t : Tree B F) (rest : List (Line B F)) → seek itsEnd 0 (flat t (endIf ∷ rest)) ≡ some (rows t + 1)
   unfolding seek further
-  seek-end t rest = seek-flat itsEnd 0 t (endIf ∷ rest)
+  seek-end t rest = search-flat (seek-searches itsEnd) 0 t (endIf ∷ rest)
+
+  pub seek-close : (t : Tree B F) (rest : List (Line B F)) → seekClose 0 (flat t (endRepeat ∷ rest)) ≡ some (rows t + 1)
+  unfolding seekClose further
+  seek-close t rest = search-flat close-searches 0 t (endRepeat ∷ rest)

@@ -10,7 +10,7 @@ use Rattle.sheet.specs.Tree.{Tree, done, one, fork, again, Line, basic, ifLine,
 use Rattle.table.specs.TableRows.{TableLine}
 use Rattle.machine.specs.Actions.{Attempt, through, halted, stuck, Memory, Setting, Stop, stoppingAt, Verdict, acted, tested}
 
--- ---- from an "if" past its "else", and from an "else" past its "end if"
+-- ---- from an "if" past its "else", from an "else" past its "end if", and from a "repeat" past its "end repeat"
 
 pub data Sought : Type 0 where
   itsElse : Sought
@@ -34,6 +34,17 @@ module _ {B F : Type 0} where
   seek sought (suc n) (endIf ∷ lines) = oneMore (seek sought n lines)
   seek itsElse zero (endIf ∷ lines) = none
   seek itsEnd zero (endIf ∷ lines) = some 1
+
+  -- how many of these lines lie up to and with the one that closes a loop, inside so many further loops
+  unfoldable pub seekClose : ℕ → List (Line B F) → Option ℕ
+  seekClose n [] = none
+  seekClose n (basic b ∷ lines) = oneMore (seekClose n lines)
+  seekClose n (ifLine f ∷ lines) = oneMore (seekClose n lines)
+  seekClose n (elseLine ∷ lines) = oneMore (seekClose n lines)
+  seekClose n (endIf ∷ lines) = oneMore (seekClose n lines)
+  seekClose n (repeat m ∷ lines) = oneMore (seekClose (suc n) lines)
+  seekClose (suc n) (endRepeat ∷ lines) = oneMore (seekClose n lines)
+  seekClose zero (endRepeat ∷ lines) = some 1
 
 -- a repeat under way: its row, and the turns still to come after this one
 pub record Repeat : Type 0 where

@@ -1,24 +1,23 @@
--- What the table's writer notes, row by row, is where each "if" and each "else" goes on to.
+-- What the table's writer notes, row by row, is where each "if", each "else" and each "repeat" goes on to.
 use Prim.Native.Nat.{ℕ, zero, suc, _+_, _≤_, _<_}
 use mathlib.Core.Path.{_≡_, refl, sym, ap, subst, _∙_}
 use mathlib.Core.List.{List, [], _∷_, map}
-use mathlib.Core.Logic.{inl}
 use lib.ListN.{length, getD, drop, length-set, set}
 use lib.Seq.{drop-nil}
 use native.Mathlib.Omega.{arith}
 use Rattle.sheet.specs.Tree.{done, one, fork, again, rows, flat, basic, ifLine, elseLine, endIf, repeat, endRepeat}
 use Rattle.sheet.specs.Rows.{less, rowOf, rowOfTest}
-use Rattle.sets.proofs.KeptPlaces.{Keeps, keeps-all, wider, keeps-then, GoesFork, goes-fork}
+use Rattle.sets.proofs.KeptPlaces.{Keeps, keeps-all, wider, GoesBlock, goes-block, GoesFork, goes-fork}
 use Rattle.table.specs.TableRows.{TableTest, whether, onTurn, Table, TableLine, tableRowOf, rowOfTableTest, linesOf}
 use Rattle.table.specs.inner.MarkedRows.{rowsIn}
 use Rattle.writer.specs.declared.jumps.Branching.the-variants as branching
 use Rattle.writer.specs.inner.JumpsNoted.{Noting, noting, notedBy, branchingOf, notedOver, JumpsNoted}
 use Rattle.writer.proofs.JumpLaws.{action-passes}
-use Rattle.machine.specs.Machine.{itsElse, itsEnd, oneMore, seek}
+use Rattle.machine.specs.Machine.{itsElse, itsEnd, oneMore, seek, seekClose}
 use Rattle.machine.specs.inner.RowsHanded.{Arrives, Jumps}
-use Rattle.machine.proofs.LinesPassed.{seek-else, seek-end}
+use Rattle.machine.proofs.LinesPassed.{seek-else, seek-end, seek-close}
 
--- ---- where the "if"s and "else"s of a tree go on to, whose first row is p
+-- ---- where the "if"s, "else"s and "repeat"s of a tree go on to, whose first row is p
 
 unfoldable GoesOn : List ℕ → Table → (p : ℕ) → Type 0
 unfolding rows
@@ -28,7 +27,9 @@ GoesOn xs (fork f a b k) p =
     let split = suc p + rows a in
     let end = suc split + rows b in
     (getD xs p 0 ≡ suc split) × GoesOn xs a (suc p) × (getD xs split 0 ≡ suc end) × GoesOn xs b (suc split) × GoesOn xs k (suc end)
-GoesOn xs (again m a k) p = GoesOn xs a (suc p) × GoesOn xs k (suc (suc p + rows a))
+GoesOn xs (again m a k) p =
+    let end = suc p + rows a in
+    (getD xs p 0 ≡ suc end) × GoesOn xs a (suc p) × GoesOn xs k (suc end)
 
 -- as before, if nothing changed there
 goes-on-stays : (t : Table) (p : ℕ) (xs ys : List ℕ) → ((i : ℕ) → p ≤ i → i < p + rows t → getD ys i 0 ≡ getD xs i 0) → GoesOn xs t p → GoesOn ys t p
@@ -43,8 +44,9 @@ goes-on-stays (fork f a b k) p xs ys s g = (
   goes-on-stays k _ xs ys (λ i l h. s i (omega arith) (omega arith)) (g .4),
 )
 goes-on-stays (again m a k) p xs ys s g = (
-  goes-on-stays a _ xs ys (λ i l h. s i (omega arith) (omega arith)) (g .0),
-  goes-on-stays k _ xs ys (λ i l h. s i (omega arith) (omega arith)) (g .1),
+  s p (omega arith) (omega arith) ∙ g .0,
+  goes-on-stays a _ xs ys (λ i l h. s i (omega arith) (omega arith)) (g .1),
+  goes-on-stays k _ xs ys (λ i l h. s i (omega arith) (omega arith)) (g .2),
 )
 
 -- ---- the writer's notes over a tree
@@ -52,7 +54,7 @@ goes-on-stays (again m a k) p xs ys s g = (
 abbrev overLines : List TableLine → (p : ℕ) → Noting → Noting
 overLines lines p s = notedOver (map tableRowOf lines) p s
 
--- what has been noted past the tree, whatever is behind it: the branch at hand is the same, and only the tree's rows have changed
+-- what has been noted past the tree, whatever is behind it: the branch or loop at hand is the same, and only the tree's rows have changed
 record Over (t : Table) (p : ℕ) (s : Noting) : Type 0 where
   after : Noting
   on : (rest : List TableLine) → overLines (flat t rest) p s ≡ overLines rest (p + rows t) after
@@ -103,6 +105,27 @@ module _ (f : TableTest) (a b k : Table) (p : ℕ) (s : Noting) where
         );
       }
 
+module _ {m : _} (a k : Table) (p : ℕ) (s : Noting) where
+  over-again : let q = suc p + rows a in suc q ≤ length (s .beyond) → (A : Over a (suc p) (notedBy branching.Opens p s))
+      → Over k (suc q) (notedBy branching.Closes q (A .after)) → Over (again m a k) p s
+  unfolding notedOver notedBy GoesOn rows flat tableRowOf rowOf
+  over-again room A K =
+      let q = suc p + rows a in
+      let e = suc q + rows k in
+      let s₂ = A .after in
+      let upto : e ≡ p + (2 + (rows a + rows k)) = omega arith in
+      let k₃ = subst (λ j. Keeps (suc q) e (set (s₂ .beyond) j (suc q)) (K .after .beyond)) (A .top) (K .kept) in
+      let G : GoesBlock p q e (s .top) (suc q) (s .beyond) (s₂ .beyond) (K .after .beyond) =
+      goes-block p q e (s .top) (suc q) (s .beyond) (s₂ .beyond) (K .after .beyond) (omega arith) (omega arith) (omega arith) (A .kept)
+      (wider k₃ (omega arith) (omega arith)) in
+      record {
+        after = K .after;
+        on = λ rest. A .on (endRepeat ∷ flat k rest) ∙ K .on rest ∙ ap (λ n. overLines rest n (K .after)) upto;
+        top = K .top ∙ ap (λ j. getD (s₂ .beyond) j 0) (A .top) ∙ G .around;
+        kept = wider (G .whole) (omega arith) (omega arith);
+        right = (G .at, goes-on-stays a (suc p) (s₂ .beyond) (K .after .beyond) (G .inside) (A .right), K .right);
+      }
+
 over-tree : (t : Table) (p : ℕ) (s : Noting) → p + rows t ≤ length (s .beyond) → Over t p s
 unfolding notedOver notedBy GoesOn rows flat tableRowOf rowOf
 over-tree done p s h =
@@ -131,16 +154,10 @@ over-tree (fork f a b k) p s h =
     (over-tree k (suc r) (notedBy branching.Closes r (B .after)) (omega (arith, length-set (B .after .beyond) (B .after .top) (suc r))))
 over-tree (again m a k) p s h =
     let q = suc p + rows a in
-    let A = over-tree a (suc p) s (omega arith) in
-    let K = over-tree k (suc q) (A .after) (omega (arith, A .kept .long)) in
-    let upto : suc q + rows k ≡ p + (2 + (rows a + rows k)) = omega arith in
-    record {
-      after = K .after;
-      on = λ rest. A .on (endRepeat ∷ flat k rest) ∙ K .on rest ∙ ap (λ n. overLines rest n (K .after)) upto;
-      top = K .top ∙ A .top;
-      kept = keeps-then (wider (A .kept) (omega arith) (omega arith)) (wider (K .kept) (omega arith) (omega arith));
-      right = (goes-on-stays a (suc p) (A .after .beyond) (K .after .beyond) (λ i l g. K .kept .at i (inl (omega arith))) (A .right), K .right);
-    }
+    let A = over-tree a (suc p) (notedBy branching.Opens p s) (omega (arith, length-set (s .beyond) p (s .top))) in
+    let long : length (A .after .beyond) ≡ length (s .beyond) = A .kept .long ∙ length-set (s .beyond) p (s .top) in
+    over-again a k p s (omega arith) A
+    (over-tree k (suc q) (notedBy branching.Closes q (A .after)) (omega (arith, length-set (A .after .beyond) (A .after .top) (suc q))))
 
 -- ---- and so line by line
 
@@ -152,7 +169,7 @@ module _ (xs : List ℕ) where
   JumpsAt p (ifLine f ∷ rest) = Arrives (oneMore (seek itsElse 0 rest)) p (getD xs p 0)
   JumpsAt p (elseLine ∷ rest) = Arrives (oneMore (seek itsEnd 0 rest)) p (getD xs p 0)
   JumpsAt p (endIf ∷ rest) = Unit {0}
-  JumpsAt p (repeat m ∷ rest) = Unit {0}
+  JumpsAt p (repeat m ∷ rest) = Arrives (oneMore (seekClose 0 rest)) p (getD xs p 0)
   JumpsAt p (endRepeat ∷ rest) = Unit {0}
 
   abbrev AllJump : (p : ℕ) → List TableLine → Type 0
@@ -178,8 +195,8 @@ module _ (xs : List ℕ) where
       (tree-jumps a (suc p) _ (g .1) split (omega arith) second)
   tree-jumps (again m a k) p rest g q is later =
       let end = suc p + rows a in
-      all-jump p (repeat m) _ tt
-      (tree-jumps a (suc p) _ (g .0) end (omega arith) (all-jump end endRepeat _ tt (tree-jumps k (suc end) rest (g .1) q (omega arith) later)))
+      all-jump p (repeat m) _ (record { far = suc (rows a + 1); finds = ap oneMore (seek-close a (flat k rest)); arrives = g .0 ∙ omega arith })
+      (tree-jumps a (suc p) _ (g .1) end (omega arith) (all-jump end endRepeat _ tt (tree-jumps k (suc end) rest (g .2) q (omega arith) later)))
 
   no-lines : (p : ℕ) → AllJump p []
   no-lines p i = rw (drop-nil i) tt
@@ -197,4 +214,5 @@ jumps-right t before after room noted =
     record {
       fromIf = λ p test rest e. subst (JumpsAt after p) e (at p);
       fromElse = λ p rest e. subst (JumpsAt after p) e (at p);
+      fromRepeat = λ p m rest e. subst (JumpsAt after p) e (at p);
     }

@@ -78,7 +78,7 @@ module _ (v mark : ℕ) where
   line-length (repeat m) = refl
   line-length endRepeat = refl
 
-  -- only the last is anything to the branches
+  -- only the last is anything to the blocks
   line-ending : (l : SheetLine) → Ending (forwardBranching (partOf l)) (tangentOfLine v mark l)
   unfolding tangentOfLine sheetRowOf rowOf rowOfTest deep
   line-ending (basic (d ≔ source)) =

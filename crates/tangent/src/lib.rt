@@ -64,7 +64,7 @@ pub fn plan_tangent(
     }
 }
 
-// The tangent table of a planned sheet into a buffer that has room for it, and where each of its "if"s and "else"s goes on to.
+// The tangent table of a planned sheet into a buffer that has room for it, and where each of its "if"s, "else"s and "repeat"s goes on to.
 pub fn write_planned(
     words: &[u16],
     plan: Plan,

@@ -59,7 +59,7 @@ noted-both (r ∷ rs) rs′ p s =
     let on : p + suc (length rs) ≡ suc p + length rs = omega arith in
     rw on (noted-both rs rs′ (suc p) (notedBy (branchingOf (r .kind)) p s))
 
--- an action isn't part of a branch
+-- an action neither opens a block nor ends one
 pub action-passes : (a : Action) (p : ℕ) (s : Noting) → notedBy (branchingOf (rowOfAction a .kind)) p s ≡ s
 unfolding notedBy rowOfAction rowOfAssignment
 action-passes (assign (d ≔ copy x)) p s = refl
@@ -87,7 +87,7 @@ flat-passes (again m a k) h p s = absurd (omega arith)
 
 -- ---- one sheet row's rows
 
--- some rows of which only the last is anything to the branches
+-- some rows of which only the last is anything to the blocks
 pub record Ending (what : Branching) (rs : List Row) : Type 0 where
   pub some : 1 ≤ length rs
   pub notes : (p : ℕ) (s : Noting) → notedOver rs p s ≡ notedBy what (p + length rs - 1) s
@@ -224,7 +224,7 @@ noted-then {p = p} {q = q} {rs = rs} {rs′ = rs′} {s = s} numbered w w′ =
           ∙ sym (noted-both rs rs′ (rowsBefore p) s);
     }
 
--- row 17 is nothing to the branches
+-- row 17 is nothing to the blocks
 pub turn-noted : {l l′ : List ℕ} {q r : ℕ} (s : Noting) → Wrote l q (rowWith 17 0 0 0 ∷ []) l′ r → WroteNoted l q (rowWith 17 0 0 0 ∷ []) l′ r s s
 unfolding notedOver
 turn-noted s w = record { wrote = w; noted = refl }

@@ -1,4 +1,4 @@
-// Where each "if" and each "else" of the table goes on to, noted while the rows are written.
+// Where each "if", each "else" and each "repeat" of the table goes on to, noted while the rows are written.
 ghost use mathlib.Core.Path.{_≡_};
 ghost use Prim.Native.Nat.{_-_};
 ghost use lib.ListN.{getD, set};
@@ -6,7 +6,7 @@ ghost use Rattle.writer.specs.inner.JumpsNoted.{noting, notedBy, forward
 use sheet::kinds::Part;
 use table::MAX_TABLE_ROWS;
 
-// What a row of the table is to the branches around it.
+// What a row of the table is to the blocks around it.
 pub enum Branching {
     Opens,
     Splits,
@@ -23,8 +23,8 @@ pub fn forward(part: Part) -> Branching
         Part::If => Branching::Opens,
         Part::Else => Branching::Splits,
         Part::EndIf => Branching::Closes,
-        Part::Repeat => Branching::Passes,
-        Part::EndRepeat => Branching::Passes,
+        Part::Repeat => Branching::Opens,
+        Part::EndRepeat => Branching::Closes,
     }
 }
 
@@ -37,8 +37,8 @@ pub fn backward(part: Part) -> Branching
         Part::If => Branching::Splits,
         Part::Else => Branching::Closes,
         Part::EndIf => Branching::Opens,
-        Part::Repeat => Branching::Passes,
-        Part::EndRepeat => Branching::Passes,
+        Part::Repeat => Branching::Closes,
+        Part::EndRepeat => Branching::Opens,
     }
 }
 
@@ -51,7 +51,7 @@ fn put(beyond: &mut [u16], row: u16, to: u16)
     }
 }
 
-// The innermost open branch ends, and its row goes on to another. Answers the row of the branch around it.
+// The innermost open branch or loop ends, and its row goes on to another. Answers the row of the one around it.
 fn end_branch(top: u16, to: u16, beyond: &mut [u16]) -> u16
     ensures { λ r. ⌜ (r ≡ getD (now (beyond .entry)) top 0) × (now (beyond .exit) ≡ set (now (beyond .entry)) top to) ⌝ }
 {
@@ -67,7 +67,7 @@ fn rows_before(place: usize) -> u16
     ((place - 1) / sheet::ROW_WORDS) as u16
 }
 
-// The row that ends at a place. `top` is the row of the innermost open branch, and so is the answer, after this row.
+// The row that ends at a place. `top` is the row of the innermost open branch or loop, and so is the answer, after this row.
 pub fn note(what: Branching, place: usize, top: u16, beyond: &mut [u16; MAX_TABLE_ROWS]) -> u16
     requires { ⌜ RowEnds place ⌝ }
     ensures { λ r. ⌜ noting r (now (beyond .exit)) ≡ notedBy what (rowsBefore place - 1) (noting top (now (beyond .entry))) ⌝ }

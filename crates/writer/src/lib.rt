@@ -22,7 +22,7 @@ mod partners;
 pub mod rows;
 mod sweep;
 
-// The table of a planned sheet into a buffer that has room for it, and where each of its "if"s and "else"s goes on to.
+// The table of a planned sheet into a buffer that has room for it, and where each of its "if"s, "else"s and "repeat"s goes on to.
 pub fn write_planned(
     words: &[u16],
     plan: Plan,

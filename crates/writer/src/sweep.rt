@@ -18,7 +18,7 @@ use table::MAX_TABLE_ROWS;
 use table::Plan;
 use table::kinds;
 
-// Where the writer is: the place after the last row, and the innermost open branch's row.
+// Where the writer is: the place after the last row, and the innermost open branch's or loop's row.
 pub struct SweptTo {
     pub place: usize,
     pub top: u16,

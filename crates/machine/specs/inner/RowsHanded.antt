@@ -1,4 +1,5 @@
--- What the runner is handed: a table's rows in a buffer, where each "if" and each "else" goes on to, and room for the open repeats.
+-- What the runner is handed: a table's rows in a buffer, where each "if", each "else" and each "repeat" goes on to, and room for the open
+-- repeats.
 use Prim.Native.Nat.{ℕ, _+_, _*_, _≤_, _<_}
 use mathlib.Core.Path.{_≡_}
 use mathlib.Core.List.{List, _∷_}
@@ -6,13 +7,13 @@ use mathlib.Core.Option.{Option, some}
 use lib.ListN.{length, getD, drop}
 use Rattle.number.specs.Arithmetic.{Arithmetic}
 use Rattle.sheet.specs.Bounds.{limit}
-use Rattle.sheet.specs.Tree.{ifLine, elseLine}
+use Rattle.sheet.specs.Tree.{ifLine, elseLine, repeat}
 use Rattle.sheet.specs.Rows.{Row}
 use Rattle.sheet.specs.Sheets.{rowAt}
 use Rattle.table.specs.TableRows.{TableLine, TableTest, tableRowOf}
 use Rattle.machine.specs.Actions.{Setting}
 use Rattle.machine.specs.inner.RowWords.{actionOf, Named}
-use Rattle.machine.specs.Machine.{itsElse, itsEnd, oneMore, seek, State, goesOn, stateAfter}
+use Rattle.machine.specs.Machine.{itsElse, itsEnd, oneMore, seek, seekClose, State, goesOn, stateAfter}
 
 -- where row p of a table stands in its buffer: after the row count, four words a row
 abbrev pub placeOfRow : ℕ → ℕ
@@ -45,12 +46,14 @@ pub record Arrives (found : Option ℕ) (from to : ℕ) : Type 0 where
   pub finds : found ≡ some far
   pub arrives : to ≡ from + far
 
--- for each "if" the row after its "else", for each "else" the row after its "end if"
+-- for each "if" the row after its "else", for each "else" the row after its "end if", for each "repeat" the row after its "end repeat"
 pub record Jumps (lines : List TableLine) (beyond : List ℕ) : Type 0 where
   pub fromIf : (p : ℕ) (test : TableTest) (rest : List TableLine) → drop p lines ≡ ifLine test ∷ rest
       → Arrives (oneMore (seek itsElse 0 rest)) p (getD beyond p 0)
   pub fromElse : (p : ℕ) (rest : List TableLine) → drop p lines ≡ elseLine ∷ rest
       → Arrives (oneMore (seek itsEnd 0 rest)) p (getD beyond p 0)
+  pub fromRepeat : (p : ℕ) (m : _) (rest : List TableLine) → drop p lines ≡ repeat m ∷ rest
+      → Arrives (oneMore (seekClose 0 rest)) p (getD beyond p 0)
 
 -- the setting that a run's sections and seeds make
 pub record Suits (A : Arithmetic) (roleWords constantWords : List ℕ) (lentSeeds : List (A .Carrier)) (setting : Setting A) : Type 0 where

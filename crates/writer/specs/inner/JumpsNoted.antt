@@ -1,4 +1,4 @@
--- Where each "if" and each "else" of a table goes on to, as the writer notes it row by row, without a stack.
+-- Where each "if", each "else" and each "repeat" of a table goes on to, as the writer notes it row by row, without a stack.
 use Prim.Native.Nat.{ℕ, suc, _+_, _*_, _-_, _/_, _≤_}
 use mathlib.Core.Path.{_≡_}
 use mathlib.Core.Bool.{cond, _||_}
@@ -17,8 +17,8 @@ use Rattle.writer.specs.declared.jumps.Branching.{Branching}
 use Rattle.writer.specs.declared.jumps.Branching.the-variants as branching
 use Rattle.writer.specs.inner.RowsWritten.{Wrote}
 
--- The row that opened or split the innermost open branch, and what is noted at each row. While its branch is open, a row has the one that was
--- innermost around it; then what it goes on to.
+-- The row that opened the innermost open branch or loop, or split its block, and what is noted at each row. While what it opened is open, a row
+-- has the one that was innermost around it; then what it goes on to.
 pub record Noting : Type 0 where
   pub top : ℕ
   pub beyond : List ℕ
@@ -26,17 +26,19 @@ pub record Noting : Type 0 where
 abbrev pub noting : (top : ℕ) (beyond : List ℕ) → Noting
 noting top beyond = record { top = top; beyond = beyond }
 
--- what one row does, by what it is to the branches: an "if" goes on to the row after its "else", an "else" to the row after its "end if"
+-- what one row does, by what it is to the blocks: an "if" goes on to the row after its "else", an "else" to the row after its "end if", a
+-- "repeat" to the row after its "end repeat"
 unfoldable pub notedBy : Branching → (row : ℕ) → Noting → Noting
 notedBy branching.Opens p s = noting p (set (s .beyond) p (s .top))
 notedBy branching.Splits p s = noting p (set (set (s .beyond) (s .top) (suc p)) p (getD (s .beyond) (s .top) 0))
 notedBy branching.Closes p s = noting (getD (s .beyond) (s .top) 0) (set (s .beyond) (s .top) (suc p))
 notedBy branching.Passes p s = s
 
--- "if", also on a turn; "else"; "end if"
+-- "if", also on a turn, and "repeat"; "else"; "end if" and "end repeat"
 abbrev pub branchingOf : (kind : ℕ) → Branching
 branchingOf kind =
-    cond (eqb kind 7 || eqb kind 15) branching.Opens (cond (eqb kind 8) branching.Splits (cond (eqb kind 9) branching.Closes branching.Passes))
+    cond (eqb kind 7 || eqb kind 15 || eqb kind 10) branching.Opens
+    (cond (eqb kind 8) branching.Splits (cond (eqb kind 9 || eqb kind 11) branching.Closes branching.Passes))
 
 -- rows one after another, the first with this number
 unfoldable pub notedOver : List Row → (row : ℕ) → Noting → Noting
@@ -50,8 +52,8 @@ forwardBranching part.Assignment = branching.Passes
 forwardBranching part.If = branching.Opens
 forwardBranching part.Else = branching.Splits
 forwardBranching part.EndIf = branching.Closes
-forwardBranching part.Repeat = branching.Passes
-forwardBranching part.EndRepeat = branching.Passes
+forwardBranching part.Repeat = branching.Opens
+forwardBranching part.EndRepeat = branching.Closes
 
 -- and in the backward part, where a block's end is its start
 abbrev pub backwardBranching : Part → Branching
@@ -59,8 +61,8 @@ backwardBranching part.Assignment = branching.Passes
 backwardBranching part.If = branching.Splits
 backwardBranching part.Else = branching.Closes
 backwardBranching part.EndIf = branching.Opens
-backwardBranching part.Repeat = branching.Passes
-backwardBranching part.EndRepeat = branching.Passes
+backwardBranching part.Repeat = branching.Closes
+backwardBranching part.EndRepeat = branching.Opens
 
 -- ---- rows in a buffer
 
@@ -78,7 +80,7 @@ pub record Numbered (place : ℕ) (rs : List Row) : Type 0 where
   pub begins : place ≡ 1 + limit .rowWords * rowsBefore place
   pub few : rowsBefore place + length rs ≤ mostTableRows
 
--- rows are written, and what they do to the branches is noted
+-- rows are written, and what they do to the blocks is noted
 pub record WroteNoted (before : List ℕ) (place : ℕ) (rs : List Row) (after : List ℕ) (reached : ℕ) (s s′ : Noting) : Type 0 where
   pub wrote : Wrote before place rs after reached
   pub noted : s′ ≡ notedOver rs (rowsBefore place) s

@@ -1,4 +1,4 @@
--- `writer::jumps::note` meets its contract: each arm is one case of what the row is to the branches.
+-- `writer::jumps::note` meets its contract: each arm is one case of what the row is to the blocks.
 use borrow.Author.Needs.{needs}
 use Rattle.writer.proofs.JumpLaws.{branch-opens, branch-splits, branch-closes, branch-passes}
 use Rattle.writer.proofs.jumps.note.Statement.{statement}
