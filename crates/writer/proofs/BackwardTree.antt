@@ -4,21 +4,22 @@ use mathlib.Core.Path.{_≡_, refl, sym, ap, _∙_}
 use mathlib.Core.List.{List, [], _∷_, _++_, append-assoc, append-nil}
 use lib.ListN.{getD}
 use native.Mathlib.Omega.{arith}
-use Rattle.sheet.specs.Tree.{Tree, done, one, fork, again, basic, ifLine, elseLine, endIf, repeat, endRepeat, flat, rows}
-use Rattle.sheet.specs.Rows.{Assignment, Test, SheetLine, Row, sheetRowOf, rowOf, treeRows}
+use Rattle.sheet.specs.Tree.{Loop, times, while, loopBy, Tree, done, one, fork, again, basic, ifLine, elseLine, endIf, repeat, endRepeat, flat, rows}
+use Rattle.sheet.specs.Rows.{Assignment, Test, less, SheetLine, Row, sheetRowOf, rowOf, treeRows}
 use Rattle.sheet.specs.inner.RowLines.{lineOfRow}
 use Rattle.sheet.specs.inner.Kinds.{partOf}
 use Rattle.sheet.specs.declared.kinds.Part.the-variants as part
 use Rattle.sheet.specs.Sheets.{rowsAt}
 use Rattle.sheet.proofs.RowsBack.{line-back}
 use Rattle.sheet.proofs.RowsByNumber.{StandsAt, tree-stands, stands-after}
-use Rattle.sets.specs.Marks.{Marked, numbered}
+use Rattle.sets.specs.Marks.{Marked, testAt, numbered}
 use Rattle.table.specs.TableRows.{Table, tableRowOf, rowOfTableTest, onTurn}
 use Rattle.table.specs.Adjoint.{backwardOf, backwardPart}
-use Rattle.table.specs.inner.MarkedRows.{rowWith, rowsIn, backwardOfLine, Noted}
+use Rattle.table.specs.inner.MarkedRows.{rowWith, rowsIn, loopBack, backwardOfLine, Noted}
 use Rattle.table.proofs.AssignmentRows.{none-before}
+use Rattle.table.proofs.LineRows.{turnsSaid, loop-backward}
 use Rattle.table.proofs.MarkedAssignment.{marked-backward}
-use Rattle.writer.specs.inner.RowsWritten.{stepBack, turnsBack, Handed, rowOfNumber, backwardAt, wayBack, backwardRows}
+use Rattle.writer.specs.inner.RowsWritten.{stepBack, turnsSaidBy, turnsBack, Handed, rowOfNumber, backwardAt, wayBack, backwardRows}
 use Rattle.writer.proofs.BackwardOver.{backward-turn}
 use Rattle.writer.proofs.TableTree.{fork-before, again-before}
 
@@ -39,11 +40,18 @@ module _ (given : Handed) (mark : ℕ → Assignment → Marked) where
       ∙ ap (λ line. rowsAtRow q line ++ backwardRows given n (stepBack (given .came) (given .goes) q (partOf line))) (ap lineOfRow stands ∙ line-back l)
       ∙ ap (λ p. rowsAtRow q l ++ backwardRows given n p) goes
 
-  -- an "end repeat" at row q whose "repeat" is at row p becomes that "repeat"
-  repeat-back : (m p q : ℕ) → getD (given .goes) q 0 ≡ p → rowOfNumber given p ≡ sheetRowOf (repeat m)
-      → rowsAtRow q endRepeat ≡ rowWith 10 0 (suc m) 0 ∷ []
-  unfolding backwardOfLine turnsBack sheetRowOf rowOf
-  repeat-back m p q opens stands = ap (λ n. rowWith 10 0 n 0 ∷ []) (ap (λ x. rowOfNumber given x .a) opens ∙ ap (λ r. r .a) stands)
+  turns-said : (l : Loop Test) → turnsSaidBy (sheetRowOf (repeat l)) ≡ turnsSaid l
+  unfolding sheetRowOf
+  turns-said (times m) = refl
+  turns-said (while (less a b) m) = refl
+
+  -- an "end repeat" at row q whose loop opens at row p becomes that loop's first row
+  repeat-back : (l : Loop Test) (p q : ℕ) → getD (given .goes) q 0 ≡ p → rowOfNumber given p ≡ sheetRowOf (repeat l)
+      → rowsAtRow q endRepeat ≡ tableRowOf (repeat (loopBy (λ f. onTurn) (loopBy (testAt p) l))) ∷ []
+  unfolding backwardOfLine turnsBack
+  repeat-back l p q opens stands =
+      ap (λ n. loopBack n ∷ []) (ap (λ x. turnsSaidBy (rowOfNumber given x)) opens ∙ ap turnsSaidBy stands ∙ turns-said l)
+      ∙ ap (λ r. r ∷ []) (sym (loop-backward p l))
 
   -- a tree's rows, walked from its end, then those of `rest` and `after`
   backward-tree : (t : Tree Assignment Test) (ls : List SheetLine) (rest : Table) (after : List Row) (p n c e : ℕ)
@@ -94,6 +102,7 @@ module _ (given : Handed) (mark : ℕ → Assignment → Marked) where
       (w .1 .1 .1) endRow
   backward-tree (again m a k) ls rest after p n c e hc he s w h =
       let v = given .variables in
+      let loop = loopBy (λ f. onTurn) (loopBy (testAt p) m) in
       let end = suc p + rows a in
       let A = backwardPart v (numbered mark a (suc p)) done in
       let atEnd = stands-after (given .words) (given .first) a (endRepeat ∷ flat k ls) (suc p) refl (s .1) in
@@ -103,8 +112,8 @@ module _ (given : Handed) (mark : ℕ → Assignment → Marked) where
       let endRow =
       backward-step endRepeat end end (rows a + suc n) (atEnd .0) refl
       ∙ ap (λ l. l ++ backwardRows given (rows a + suc n) end) (repeat-back m p end (w .0 .endGoes) (s .0))
-      ∙ ap (λ l. rowWith 10 0 (suc m) 0 ∷ l) body ∙ sym (again-before m A rest after) in
-      backward-tree k ls (again m A rest) after (suc end) (suc (rows a + suc n)) c e (omega arith) (omega arith) (atEnd .1) (w .1 .1) endRow
+      ∙ ap (λ l. tableRowOf (repeat loop) ∷ l) body ∙ sym (again-before loop A rest after) in
+      backward-tree k ls (again loop A rest) after (suc end) (suc (rows a + suc n)) c e (omega arith) (omega arith) (atEnd .1) (w .1 .1) endRow
 
   backward-end : (e : ℕ) → backwardRows given 0 e ≡ rowsIn done ++ []
   unfolding backwardRows

@@ -5,16 +5,17 @@ use mathlib.Core.Bool.{Bool, true, false}
 use mathlib.Core.List.{List, [], _∷_, _++_, append-assoc, append-nil}
 use lib.ListN.{getD}
 use native.Mathlib.Omega.{arith}
-use Rattle.sheet.specs.Tree.{Tree, done, one, fork, again, basic, ifLine, elseLine, endIf, repeat, endRepeat, flat, rows, RowNumber}
+use Rattle.sheet.specs.Tree.{loopBy, Tree, done, one, fork, again, basic, ifLine, elseLine, endIf, repeat, endRepeat, flat, rows, RowNumber}
 use Rattle.sheet.specs.Rows.{Assignment, Test, SheetLine, Row, sheetRowOf, rowOf, rowOfTest, treeRows}
 use Rattle.sheet.specs.inner.RowLines.{numberedRow}
 use Rattle.sheet.specs.Sheets.{rowsAt}
 use Rattle.sheet.proofs.RowsByNumber.{StandsAt, tree-stands, stands-after}
-use Rattle.sets.specs.Marks.{Marked, numbered}
+use Rattle.sets.specs.Marks.{Marked, testAt, numbered}
 use Rattle.table.specs.TableRows.{Table, tableRowOf, rowOfAction, rowOfTableTest, whether, saveTurn, turning}
 use Rattle.table.specs.Adjoint.{put, forwardPart}
 use Rattle.table.specs.inner.MarkedRows.{rowWith, rowsIn, forwardOfLine, Noted}
 use Rattle.table.proofs.AssignmentRows.{rows-of-put, rows-of-done, none-before}
+use Rattle.table.proofs.LineRows.{loop-forward}
 use Rattle.table.proofs.MarkedAssignment.{marked-forward}
 use Rattle.writer.specs.inner.RowsWritten.{rowsAlong, forwardRows}
 use Rattle.writer.proofs.PassOver.{along-step}
@@ -82,8 +83,9 @@ module _ (words : List ℕ) (first : ℕ) (marks came goes : List ℕ) (mark : �
       let body =
       forward-tree a (endRepeat ∷ flat k ls) done (rowWith 11 0 0 0 ∷ (rowsIn K ++ after))
       (suc p) (suc (rows k + n)) (rows a + suc (rows k + n)) end refl refl (s .1) (w .1 .0) ended in
-      forward-step (repeat m) p (rows a + suc (rows k + n)) c (omega arith) (s .0) ∙ ap (λ rs. rowWith 10 0 (suc m) 0 ∷ rs) body
-      ∙ sym (again-before m (forwardPart (numbered mark a (suc p)) done) K after)
+      forward-step (repeat m) p (rows a + suc (rows k + n)) c (omega arith) (s .0) ∙ ap (λ rs. sheetRowOf (repeat m) ∷ rs) body
+      ∙ ap (λ r. r ∷ (rowsIn (forwardPart (numbered mark a (suc p)) done) ++ (rowWith 11 0 0 0 ∷ (rowsIn K ++ after)))) (sym (loop-forward p m))
+      ∙ sym (again-before (loopBy (λ f. whether (f .test)) (loopBy (testAt p) m)) (forwardPart (numbered mark a (suc p)) done) K after)
 
   forward-end : (e : ℕ) → forwardRows words first marks e 0 ≡ rowsIn done ++ []
   unfolding rowsAlong

@@ -1,12 +1,12 @@
 -- What the writer notes of the table's jumps: by one row, over rows one after another, and over one sheet row's rows in either part.
-use Prim.Native.Nat.{ℕ, suc, _+_, _-_, _≤_}
+use Prim.Native.Nat.{ℕ, zero, suc, _+_, _-_, _≤_}
 use mathlib.Core.Path.{_≡_, refl, sym, ap, _∙_, subst}
 use mathlib.Core.Bool.{Bool, true, false}
 use mathlib.Core.List.{List, [], _∷_, _++_}
 use lib.ListN.{length, getD, set, length-append}
 use native.Mathlib.Omega.{arith}
-use Rattle.sheet.specs.Tree.{done, one, fork, again, flat, basic, ifLine, elseLine, endIf, repeat, endRepeat}
-use Rattle.sheet.specs.Rows.{Row, SheetLine, Assignment, rowOf, rowOfAssignment, rowOfTest, less, _≔_, copy, fixed, sum, difference, product, negation, quotient}
+use Rattle.sheet.specs.Tree.{times, while, done, one, fork, again, flat, basic, ifLine, elseLine, endIf, repeat, endRepeat}
+use Rattle.sheet.specs.Rows.{Row, SheetLine, Assignment, rowOf, rowOfAssignment, rowOfTest, sheetRowOf, less, _≔_, copy, fixed, sum, difference, product, negation, quotient}
 use Rattle.sheet.specs.inner.RowLines.{lineOfRow}
 use Rattle.sheet.specs.inner.Kinds.{partOf}
 use Rattle.sheet.specs.declared.kinds.Part.{Part}
@@ -119,14 +119,15 @@ module _ (mark : ℕ) where
   some-forward b false = omega arith
 
   forward-ending : (l : SheetLine) → Ending (forwardBranching (partOf l)) (forwardOfLine mark l)
-  unfolding forwardOfLine tableRowOf rowOf rowOfTest deep
+  unfolding forwardOfLine tableRowOf sheetRowOf rowOf rowOfTest deep
   forward-ending (basic b) =
       let m = markedBy b (savedBy mark) in
       flat-ending (forwardRow m done) (omega (arith, forward-row 0 deep row-flat m .few done)) (some-forward b (savedBy mark))
   forward-ending (ifLine (less a b)) = last-ending _
   forward-ending elseLine = turn-ending true _
   forward-ending endIf = turn-ending false _
-  forward-ending (repeat m) = last-ending _
+  forward-ending (repeat (times m)) = last-ending _
+  forward-ending (repeat (while (less a b) m)) = last-ending _
   forward-ending endRepeat = last-ending _
 
   some-backward : (v : ℕ) (b : Assignment) (saved active : Bool) (known : Activity) → known .active ≡ active
@@ -146,7 +147,8 @@ module _ (mark : ℕ) where
   backward-ending v turns elseLine = last-ending _
   backward-ending v turns endIf = last-ending _
   backward-ending v turns (repeat m) = last-ending _
-  backward-ending v turns endRepeat = last-ending _
+  backward-ending v zero endRepeat = last-ending _
+  backward-ending v (suc m) endRepeat = last-ending _
 
 -- by what the code has found of the row
 pub ends-by : {r : Row} {p : Part} → SaysPart r p → {what : Branching} (branchingFor : Part → Branching) (rowsFor : SheetLine → List Row)

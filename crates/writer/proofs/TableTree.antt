@@ -1,8 +1,7 @@
 -- The rows of a table's tree, by what stands first in it.
-use Prim.Native.Nat.{ℕ, suc}
 use mathlib.Core.Path.{_≡_, refl, ap, _∙_}
 use mathlib.Core.List.{List, [], _∷_, _++_, append-assoc, map}
-use Rattle.sheet.specs.Tree.{Tree, done, one, fork, again, Line, elseLine, endIf, endRepeat, flat}
+use Rattle.sheet.specs.Tree.{Loop, Tree, done, one, fork, again, Line, elseLine, endIf, repeat, endRepeat, flat}
 use Rattle.sheet.specs.Rows.{Row, rowOf}
 use Rattle.table.specs.TableRows.{Table, TableRow, TableLine, TableTest, linesOf, tableRowOf, rowOfAction, rowOfTableTest}
 use Rattle.table.specs.inner.MarkedRows.{rowWith, rowsIn}
@@ -35,15 +34,15 @@ rows-of-fork f a b k =
     ap (λ rs. rowOfTableTest f ∷ rs)
     (rows-before a (elseLine ∷ flat b (endIf ∷ flat k [])) ∙ ap (λ rs. rowsIn a ++ (rowWith 8 0 0 0 ∷ rs)) (rows-before b (endIf ∷ flat k [])))
 
-pub rows-of-again : (m : ℕ) (a k : Table) → rowsIn (again m a k) ≡ rowWith 10 0 (suc m) 0 ∷ (rowsIn a ++ (rowWith 11 0 0 0 ∷ rowsIn k))
+pub rows-of-again : (l : Loop TableTest) (a k : Table) → rowsIn (again l a k) ≡ tableRowOf (repeat l) ∷ (rowsIn a ++ (rowWith 11 0 0 0 ∷ rowsIn k))
 unfolding rowsIn linesOf tableRowOf flat rowOf
-rows-of-again m a k = ap (λ rs. rowWith 10 0 (suc m) 0 ∷ rs) (rows-before a (endRepeat ∷ flat k []))
+rows-of-again l a k = ap (λ rs. tableRowOf (repeat l) ∷ rs) (rows-before a (endRepeat ∷ flat k []))
 
 -- the same before other rows
 pub fork-before : (f : TableTest) (a b k : Table) (after : List Row)
     → rowsIn (fork f a b k) ++ after ≡ rowOfTableTest f ∷ (rowsIn a ++ (rowWith 8 0 0 0 ∷ (rowsIn b ++ (rowWith 9 0 0 0 ∷ (rowsIn k ++ after)))))
 fork-before f a b k after = rw (rows-of-fork f a b k) (simp append-assoc)
 
-pub again-before : (m : ℕ) (a k : Table) (after : List Row)
-    → rowsIn (again m a k) ++ after ≡ rowWith 10 0 (suc m) 0 ∷ (rowsIn a ++ (rowWith 11 0 0 0 ∷ (rowsIn k ++ after)))
-again-before m a k after = rw (rows-of-again m a k) (simp append-assoc)
+pub again-before : (l : Loop TableTest) (a k : Table) (after : List Row)
+    → rowsIn (again l a k) ++ after ≡ tableRowOf (repeat l) ∷ (rowsIn a ++ (rowWith 11 0 0 0 ∷ (rowsIn k ++ after)))
+again-before l a k after = rw (rows-of-again l a k) (simp append-assoc)

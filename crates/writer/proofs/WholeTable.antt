@@ -3,7 +3,7 @@ use Prim.Native.Nat.{ℕ}
 use mathlib.Core.Path.{_≡_, sym, ap, _∙_}
 use mathlib.Core.Bool.{true, false}
 use mathlib.Core.List.{_∷_, _++_, append-assoc}
-use Rattle.sheet.specs.Tree.{Tree, done, one, fork, again, rows}
+use Rattle.sheet.specs.Tree.{loopBy, Tree, done, one, fork, again, rows}
 use Rattle.sheet.specs.Rows.{Assignment, Test, treeRows}
 use Rattle.sheet.specs.Sheets.{rowsAt}
 use Rattle.sheet.proofs.RowsByNumber.{rows-of-tree}
@@ -30,7 +30,8 @@ forward-before (fork f a b k) rest =
     rw (rows-of-fork (whether (f .test)) A B (forwardPart k rest), rows-of-fork (whether (f .test)) A B (forwardPart k done), forward-before k rest)
     (simp append-assoc)
 forward-before (again n a k) rest =
-    rw (rows-of-again n (forwardPart a done) (forwardPart k rest), rows-of-again n (forwardPart a done) (forwardPart k done), forward-before k rest)
+    let loop = loopBy (λ f. whether (f .test)) n in
+    rw (rows-of-again loop (forwardPart a done) (forwardPart k rest), rows-of-again loop (forwardPart a done) (forwardPart k done), forward-before k rest)
     (simp append-assoc)
 
 adjoint-rows : (v : ℕ) (t : Body)

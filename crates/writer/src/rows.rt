@@ -6,7 +6,7 @@ ghost use Rattle.sheet.specs.inner.RowLines.{lineOfRow};
 ghost use Rattle.sheet.specs.Answers.{rowSaid};
 ghost use Rattle.sheet.specs.Bounds.{limit};
 ghost use Rattle.table.specs.TableRows.{t};
-ghost use Rattle.table.specs.inner.MarkedRows.{rowWith, rowIf, SmallWords, scaledRows, divisorRows, dividedRows, partRows, derivativesOf, assignmentBack, Assigns, SaysPart, forwardOfLine, backwardOfLine};
+ghost use Rattle.table.specs.inner.MarkedRows.{rowWith, rowIf, SmallWords, scaledRows, divisorRows, dividedRows, partRows, derivativesOf, assignmentBack, Assigns, SaysPart, forwardOfLine, loopBack, backwardOfLine};
 ghost use Rattle.writer.specs.inner.RowsWritten.{RowRoom, Wrote};
 use sheet::RowWords;
 use sheet::kinds::Part;
@@ -210,6 +210,16 @@ pub fn forward_row(table: &mut [u16], place: usize, row: RowWords, part: Part, m
     }
 }
 
+// A loop's kind in the backward part: one that says no turns takes its count back.
+fn loop_kind(turns: u16) -> u16
+    ensures { λ r. ⌜ rowWith r 0 turns 0 ≡ loopBack turns ⌝ }
+{
+    if turns == 0 {
+        return kinds::ON_COUNT;
+    }
+    sheet::kinds::REPEAT
+}
+
 // A sheet row's rows in the backward part; turns are those of an "end repeat"'s "repeat".
 pub fn backward_row(
     table: &mut [u16],
@@ -230,6 +240,6 @@ pub fn backward_row(
         Part::Else => put(table, place, sheet::kinds::END_IF, 0, 0, 0),
         Part::EndIf => put(table, place, kinds::ON_TURN, 0, 0, 0),
         Part::Repeat => put(table, place, sheet::kinds::END_REPEAT, 0, 0, 0),
-        Part::EndRepeat => put(table, place, sheet::kinds::REPEAT, 0, turns, 0),
+        Part::EndRepeat => put(table, place, loop_kind(turns), 0, turns, 0),
     }
 }

@@ -4,14 +4,16 @@ ghost use mathlib.Core.Bool.{true};
 ghost use lib.ListN.{set, length, getD};
 ghost use Prim.Native.Nat.{_+_, _*_, _≤_, _<_};
 ghost use Rattle.sheet.specs.Bounds.{limit};
+ghost use Rattle.sheet.specs.Answers.{rowSaid};
 ghost use Rattle.table.specs.RowBounds.{mostTableRows};
 ghost use Rattle.table.specs.inner.MarkedRows.{RowsReadable};
-ghost use Rattle.writer.specs.inner.RowsWritten.{RowRoom, forwardAll, leadsOn, stepBack, turnsBack, handed, Walkable, backwardAll, wholeRows};
+ghost use Rattle.writer.specs.inner.RowsWritten.{RowRoom, forwardAll, leadsOn, stepBack, turnsSaidBy, turnsBack, handed, Walkable, backwardAll, wholeRows};
 ghost use Rattle.writer.specs.inner.JumpsNoted.{noting, Numbered, WroteNoted};
 use super::jumps;
 use super::partners;
 use super::rows;
 use sheet::RowNumber;
+use sheet::RowWords;
 use sheet::Shape;
 use sheet::kinds::Part;
 use table::MAX_TABLE_ROWS;
@@ -82,7 +84,18 @@ fn step_back(came: &[u16], goes: &[u16], row: RowNumber, part: Part) -> usize
     }
 }
 
-// The turns of an "end repeat"'s "repeat"; 0 for any other row.
+// The turns that the backward part says of a loop: one with a test takes its count back, and says none.
+fn turns_said(opened: RowWords) -> u16
+    ensures { λ r. ⌜ r ≡ turnsSaidBy (rowSaid opened) ⌝ }
+{
+    if opened.kind == sheet::kinds::WHILE {
+        0
+    } else {
+        opened.a
+    }
+}
+
+// Those of the loop that an "end repeat" closes; 0 for any other row.
 fn turns_back(words: &[u16], first: usize, goes: &[u16], row: RowNumber, part: Part) -> u16
     requires { ⌜ (row .0 < length (now goes))
         × (leadsOn part ≡ true → first + (getD (now goes) (row .0) 0 + 1) * limit .rowWords ≤ length (now words)) ⌝ }
@@ -91,7 +104,7 @@ fn turns_back(words: &[u16], first: usize, goes: &[u16], row: RowNumber, part: P
     if let Part::EndRepeat = part {
         let start = partners::partner(goes, row);
         let opened = sheet::row_of(words, first, start);
-        return opened.a;
+        return turns_said(opened);
     }
     0
 }

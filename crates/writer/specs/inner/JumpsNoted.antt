@@ -34,10 +34,10 @@ notedBy branching.Splits p s = noting p (set (set (s .beyond) (s .top) (suc p)) 
 notedBy branching.Closes p s = noting (getD (s .beyond) (s .top) 0) (set (s .beyond) (s .top) (suc p))
 notedBy branching.Passes p s = s
 
--- "if", also on a turn, and "repeat"; "else"; "end if" and "end repeat"
+-- "if", also on a turn, and each kind of loop; "else"; "end if" and "end repeat"
 abbrev pub branchingOf : (kind : ℕ) → Branching
 branchingOf kind =
-    cond (eqb kind 7 || eqb kind 15 || eqb kind 10) branching.Opens
+    cond (eqb kind 7 || eqb kind 15 || eqb kind 10 || eqb kind 19 || eqb kind 20) branching.Opens
     (cond (eqb kind 8) branching.Splits (cond (eqb kind 9 || eqb kind 11) branching.Closes branching.Passes))
 
 -- rows one after another, the first with this number

@@ -1,13 +1,14 @@
 -- Rows in a lent buffer, and the rows of the table's two parts as the writer puts them, from a sheet's rows, their marks and their partners.
 use Prim.Native.Nat.{ℕ, zero, suc, _+_, _*_, _-_, _≤_, _<_}
 use mathlib.Core.Path.{_≡_}
-use mathlib.Core.Bool.{Bool, true, false}
+use mathlib.Core.Bool.{Bool, true, false, cond}
 use mathlib.Core.List.{List, [], _∷_, _++_}
 use lib.ListN.{length, getD}
+use lib.Dec.{eqb}
 use lib.Seq.{sets}
 use Rattle.sheet.specs.Sheets.{rowAt}
 use Rattle.sheet.specs.Bounds.{limit}
-use Rattle.sheet.specs.Rows.{Row, SheetLine}
+use Rattle.sheet.specs.Rows.{Row, SheetLine, whileKind}
 use Rattle.sheet.specs.inner.RowLines.{lineOfRow, numberedRow}
 use Rattle.sheet.specs.inner.Kinds.{partOf}
 use Rattle.sheet.specs.declared.Shape.{Shape}
@@ -70,6 +71,10 @@ stepBack came goes q part.EndIf = getD came q 0
 stepBack came goes q part.Repeat = q
 stepBack came goes q part.EndRepeat = q
 
+-- the turns that the backward part says of the loop that a row opens: a loop with a test says none
+abbrev pub turnsSaidBy : Row → ℕ
+turnsSaidBy r = cond (eqb (r .kind) whileKind) 0 (r .a)
+
 -- the turns of an "end repeat"'s "repeat"
 unfoldable pub turnsBack : (words : List ℕ) (first : ℕ) (goes : List ℕ) (q : ℕ) → Part → ℕ
 unfolding rowAt
@@ -78,7 +83,7 @@ turnsBack words first goes q part.If = 0
 turnsBack words first goes q part.Else = 0
 turnsBack words first goes q part.EndIf = 0
 turnsBack words first goes q part.Repeat = 0
-turnsBack words first goes q part.EndRepeat = numberedRow words first (getD goes q 0) .a
+turnsBack words first goes q part.EndRepeat = turnsSaidBy (numberedRow words first (getD goes q 0))
 
 -- what the writer is handed for the backward part
 pub record Handed : Type 0 where

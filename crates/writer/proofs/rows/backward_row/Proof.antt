@@ -1,4 +1,5 @@
 -- `writer::rows::backward_row` meets its contract, by what the row is to the blocks.
+use mathlib.Core.Path.{sym}
 use Rattle.table.proofs.LineRows.{says-assigns, backward-by}
 use borrow.Author.Needs.{needs}
 use Rattle.writer.proofs.rows.backward_row.Statement.{statement}
@@ -52,11 +53,15 @@ put-requires-4 c κs =
 enum-told-6 : tie.Need-enum-told-6
 enum-told-6 c = search needs
 
+loop-kind-requires : tie.Need-loop-kind-requires
+loop-kind-requires c κs = search needs
+
 put-requires-5 : tie.Need-put-requires-5
 put-requires-5 c κs =
-    let told = c .before in
-    let start = told .before .before .before in
-    rw (backward-by (start .pre .1 .0) (told .enum-told6 .given .1) (start .args .variables) (start .args .mark) (start .args .turns)) at (start .pre .0)
+    let kind = c .before .before in
+    let told = kind .before in
+    let start : tie.Start = search in
+    rw (backward-by (start .pre .1 .0) (told .enum-told6 .given .1) (start .args .variables) (start .args .mark) (start .args .turns), sym (kind .loop-kind .ensures)) at (start .pre .0)
 
 same-length : tie.Need-same-length
 same-length c = search needs
@@ -108,9 +113,10 @@ same-length-6 c = search needs
 
 returns-6 : tie.Need-returns-6
 returns-6 c =
-    let told = c .before .before .before .before in
-    let start = told .before .before .before in
-    rw (backward-by (start .pre .1 .0) (told .enum-told6 .given .1) (start .args .variables) (start .args .mark) (start .args .turns)) (c .before .before .put5 .ensures)
+    let kind = c .before .before .before .before .before in
+    let told = kind .before in
+    let start : tie.Start = search in
+    rw (backward-by (start .pre .1 .0) (told .enum-told6 .given .1) (start .args .variables) (start .args .mark) (start .args .turns), sym (kind .loop-kind .ensures)) (c .before .before .put5 .ensures)
 
 pub backward-row-spec : {M : Type 1} → statement M
 backward-row-spec =
@@ -127,6 +133,7 @@ backward-row-spec =
     enum-told-5
     put-requires-4
     enum-told-6
+    loop-kind-requires
     put-requires-5
     same-length
     returns
