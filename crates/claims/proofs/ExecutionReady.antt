@@ -8,6 +8,7 @@ use Rattle.number.specs.Arithmetic.{Arithmetic, divides}
 use Rattle.sheet.specs.Tree.{Tree, done, one, fork, again, rows}
 use Rattle.sheet.specs.Rows.{Assignment, _≔_, Test}
 use Rattle.sheet.specs.Names.{AssignmentPresent, Present, AssignmentFeasible, Feasible}
+use Rattle.table.specs.TableRows.{turnWord}
 use Rattle.machine.specs.Actions.{Attempt, through, Stop, evaluated}
 use Rattle.machine.proofs.AttemptLaws.{Ready, gives, ready-then, stops}
 use Rattle.run.proofs.RowsReady.{evaluated-ready, compared-ready}
@@ -40,7 +41,7 @@ module _ (A : Arithmetic) (constants : List ℕ) (v : ℕ) where
       (ready-then (cond (way .0) (executed A constants a (suc p) now) (executed A constants b (suc (suc p + rows a)) now)) _
       (either (way .0) (executed-ready a (suc p) now n (named .1) (can .0)) (executed-ready b (suc (suc p + rows a)) now n (named .2) (can .1)))
       (λ m e.
-      executed-ready k (suc (suc (suc p + rows a) + rows b)) (turned A (way .0) m) (size (way .0) m e) (named .3) (can .2)))
+      executed-ready k (suc (suc (suc p + rows a) + rows b)) (turned A (turnWord (way .0)) m) (size (way .0) m e) (named .3) (can .2)))
     where
       either : (first : Bool) {x y : Attempt (Stop A) (Progress A)} → Ready x → Ready y → Ready (cond first x y)
       either true x y = x

@@ -2,9 +2,9 @@
 use Prim.Native.Nat.{ℕ, zero, suc, _+_, _≤_, _<_}
 use mathlib.Core.Path.{_≡_, refl, sym, ap, subst, _∙_}
 use mathlib.Core.Bool.{Bool, true, false, cond}
-use mathlib.Core.List.{List, _∷_, _++_, map}
+use mathlib.Core.List.{List, _∷_, _++_}
 use mathlib.Core.Option.{Option, none, some}
-use lib.ListN.{length, length-map, getD}
+use lib.ListN.{length, getD}
 use native.Mathlib.Nat.{suc-mul}
 use native.Mathlib.Omega.{arith}
 use borrow.Author.Tests.{lt-ltb}
@@ -41,7 +41,7 @@ in-turn part stuck memory rest next after e h = rw e refl
 -- the machine's memory: these originals, what stands behind them, and what an execution has saved so far
 abbrev pub memoryWith : (A : Arithmetic) → (saved : ℕ → Assignment → Bool) → (copied originals beyond : List (A .Carrier)) → Progress A → Memory A
 memoryWith A saved copied originals beyond now =
-    record { store = originals ++ beyond; values = savedValues A saved (now .trace); turns = map turnWord (now .turns); copied = copied }
+    record { store = originals ++ beyond; values = savedValues A saved (now .trace); turns = now .turns; copied = copied }
 
 module _ (known : ℕ → Assignment → Activity) (saved : ℕ → Assignment → Bool) where
   abbrev pub marking : ℕ → Assignment → Marked
@@ -120,7 +120,7 @@ module _ (known : ℕ → Assignment → Activity) (saved : ℕ → Assignment �
           → d < setting .variables → SourcePresent (setting .variables) k source
           → savedValues A saved (record { row = record { index = p }; assignment = d ≔ source; before = now .store } ∷ now .trace) ≡ values
           → tableRun A setting (put (record { index = p }) itself (assign (d ≔ source)) rest)
-          (record { store = now .store ++ tail; values = values; turns = map turnWord (now .turns); copied = copied })
+          (record { store = now .store ++ tail; values = values; turns = now .turns; copied = copied })
           ≡ (performed A (setting .constants) p (d ≔ source) now >>= λ m. tableRun A setting rest (memory m))
       unfolding tableRun acted performed
       assigned rest p d source now values n h q e =
@@ -128,7 +128,7 @@ module _ (known : ℕ → Assignment → Activity) (saved : ℕ → Assignment �
           (by-value (evaluated A (setting .constants) source (now .store)))
         where
           before : Memory A
-          before = record { store = now .store ++ tail; values = values; turns = map turnWord (now .turns); copied = copied }
+          before = record { store = now .store ++ tail; values = values; turns = now .turns; copied = copied }
 
           by-value : (m : Attempt (A .Why) (A .Carrier))
               → (stoppingAt A (ofRow (record { index = p }) itself) (m >>= λ x. stored A before d x) >>= λ next. tableRun A setting rest next)
@@ -148,7 +148,7 @@ module _ (known : ℕ → Assignment → Activity) (saved : ℕ → Assignment �
           (record {
             store = now .store ++ tail;
             values = getD (now .store) d (A .zero) ∷ savedValues A saved (now .trace);
-            turns = map turnWord (now .turns);
+            turns = now .turns;
             copied = copied;
           })
       unfolding tableRun acted
@@ -176,11 +176,10 @@ module _ (known : ℕ → Assignment → Activity) (saved : ℕ → Assignment �
 
       -- the turn saved at a branch's end
       turn-saved : (rest : Table) (row : RowNumber) (first : Bool) (now : Progress A) → length (now .turns) < setting .turnRoom
-          → tableRun A setting (put row turning (saveTurn first) rest) (memory now) ≡ tableRun A setting rest (memory (turned A first now))
+          → tableRun A setting (put row turning (saveTurn first) rest) (memory now) ≡ tableRun A setting rest (memory (turned A (turnWord first) now))
       unfolding tableRun acted
       turn-saved rest r first now room =
-          let enough : length (map turnWord (now .turns)) < setting .turnRoom = omega (arith, length-map (now .turns) turnWord) in
-          rw (lt-ltb (length (map turnWord (now .turns))) (setting .turnRoom) enough)
+          rw (lt-ltb (length (now .turns)) (setting .turnRoom) room)
 
       -- a branch with its turn saved
       branch-executes : (t : Tree Assignment Test) (at : ℕ) (r : RowNumber) (first : Bool) (now : Progress A)
@@ -188,7 +187,7 @@ module _ (known : ℕ → Assignment → Activity) (saved : ℕ → Assignment �
           → tableRun A setting (forwardPart (body t at) (put r turning (saveTurn first) done)) (memory now)
           ≡ (executed A (setting .constants) t at now >>= λ m. tableRun A setting (put r turning (saveTurn first) done) (memory m))
           → tableRun A setting (forwardPart (body t at) (put r turning (saveTurn first) done)) (memory now)
-          ≡ (executed A (setting .constants) t at now >>= λ m. through (memory (turned A first m)))
+          ≡ (executed A (setting .constants) t at now >>= λ m. through (memory (turned A (turnWord first) m)))
       unfolding tableRun
       branch-executes t at r first now room e =
           e
@@ -200,18 +199,18 @@ module _ (known : ℕ → Assignment → Activity) (saved : ℕ → Assignment �
       -- by the branch that the test picks
       fork-executes : (o : Option Bool) (now : Progress A) (first second : Memory A → Attempt (Stop A) (Memory A))
           (a b : Attempt (Stop A) (Progress A)) (rest : Memory A → Attempt (Stop A) (Memory A)) (next : Progress A → Attempt (Stop A) (Progress A))
-          (after : Progress A → Attempt (Stop A) (Memory A)) → first (memory now) ≡ (a >>= λ m. through (memory (turned A true m)))
-          → second (memory now) ≡ (b >>= λ m. through (memory (turned A false m)))
-          → ((m : Progress A) → a ≡ through m → rest (memory (turned A true m)) ≡ (next (turned A true m) >>= after))
-          → ((m : Progress A) → b ≡ through m → rest (memory (turned A false m)) ≡ (next (turned A false m) >>= after))
+          (after : Progress A → Attempt (Stop A) (Memory A)) → first (memory now) ≡ (a >>= λ m. through (memory (turned A (turnWord true) m)))
+          → second (memory now) ≡ (b >>= λ m. through (memory (turned A (turnWord false) m)))
+          → ((m : Progress A) → a ≡ through m → rest (memory (turned A (turnWord true) m)) ≡ (next (turned A (turnWord true) m) >>= after))
+          → ((m : Progress A) → b ≡ through m → rest (memory (turned A (turnWord false) m)) ≡ (next (turned A (turnWord false) m) >>= after))
           → (present {Why = Stop A} (verdictOn A (memory now) o)
           >>= λ verdict. cond (verdict .first) (first (verdict .memory)) (second (verdict .memory)) >>= rest)
-          ≡ (present o >>= (λ way. cond way a b >>= λ m. next (turned A way m)) >>= after)
+          ≡ (present o >>= (λ way. cond way a b >>= λ m. next (turned A (turnWord way) m)) >>= after)
       fork-executes none now first second a b rest next after e f g h = refl
       fork-executes (some true) now first second a b rest next after e f g h =
-          in-turn (first (memory now)) a (λ m. memory (turned A true m)) rest _ after e g
+          in-turn (first (memory now)) a (λ m. memory (turned A (turnWord true) m)) rest _ after e g
       fork-executes (some false) now first second a b rest next after e f g h =
-          in-turn (second (memory now)) b (λ m. memory (turned A false m)) rest _ after f h
+          in-turn (second (memory now)) b (λ m. memory (turned A (turnWord false) m)) rest _ after f h
 
       -- The forward part executes the sheet: it comes to where the execution comes to, or stops where it stops.
       pub forward-executes : (t : Tree Assignment Test) (p : ℕ) (now : Progress A) (rest : Table) → Present (setting .variables) k t
@@ -245,12 +244,12 @@ module _ (known : ℕ → Assignment → Activity) (saved : ℕ → Assignment �
           (λ m e.
           let went = runs A (setting .constants) a (suc p) now m e in
           let grew = grown (setting .constants) went in
-          forward-executes kk (suc (suc split + rows b)) (turned A true m) rest (named .3) (runs-keep A (setting .constants) went ∙ n)
+          forward-executes kk (suc (suc split + rows b)) (turned A (turnWord true) m) rest (named .3) (runs-keep A (setting .constants) went ∙ n)
           (omega (arith, grew .values, room .0), omega (arith, grew .turns, room .1)))
           (λ m e.
           let went = runs A (setting .constants) b (suc split) now m e in
           let grew = grown (setting .constants) went in
-          forward-executes kk (suc (suc split + rows b)) (turned A false m) rest (named .3) (runs-keep A (setting .constants) went ∙ n)
+          forward-executes kk (suc (suc split + rows b)) (turned A (turnWord false) m) rest (named .3) (runs-keep A (setting .constants) went ∙ n)
           (omega (arith, grew .values, room .0), omega (arith, grew .turns, room .1))))
       forward-executes (again zero a kk) p now rest named n room =
           in-turn _ (executed A (setting .constants) a (suc p) now) memory _ _ _

@@ -15,6 +15,7 @@ use Rattle.sets.specs.VariableSets.{_⊆_}
 use Rattle.sets.specs.Transfers.{variedAfter, usefulBefore}
 use Rattle.sets.specs.Marks.{Sets, numbered, markBy, activityAt}
 use Rattle.sets.proofs.EquationsAlong.{ForwardAlong, BackwardAlong}
+use Rattle.table.specs.TableRows.{turnWord}
 use Rattle.table.specs.Adjoint.{Body}
 use Rattle.machine.specs.Actions.{through, compared}
 use Rattle.tangent.specs.Tangent.{tangentRows, rowsOver}
@@ -123,7 +124,7 @@ module _ (constants : List ℕ) (sets : Sets) (v : ℕ) (first : ℕ → ℕ) wh
       let here = carried first (present .1) (varies .1) (uses .1) split refl (suc place) now (into-tree a (suc p) s now (varies .1) (uses .1) inside) in
       let out = move split after m (here .next) (in-left (sets .varied) split (suc split + rows b) after (varies .4))
       (in-same (sets .useful) after split (uses .2)) (here .there) in
-      let turn = turned residues true m in
+      let turn = turned residues (turnWord true) m in
       let on = carried rest (present .3) (varies .5) (uses .5) q (end ∙ omega arith) afterPlace (here .next)
       (into-tree k after turn (here .next) (varies .5) (uses .5) (record { sized = out .sized; values = out .values; agrees = out .agrees })) in
       let picks : compared residues f (now .values) ≡ some true = ap (compared residues f) (w .values) ∙ test in
@@ -138,7 +139,7 @@ module _ (constants : List ℕ) (sets : Sets) (v : ℕ) (first : ℕ → ℕ) wh
       (into-tree b (suc split) s now (varies .3) (uses .3) inside) in
       let out = move (suc split + rows b) after m (here .next) (in-right (sets .varied) split (suc split + rows b) after (varies .4))
       (in-same (sets .useful) after (suc split + rows b) (uses .4)) (here .there) in
-      let turn = turned residues false m in
+      let turn = turned residues (turnWord false) m in
       let on = carried rest (present .3) (varies .5) (uses .5) q (end ∙ omega arith) afterPlace (here .next)
       (into-tree k after turn (here .next) (varies .5) (uses .5) (record { sized = out .sized; values = out .values; agrees = out .agrees })) in
       let picks : compared residues f (now .values) ≡ some false = ap (compared residues f) (w .values) ∙ test in

@@ -136,7 +136,7 @@ D-demand-three : DemandThree residues sheetD (setsOf sheetD) (5 ∷ 2 ∷ []) (1
 unfolding sheetD markedBy required valuesNeeded turnsNeeded
 D-demand-three = demand-three residues wordsD sheetD (setsOf sheetD) D-accepted (D-fits .calculable) (5 ∷ 2 ∷ []) (1 ∷ 0 ∷ []) refl 0 1 (omega arith) (omega arith)
 
-D-turns : ended (execution residues sheetD (5 ∷ 2 ∷ [])) .turns ≡ true ∷ []
+D-turns : ended (execution residues sheetD (5 ∷ 2 ∷ [])) .turns ≡ 1 ∷ []
 unfolding ended sheetD execution
 D-turns = refl
 

@@ -15,7 +15,7 @@ use Rattle.sets.specs.Transfers.{Activity, requiredAfter}
 use Rattle.sets.specs.Marks.{numbered}
 use Rattle.sets.proofs.VariableSetLaws.{union-left, union-right}
 use Rattle.sets.proofs.EquationsAlong.{ForwardAlong}
-use Rattle.table.specs.TableRows.{Table, onTurn}
+use Rattle.table.specs.TableRows.{Table, onTurn, turnWord}
 use Rattle.table.specs.Adjoint.{backwardPart}
 use Rattle.machine.specs.Actions.{Memory, Setting, Stop}
 use Rattle.machine.specs.InTheLarge.{tableRun, tableLog}
@@ -135,13 +135,13 @@ module _ (known : ℕ → Assignment → Activity) (saved : ℕ → Assignment �
               (opened ∙ ap (λ y. noting A log (inTurn A y (account A setting rest))) ran′ ∙ ap (noting A log) (nothing-more A earlier _))
 
     opens-left : (a b rest : Table) (others next : List (A .Carrier)) (m : Progress A)
-        → account A setting (fork onTurn a b rest) (memory others next (turned A true m))
+        → account A setting (fork onTurn a b rest) (memory others next (turned A (turnWord true) m))
         ≡ inTurn A (account A setting a (memory others next m)) (account A setting rest)
     unfolding tableRun tableLog
     opens-left a b rest others next m = refl
 
     opens-right : (a b rest : Table) (others next : List (A .Carrier)) (m : Progress A)
-        → account A setting (fork onTurn a b rest) (memory others next (turned A false m))
+        → account A setting (fork onTurn a b rest) (memory others next (turned A (turnWord false) m))
         ≡ inTurn A (account A setting b (memory others next m)) (account A setting rest)
     unfolding tableRun tableLog
     opens-right a b rest others next m = refl
@@ -173,7 +173,7 @@ module _ (known : ℕ → Assignment → Activity) (saved : ℕ → Assignment �
           let split : ℕ = suc p + rows a in
           let end : ℕ = suc split + rows b in
           let opening = fork onTurn (back a (suc p) done) (back b (suc split) done) rest in
-          around (fork g a b kk) a kk p (suc p) (suc end) s m (turned A true m) e originals adjoints rest opening refl refl
+          around (fork g a b kk) a kk p (suc p) (suc end) s m (turned A (turnWord true) m) e originals adjoints rest opening refl refl
           (λ others next. opens-left (back a (suc p) done) (back b (suc split) done) rest others next m)
           (λ i w. enough-covers a (suc p) (h .1) i (rw (h .0) w))
           (λ others next then. retraces f (named .1) n (h .1) others next
@@ -183,7 +183,7 @@ module _ (known : ℕ → Assignment → Activity) (saved : ℕ → Assignment �
           let split : ℕ = suc p + rows a in
           let end : ℕ = suc split + rows b in
           let opening = fork onTurn (back a (suc p) done) (back b (suc split) done) rest in
-          around (fork g a b kk) b kk p (suc split) (suc end) s m (turned A false m) e originals adjoints rest opening refl refl
+          around (fork g a b kk) b kk p (suc split) (suc end) s m (turned A (turnWord false) m) e originals adjoints rest opening refl refl
           (λ others next. opens-right (back a (suc p) done) (back b (suc split) done) rest others next m)
           (λ i w. enough-covers b (suc split) (h .3) i (rw (h .2) w))
           (λ others next then. retraces f (named .2) n (h .3) others next

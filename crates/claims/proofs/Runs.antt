@@ -10,7 +10,7 @@ use Rattle.number.specs.Arithmetic.{Arithmetic, Outcome, over, isThere, divides
 use Rattle.sheet.specs.Tree.{Tree, done, one, fork, again, rows}
 use Rattle.sheet.specs.Rows.{Assignment, _≔_, Source, copy, fixed, sum, difference, product, negation, quotient, Test}
 use Rattle.sheet.specs.Names.{SourceFeasible}
-use Rattle.table.specs.TableRows.{ofRow, itself}
+use Rattle.table.specs.TableRows.{ofRow, itself, turnWord}
 use Rattle.machine.specs.Actions.{through, present, look, replaced, stoppingAt, evaluated, compared}
 use Rattle.machine.proofs.AttemptLaws.{came, is-present, same-through, was-replaced, went}
 use Rattle.claims.specs.IdealSweep.{Progress, onward, performed, turned, executed}
@@ -67,11 +67,11 @@ module _ (A : Arithmetic) where
       row : {b : Assignment} {k : Tree Assignment Test} {p : ℕ} {s m e : Progress A}
           → performed A constants p b s ≡ through m → Runs k (suc p) m e → Runs (one b k) p s e
       left : {f : Test} {a b k : Tree Assignment Test} {p : ℕ} {s m e : Progress A}
-          → compared A f (s .store) ≡ some true → Runs a (suc p) s m → Runs k (suc (suc (suc p + rows a) + rows b)) (turned A true m) e
+          → compared A f (s .store) ≡ some true → Runs a (suc p) s m → Runs k (suc (suc (suc p + rows a) + rows b)) (turned A (turnWord true) m) e
           → Runs (fork f a b k) p s e
       right : {f : Test} {a b k : Tree Assignment Test} {p : ℕ} {s m e : Progress A}
           → compared A f (s .store) ≡ some false → Runs b (suc (suc p + rows a)) s m
-          → Runs k (suc (suc (suc p + rows a) + rows b)) (turned A false m) e → Runs (fork f a b k) p s e
+          → Runs k (suc (suc (suc p + rows a) + rows b)) (turned A (turnWord false) m) e → Runs (fork f a b k) p s e
       last : {a k : Tree Assignment Test} {p : ℕ} {s m e : Progress A}
           → Runs a (suc p) s m → Runs k (suc (suc p + rows a)) m e → Runs (again zero a k) p s e
       more : {n : ℕ} {a k : Tree Assignment Test} {p : ℕ} {s m e : Progress A}
@@ -82,7 +82,7 @@ module _ (A : Arithmetic) where
         → cond first (executed A constants a (suc p) s) (executed A constants b (suc (suc p + rows a)) s) ≡ through m
         → (executed A constants a (suc p) s ≡ through m → Runs a (suc p) s m)
         → (executed A constants b (suc (suc p + rows a)) s ≡ through m → Runs b (suc (suc p + rows a)) s m)
-        → Runs k (suc (suc (suc p + rows a) + rows b)) (turned A first m) e → Runs (fork f a b k) p s e
+        → Runs k (suc (suc (suc p + rows a) + rows b)) (turned A (turnWord first) m) e → Runs (fork f a b k) p s e
     fork-runs f a b k p s m e true test went first second rest = left test (first went) rest
     fork-runs f a b k p s m e false test went first second rest = right test (second went) rest
 
@@ -98,7 +98,7 @@ module _ (A : Arithmetic) where
         let second = executed A constants b (suc (suc p + rows a)) s in
         let d = went (cond (c .0) first second) _ e (c .2) in
         fork-runs f a b k p s (d .0) e (c .0) (is-present _ _ (c .1)) (d .1) (λ q. runs a (suc p) s (d .0) q)
-        (λ q. runs b (suc (suc p + rows a)) s (d .0) q) (runs k (suc (suc (suc p + rows a) + rows b)) (turned A (c .0) (d .0)) e (d .2))
+        (λ q. runs b (suc (suc p + rows a)) s (d .0) q) (runs k (suc (suc (suc p + rows a) + rows b)) (turned A (turnWord (c .0)) (d .0)) e (d .2))
     runs (again zero a k) p s e h =
         let c = went (executed A constants a (suc p) s) _ e h in
         last (runs a (suc p) s (c .0) (c .1)) (runs k (suc (suc p + rows a)) (c .0) e (c .2))

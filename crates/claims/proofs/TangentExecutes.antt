@@ -15,6 +15,7 @@ use Rattle.sheet.specs.Sheets.{Sheet, variablesOf}
 use Rattle.sheet.proofs.Feasibility.{ReadFor}
 use Rattle.sets.specs.Transfers.{Activity}
 use Rattle.sets.specs.Marks.{Sets, numbered, markBy, markedBy}
+use Rattle.table.specs.TableRows.{turnWord}
 use Rattle.table.specs.Adjoint.{Body}
 use Rattle.machine.specs.Actions.{Attempt, through, halted, stuck, _>>=_, present, replaced, Memory, Stop, Try, evaluated, compared}
 use Rattle.machine.specs.Machine.{Step, ended}
@@ -118,10 +119,10 @@ module _ (A : Arithmetic) where
           (fork-executes (compared A f (now .values)) (plainRun A v constants (body a (suc p)) (suc row) now)
           (plainRun A v constants (body b (suc split)) (suc rowSplit) now) (plainRun A v constants (body k (suc (suc split + rows b))) after)
           (executed A constants a (suc p) before) (executed A constants b (suc split) before)
-          (λ first next. executed A constants k (suc (suc split + rows b)) (turned A first next)) end
+          (λ first next. executed A constants k (suc (suc split + rows b)) (turned A (turnWord first) next)) end
           (λ next went. carried-executes a (suc p) (suc row) now next before same went)
           (λ next went. carried-executes b (suc split) (suc rowSplit) now next before same went)
-          (λ first next between here went. carried-executes k (suc (suc split + rows b)) after next end (turned A first between) here went) e)
+          (λ first next between here went. carried-executes k (suc (suc split + rows b)) after next end (turned A (turnWord first) between) here went) e)
       carried-executes (again zero a k) p row now end before same e =
           let c = went (plainRun A v constants (body a (suc p)) (suc row) now) _ end e in
           then-executes (executed A constants a (suc p) before) (executed A constants k (suc (suc p + rows a)))

@@ -2,7 +2,7 @@
 -- Every record speaks of an answer that is handed to it, so that it can be said of the definitions and of whatever a call's contract permits.
 use Prim.Native.Nat.{ℕ, _≤_, _<_}
 use mathlib.Core.Path.{_≡_}
-use mathlib.Core.List.{List, [], _∷_, map}
+use mathlib.Core.List.{List, [], _∷_}
 use mathlib.Core.Logic.{_↔_, _≢_}
 use lib.ListN.{length, take, drop, replicate, getD}
 use mathlib.Core.Bool.{true, cond}
@@ -13,7 +13,7 @@ use Rattle.sheet.specs.Tree.{RowNumber, Tree, done, one, fork, again, basic, fl
 use Rattle.sheet.specs.Sheets.{Sheet, variablesOf}
 use Rattle.sheet.specs.Rows.{Assignment, targetOf, Test, SheetLine, isIndependent}
 use Rattle.sets.specs.Marks.{Sets, LeastSets, activityAt}
-use Rattle.table.specs.TableRows.{Table, tableWords, TableLine, Origin, ofRow, ofTurningRound, saving, save, turnRound, turnWord, linesOf}
+use Rattle.table.specs.TableRows.{Table, tableWords, TableLine, Origin, ofRow, ofTurningRound, saving, save, turnRound, linesOf}
 use Rattle.table.specs.Adjoint.{tableBy}
 use Rattle.table.specs.Sizes.{Needs, needsBy, Checked, noSizes, sizesBy, Written}
 use Rattle.machine.specs.Actions.{Memory, Setting, Stop, through}
@@ -156,7 +156,7 @@ module _ (A : Arithmetic) (sheet : Sheet) (sets : Sets) (starts seeds : List (A 
     pub there : drop (state .at .index) lines ≡ basic (record { origin = ofTurningRound; action = turnRound }) ∷ rest
     pub originals : take (variablesOf sheet) (state .memory .store) ≡ progress .store
     pub values : state .memory .values ≡ savedValues A (recordedIn sets) (progress .trace)
-    pub turns : state .memory .turns ≡ map turnWord (progress .turns)
+    pub turns : state .memory .turns ≡ progress .turns
     pub full : WithoutIf (sheet .body) → length (state .memory .values) ≡ needsBy sets sheet .values
 
   -- "replays exactly the executed assignments in reverse, every value a derivative rule reads is the value before that assignment": what

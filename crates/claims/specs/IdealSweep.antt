@@ -1,7 +1,7 @@
 -- What a run is held against: execute the sheet, then take the executed assignments in reverse, each by its own derivative rows on the
 -- values as they were just before it; and what these rows read of the originals, in the order of execution.
 use Prim.Native.Nat.{ℕ, zero, suc, _+_}
-use mathlib.Core.Bool.{Bool, cond}
+use mathlib.Core.Bool.{cond}
 use mathlib.Core.List.{List, [], _∷_, _++_}
 use lib.ListN.{drop}
 use Rattle.number.specs.Arithmetic.{Arithmetic}
@@ -10,7 +10,7 @@ use Rattle.sheet.specs.Rows.{Assignment, _≔_, Test}
 use Rattle.sheet.specs.Sheets.{Sheet}
 use Rattle.sets.specs.Transfers.{Activity}
 use Rattle.sets.specs.Marks.{Sets, activityAt}
-use Rattle.table.specs.TableRows.{ofRow, itself, Table, linesOf}
+use Rattle.table.specs.TableRows.{ofRow, itself, turnWord, Table, linesOf}
 use Rattle.table.specs.Adjoint.{derivativeRows}
 use Rattle.machine.specs.Actions.{Attempt, through, _>>=_, present, replaced, Stop, stoppingAt, evaluated, compared, halted, stuck, Setting, counting, seeded}
 use Rattle.machine.specs.Machine.{State, Step, goesOn, ended, stops, sticks, stepsOf}
@@ -26,11 +26,11 @@ module _ (A : Arithmetic) where
     pub assignment : Assignment
     pub before : List (A .Carrier)
 
-  -- the values now, the assignments executed, and the branches taken and left again, each the latest first
+  -- the values now, the assignments executed, and the words that are put away for the way back, each the latest first
   pub record Progress : Type 0 where
     pub store : List (A .Carrier)
     pub trace : List Executed
-    pub turns : List Bool
+    pub turns : List ℕ
 
   -- row p, an assignment, takes the values from `before` to `store`
   abbrev pub onward : ℕ → Assignment → Progress → List (A .Carrier) → Progress
@@ -48,8 +48,8 @@ module _ (A : Arithmetic) where
     store ← replaced (now .store) d x
     through (onward p (d ≔ source) now store)
 
-  abbrev pub turned : Bool → Progress → Progress
-  turned first now = record { store = now .store; trace = now .trace; turns = first ∷ now .turns }
+  abbrev pub turned : ℕ → Progress → Progress
+  turned word now = record { store = now .store; trace = now .trace; turns = word ∷ now .turns }
 
   unfoldable pub executed : (constants : List ℕ) → Tree Assignment Test → (row : ℕ) → Progress → Attempt (Stop A) Progress
   unfolding performed rows compared
@@ -62,7 +62,7 @@ module _ (A : Arithmetic) where
     let end = suc split + rows b
     first ← present (compared A f (now .store))
     next ← cond first (executed constants a (suc p) now) (executed constants b (suc split) now)
-    executed constants k (suc end) (turned first next)
+    executed constants k (suc end) (turned (turnWord first) next)
   executed constants (again zero a k) p now = do
     next ← executed constants a (suc p) now
     executed constants k (suc (suc p + rows a)) next
