@@ -1,6 +1,6 @@
 -- What a run is held against: execute the sheet, then take the executed assignments in reverse, each by its own derivative rows on the
 -- values as they were just before it; and what these rows read of the originals, in the order of execution.
-use Prim.Native.Nat.{ℕ, zero, suc, _+_}
+use Prim.Native.Nat.{ℕ, suc, _+_}
 use mathlib.Core.Bool.{cond}
 use mathlib.Core.List.{List, [], _∷_, _++_}
 use lib.ListN.{drop}
@@ -12,7 +12,7 @@ use Rattle.sets.specs.Transfers.{Activity}
 use Rattle.sets.specs.Marks.{Sets, activityAt}
 use Rattle.table.specs.TableRows.{ofRow, itself, turnWord, Table, linesOf}
 use Rattle.table.specs.Adjoint.{derivativeRows}
-use Rattle.machine.specs.Actions.{Attempt, through, _>>=_, present, replaced, Stop, stoppingAt, evaluated, compared, halted, stuck, Setting, counting, seeded}
+use Rattle.machine.specs.Actions.{Attempt, through, _>>=_, present, turnsThen, replaced, Stop, stoppingAt, evaluated, compared, halted, stuck, Setting, counting, seeded}
 use Rattle.machine.specs.Machine.{State, Step, goesOn, ended, stops, sticks, stepsOf}
 use Rattle.machine.specs.RowReads.{Entry, machineLog, onThrough}
 use Rattle.run.specs.Runs.{runOf}
@@ -52,7 +52,7 @@ module _ (A : Arithmetic) where
   turned word now = record { store = now .store; trace = now .trace; turns = word ∷ now .turns }
 
   unfoldable pub executed : (constants : List ℕ) → Tree Assignment Test → (row : ℕ) → Progress → Attempt (Stop A) Progress
-  unfolding performed rows compared
+  unfolding performed rows compared turnsThen
   executed constants done p now = through now
   executed constants (one b k) p now = do
     next ← performed constants p b now
@@ -63,12 +63,7 @@ module _ (A : Arithmetic) where
     first ← present (compared A f (now .store))
     next ← cond first (executed constants a (suc p) now) (executed constants b (suc split) now)
     executed constants k (suc end) (turned (turnWord first) next)
-  executed constants (again zero a k) p now = do
-    next ← executed constants a (suc p) now
-    executed constants k (suc (suc p + rows a)) next
-  executed constants (again (suc m) a k) p now = do
-    next ← executed constants a (suc p) now
-    executed constants (again m a k) p next
+  executed constants (again m a k) p now = turnsThen m (executed constants a (suc p)) (executed constants k (suc (suc p + rows a))) now
 
   -- nothing executed yet
   abbrev pub beginning : (starts : List (A .Carrier)) → Progress

@@ -1,5 +1,5 @@
 -- The written meaning of each single row of a table, over any arithmetic.
-use Prim.Native.Nat.{ℕ, _*_}
+use Prim.Native.Nat.{ℕ, zero, suc, _*_}
 use mathlib.Core.Bool.{Bool, cond}
 use mathlib.Core.List.{List, [], _∷_, _++_}
 use mathlib.Core.Option.{Option, none, some}
@@ -40,6 +40,19 @@ module _ {Why : Type 0} where
   -- onto a stack of so many places, top first: a full one is stuck
   abbrev pub pushed : {X : Type 0} → (room : ℕ) → X → List X → Attempt Why (List X)
   pushed room x stack = cond (ltb (length stack) room) (through (x ∷ stack)) stuck
+
+  -- m + 1 turns, one after the other, and then what follows
+  unfoldable pub turnsThen : {X Y : Type 0} → ℕ → (turn : X → Attempt Why X) → (rest : X → Attempt Why Y) → X → Attempt Why Y
+  turnsThen zero turn rest x = turn x >>= rest
+  turnsThen (suc m) turn rest x = turn x >>= turnsThen m turn rest
+
+  -- A loop with a test: so many turns done, at most so many still to come, the test before each. `ends n` is what is done when it ends after n turns.
+  unfoldable pub whileThen : {X Y : Type 0} → (holds : X → Option Bool) → (turn : X → Attempt Why X) → (ends : ℕ → X → Attempt Why X)
+      → (rest : X → Attempt Why Y) → (turnsDone left : ℕ) → X → Attempt Why Y
+  whileThen holds turn ends rest n zero x = ends n x >>= rest
+  whileThen holds turn ends rest n (suc left) x = do
+    more ← present (holds x)
+    cond more (turn x >>= whileThen holds turn ends rest (suc n) left) (ends n x >>= rest)
 
 module _ (A : Arithmetic) where
   -- what a run works on: the 2V + 2 variables, both stacks, top first, and the values that row 17 copies out

@@ -1,17 +1,17 @@
 -- A table's rows in the large, block by block: what the machine's steps come to, and what derivative rows then read. No demand speaks of it: the
 -- laws of claims and run go through it.
-use Prim.Native.Nat.{zero, suc}
+use Prim.Native.Nat.{ℕ, zero, suc}
 use mathlib.Core.Bool.{cond}
 use mathlib.Core.List.{List, [], _++_}
 use Rattle.number.specs.Arithmetic.{Arithmetic}
 use Rattle.sheet.specs.Tree.{done, one, fork, again}
 use Rattle.table.specs.TableRows.{Table}
-use Rattle.machine.specs.Actions.{Attempt, through, _>>=_, present, Memory, Setting, Stop, stoppingAt, acted, tested}
+use Rattle.machine.specs.Actions.{Attempt, through, _>>=_, present, turnsThen, Memory, Setting, Stop, stoppingAt, acted, tested}
 use Rattle.machine.specs.RowReads.{Entry, noted, readsOf, onThrough}
 
 module _ (A : Arithmetic) where
   unfoldable pub tableRun : Setting A → Table → Memory A → Attempt (Stop A) (Memory A)
-  unfolding acted tested
+  unfolding acted tested turnsThen
   tableRun setting done memory = through memory
   tableRun setting (one row k) memory = do
     next ← stoppingAt A (row .origin) (acted A setting (row .action) memory)
@@ -20,16 +20,16 @@ module _ (A : Arithmetic) where
     verdict ← present (tested A f memory)
     next ← cond (verdict .first) (tableRun setting a (verdict .memory)) (tableRun setting b (verdict .memory))
     tableRun setting k next
-  tableRun setting (again zero a k) memory = do
-    next ← tableRun setting a memory
-    tableRun setting k next
-  tableRun setting (again (suc m) a k) memory = do
-    next ← tableRun setting a memory
-    tableRun setting (again m a k) next
+  tableRun setting (again m a k) memory = turnsThen m (tableRun setting a) (tableRun setting k) memory
+
+  -- what m + 1 turns note, one after the other, and then what follows
+  unfoldable pub turnsLog : {W X : Type 0} → ℕ → (turn : X → Attempt W X) → (log rest : X → List (Entry A)) → X → List (Entry A)
+  turnsLog zero turn log rest x = log x ++ onThrough A (turn x) rest
+  turnsLog (suc m) turn log rest x = log x ++ onThrough A (turn x) (turnsLog m turn log rest)
 
   -- what its derivative rows read
   unfoldable pub tableLog : Setting A → Table → Memory A → List (Entry A)
-  unfolding readsOf acted tested tableRun
+  unfolding readsOf acted tested tableRun turnsLog
   tableLog setting done memory = []
   tableLog setting (one row k) memory =
       noted A (setting .variables) row memory
@@ -40,6 +40,4 @@ module _ (A : Arithmetic) where
       cond (verdict .first) (tableLog setting a (verdict .memory)) (tableLog setting b (verdict .memory))
       ++ onThrough A (cond (verdict .first) (tableRun setting a (verdict .memory)) (tableRun setting b (verdict .memory)))
       (λ next. tableLog setting k next))
-  tableLog setting (again zero a k) memory = tableLog setting a memory ++ onThrough A (tableRun setting a memory) (λ next. tableLog setting k next)
-  tableLog setting (again (suc m) a k) memory =
-      tableLog setting a memory ++ onThrough A (tableRun setting a memory) (λ next. tableLog setting (again m a k) next)
+  tableLog setting (again m a k) memory = turnsLog m (tableRun setting a) (tableLog setting a) (tableLog setting k) memory

@@ -7,7 +7,7 @@ use mathlib.Core.Option.{Option, none, some}
 use Rattle.number.specs.Arithmetic.{Arithmetic}
 use Rattle.sheet.specs.Tree.{done, one, fork, again, rows, RowNumber}
 use Rattle.table.specs.TableRows.{Table}
-use Rattle.machine.specs.Actions.{Attempt, through, halted, stuck, _>>=_, present, Memory, Setting, Stop, stoppingAt, Verdict, acted, tested}
+use Rattle.machine.specs.Actions.{Attempt, through, halted, stuck, _>>=_, present, turnsThen, Memory, Setting, Stop, stoppingAt, Verdict, acted, tested}
 use Rattle.machine.specs.InTheLarge.{tableRun}
 
 module _ (A : Arithmetic) where
@@ -26,7 +26,7 @@ module _ (A : Arithmetic) where
 
   -- a tree that begins at this row
   unfoldable pub tableRunAt : Setting A → Table → (row : ℕ) → Memory A → ResultAt
-  unfolding acted tested rows
+  unfolding acted tested rows turnsThen
   tableRunAt setting done p memory = through memory
   tableRunAt setting (one row k) p memory = do
     next ← inRow p (stoppingAt A (row .origin) (acted A setting (row .action) memory))
@@ -37,12 +37,8 @@ module _ (A : Arithmetic) where
     verdict ← present (tested A f memory)
     next ← cond (verdict .first) (tableRunAt setting a (suc p) (verdict .memory)) (tableRunAt setting b (suc split) (verdict .memory))
     tableRunAt setting k (suc end) next
-  tableRunAt setting (again zero a k) p memory = do
-    next ← tableRunAt setting a (suc p) memory
-    tableRunAt setting k (suc (suc p + rows a)) next
-  tableRunAt setting (again (suc m) a k) p memory = do
-    next ← tableRunAt setting a (suc p) memory
-    tableRunAt setting (again m a k) p next
+  tableRunAt setting (again m a k) p memory =
+      turnsThen m (tableRunAt setting a (suc p)) (tableRunAt setting k (suc (suc p + rows a))) memory
 
   -- ---- without the number
 
