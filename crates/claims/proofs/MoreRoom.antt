@@ -48,6 +48,7 @@ module _ (A : Arithmetic) where
         seeds = setting .seeds;
         valueRoom = valueRoom;
         turnRoom = turnRoom;
+        keepsCounts = setting .keepsCounts;
       }
 
   module _ (setting : Setting A) (values turns : ℕ) (moreValues : setting .valueRoom ≤ values) (moreTurns : setting .turnRoom ≤ turns) where

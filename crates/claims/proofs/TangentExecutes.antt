@@ -20,9 +20,9 @@ use Rattle.table.specs.Adjoint.{Body}
 use Rattle.machine.specs.Actions.{Attempt, through, halted, stuck, _>>=_, present, replaced, Memory, Stop, Try, evaluated, compared}
 use Rattle.machine.specs.Machine.{Step, ended}
 use Rattle.machine.proofs.AttemptLaws.{went, same-through, was-replaced}
-use Rattle.run.specs.Runs.{runOf, settingOf}
+use Rattle.run.specs.Runs.{runOf}
 use Rattle.tangent.specs.Tangent.{tangentBy, tangentRows, rateCount, rowsOver}
-use Rattle.tangent.specs.TangentRuns.{tangentStart}
+use Rattle.tangent.specs.TangentRuns.{tangentSetting, tangentStart}
 use Rattle.plain.specs.Plain.{Carried, StopAt, stoppingIn, rateFor, carriedOver, plainRun, plainBy}
 use Rattle.plain.proofs.WholeRunsAgree.{SameEnd, bothEnd, bothHalt, runs-agree}
 use Rattle.claims.specs.IdealSweep.{Progress, beginning, performed, turned, executed, execution}
@@ -142,7 +142,7 @@ module _ (A : Arithmetic) where
     plain-executes now e = carried-executes (sheet .constants) sets (variablesOf sheet) (sheet .body) 0 0 _ now (beginning A starts) refl e
 
     abbrev tangentRun : Step A
-    tangentRun = runOf A (tangentBy sets sheet) (settingOf A sheet rates 0 0) (tangentStart A sheet starts rates)
+    tangentRun = runOf A (tangentBy sets sheet) (tangentSetting A sheet rates) (tangentStart A sheet starts rates)
 
     pub tangent-executes : (words : List ℕ) → ReadFor (divides A) words sheet → length starts ≡ variablesOf sheet → (memory : Memory A) → tangentRun ≡ ended memory
         → Executes (execution A sheet starts) (take (variablesOf sheet) (memory .store))

@@ -19,10 +19,10 @@ use Rattle.table.specs.declared.Reply.{Reply}
 use Rattle.table.proofs.TableLength.{table-words}
 use Rattle.machine.specs.Actions.{through}
 use Rattle.machine.specs.Machine.{Step, goesOn, ended, stops, sticks, stateAfter}
-use Rattle.run.specs.Runs.{Lent, Ran, ranOf, Job, runOf, settingOf}
+use Rattle.run.specs.Runs.{Lent, Ran, ranOf, Job, runOf}
 use Rattle.run.specs.Calls.{lentAfter, ranTo, ranOn, runBy}
 use Rattle.tangent.specs.Tangent.{tangentBy, tangentRows, tangentNeedsBy}
-use Rattle.tangent.specs.TangentRuns.{tangentStart, tangentResult, tangentJobBy}
+use Rattle.tangent.specs.TangentRuns.{tangentSetting, tangentStart, tangentResult, tangentJobBy}
 use Rattle.tangent.specs.Calls.{tangentOf, writeTangent, runTangent}
 use Rattle.claims.specs.ExactlyWhen.{Runnable, whileReading, quotientHeld, tableTooSmall, StartRefused, whileWriting, valueStackTooSmall, turnStackTooSmall, startsNotV, seedsNotV, resultNot2V, givenNotFinite}
 use Rattle.claims.specs.IdealSweep.{Progress, beginning, execution}
@@ -79,7 +79,7 @@ module _ (A : Arithmetic) (words : List ℕ) (starts rates : List (A .Carrier)) 
   answer = runTangent A words starts rates lent
 
   abbrev ending : Sheet → Step A
-  ending sheet = runOf A (tangentBy (setsOf sheet) sheet) (settingOf A sheet rates 0 0) (tangentStart A sheet starts rates)
+  ending sheet = runOf A (tangentBy (setsOf sheet) sheet) (tangentSetting A sheet rates) (tangentStart A sheet starts rates)
 
   reads : (sheet : Sheet) → Ready sheet → ReadFor (divides A) words sheet
   reads sheet ready = reads-to-run A tangentNeedsBy words starts rates lent sheet ready
@@ -134,7 +134,7 @@ module _ (A : Arithmetic) (words : List ℕ) (starts rates : List (A .Carrier)) 
       stateAfter A n (job .setting) (linesOf (job .table)) (job .start) ≢ sticks
   unfolding tangentStart
   never-sticks sheet ready =
-      table-never-sticks A (tangentBy (setsOf sheet) sheet) (settingOf A sheet rates 0 0) (tangentStart A sheet starts rates .memory)
+      table-never-sticks A (tangentBy (setsOf sheet) sheet) (tangentSetting A sheet rates) (tangentStart A sheet starts rates .memory)
       (λ stuck. subst (EndsSome A) stuck (ends sheet ready))
 
   -- a finished run has executed the sheet, which keeps the number of its values

@@ -25,10 +25,10 @@ use Rattle.machine.specs.Actions.{through, counting}
 use Rattle.machine.proofs.AttemptLaws.{same-through}
 use Rattle.machine.proofs.RoleLaws.{counting-length, counting-at}
 use Rattle.machine.specs.Machine.{Step}
-use Rattle.run.specs.Runs.{Lent, Ran, runOf, settingOf}
+use Rattle.run.specs.Runs.{Lent, Ran, runOf}
 use Rattle.run.specs.Calls.{lentAfter, ranTo}
 use Rattle.tangent.specs.Tangent.{tangentBy, tangentNeedsBy}
-use Rattle.tangent.specs.TangentRuns.{startingRates, tangentStart}
+use Rattle.tangent.specs.TangentRuns.{startingRates, tangentSetting, tangentStart}
 use Rattle.tangent.specs.Calls.{runTangent}
 use Rattle.plain.specs.Plain.{plainBy, plainResult}
 use Rattle.plain.proofs.WholeRunsAgree.{SameEnd, bothEnd, bothHalt, runs-agree}
@@ -117,7 +117,7 @@ module _ (words starts rates : List ℕ) (below : AreResidues rates) (lent : Len
       by (runs-agree residues sheet starts rates words reads (setsOf sheet) (ready .lengths .startValues))
     where
       ending : Step residues
-      ending = runOf residues (tangentBy (setsOf sheet) sheet) (settingOf residues sheet rates 0 0) (tangentStart residues sheet starts rates)
+      ending = runOf residues (tangentBy (setsOf sheet) sheet) (tangentSetting residues sheet rates) (tangentStart residues sheet starts rates)
 
       by : SameEnd residues sheet ending (plainBy residues (setsOf sheet) sheet starts rates)
           → (answer .number ≡ 0) × (answer .lent .result ≡ plainResult residues sheet (goes-along .next))

@@ -70,6 +70,8 @@ module _ (A : Arithmetic) where
     pub seeds : List (A .Carrier)
     pub valueRoom : ℕ
     pub turnRoom : ℕ
+    -- whether a loop with a test puts away how many turns it did: an adjoint table's does, a tangent table's doesn't (02 §6)
+    pub keepsCounts : Bool
 
   abbrev pub Try : Type 0 → Type 0
   Try X = Attempt (A .Why) X

@@ -16,9 +16,9 @@ use Rattle.sets.specs.Rounds.{setsOf}
 use Rattle.table.specs.Sizes.{tableRoom}
 use Rattle.table.specs.Calls.{readFor}
 use Rattle.machine.specs.Machine.{Step}
-use Rattle.run.specs.Runs.{Lent, runOf, settingOf}
+use Rattle.run.specs.Runs.{Lent, runOf}
 use Rattle.run.specs.Calls.{allAdmitted, readToRun, lentAfter, ranTo, ranOn, runBy}
-use Rattle.tangent.specs.TangentRuns.{tangentStart, withoutStacks}
+use Rattle.tangent.specs.TangentRuns.{tangentSetting, tangentStart, withoutStacks}
 use Rattle.tangent.specs.Calls.{tangentOf, tangentNeedsOf, tangentJob, runTangent}
 use Rattle.plain.specs.Plain.{plainBy}
 use Rattle.plain.specs.Carries.{SameAnswer}
@@ -81,6 +81,6 @@ module _ (A : Arithmetic) (words : List ℕ) (starts rates : List (A .Carrier)) 
       by-judgement (given sheet) e =
           let is = let-through sheet e in
           rw (same-judgement room, e)
-          (ends-alike sheet (runOf A (tangentOf sheet) (settingOf A sheet rates 0 0) (tangentStart A sheet starts rates))
+          (ends-alike sheet (runOf A (tangentOf sheet) (tangentSetting A sheet rates) (tangentStart A sheet starts rates))
           (plainBy A (setsOf sheet) sheet starts rates)
           (runs-agree A sheet starts rates words (is .isRead) (setsOf sheet) (is .startsFit)))

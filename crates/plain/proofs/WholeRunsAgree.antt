@@ -17,12 +17,12 @@ use Rattle.sets.specs.Marks.{Sets, markBy, markedBy}
 use Rattle.machine.specs.Actions.{through, halted, stuck, Memory, Setting, Stop, counting}
 use Rattle.machine.specs.Machine.{State, Step, goesOn, ended, stops, sticks}
 use Rattle.machine.proofs.RoleLaws.{counting-length}
-use Rattle.run.specs.Runs.{runOf, settingOf}
+use Rattle.run.specs.Runs.{runOf}
 use Rattle.run.proofs.RowsInTheLarge.{ResultAt}
 use Rattle.run.proofs.MachineFollows.{atRow, EndsAt, run-follows-at}
 use Rattle.run.proofs.KnownNames.{BodyKnown, body-known}
 use Rattle.tangent.specs.Tangent.{tangentBy}
-use Rattle.tangent.specs.TangentRuns.{startingRates, tangentStart, tangentResult}
+use Rattle.tangent.specs.TangentRuns.{startingRates, tangentSetting, tangentStart, tangentResult}
 use Rattle.plain.specs.Plain.{Carried, plainBy, plainResult}
 use Rattle.plain.proofs.FeasibleBodies.{BodyFeasible, body-feasible}
 use Rattle.plain.proofs.CarriedStores.{Sized, storeOf}
@@ -57,7 +57,7 @@ module _ (A : Arithmetic) where
     begins = tangentStart A sheet starts rates .memory
 
     abbrev setting : Setting A
-    setting = settingOf A sheet rates 0 0
+    setting = tangentSetting A sheet rates
 
     start-is : tangentStart A sheet starts rates ≡ atRow A 0 [] (memoryOf A v begins first (A .zero) (A .zero))
     unfolding tangentStart
@@ -99,7 +99,7 @@ module _ (A : Arithmetic) where
       ran = runOf A (tangentBy sets sheet) setting (tangentStart A sheet starts rates)
 
       pub runs-agree : SameEnd sheet ran (plainBy A sets sheet starts rates)
-      unfolding settingOf tangentBy plainBy
+      unfolding tangentSetting tangentBy plainBy
       runs-agree =
           let start = memoryOf A v begins first (A .zero) (A .zero) in
           subst (λ s. SameEnd sheet (runOf A (tangentBy sets sheet) setting s) (plainBy A sets sheet starts rates)) (sym start-is)
@@ -110,7 +110,7 @@ module _ (A : Arithmetic) where
       -- ---- what that says of each
 
       pub plain-unstuck : plainBy A sets sheet starts rates ≡ stuck → ⊥
-      unfolding settingOf plainBy
+      unfolding tangentSetting plainBy
       plain-unstuck = body-unstuck A setting begins (markedBy sets sheet) 0 first body-named body-done (first-sized many)
 
       -- a step that is no end and no stop is not what the run comes to

@@ -2,6 +2,7 @@
 use Prim.Native.Nat.{ℕ, _+_, _*_, _-_}
 use mathlib.Core.Path.{_≡_, refl, sym, ap, _∙_}
 use mathlib.Core.Logic.{_⊎_, inl, inr}
+use mathlib.Core.Bool.{true}
 use mathlib.Core.List.{List, _++_}
 use native.Mathlib.Omega.{arith}
 use lib.ListN.{length, take, drop, replicate, length-append, length-drop, length-replicate, replicate-append-replicate}
@@ -202,8 +203,8 @@ module _ (A : Arithmetic) where
           result
           → answer ≡ answerAt end
           → AdjointRanTo A sheet buffer starts seeds values turns result answer (after .values) (after .turns) left
-      unfolding startOf
+      unfolding startOf settingOf
       adjoint-comes-to {end = end} laid runs written answered =
           job-comes-to A job (lentOf A buffer values turns result) end result-right
-          (table-ends A ready (adjoint-runnable (ready .words) sheet (ready .accepted)) room values turns (starts-laid laid) runs)
+          (table-ends A ready (adjoint-runnable (ready .words) sheet (ready .accepted)) room true values turns (starts-laid laid) runs)
           (record { valuesAre = runs .valuesCleared; turnsAre = runs .turnsCleared }) written answered

@@ -2,6 +2,7 @@
 use Prim.Native.Nat.{ℕ, suc, _-_, _≤_}
 use mathlib.Core.Path.{_≡_, refl, sym, ap, subst, _∙_}
 use mathlib.Core.Logic.{_⊎_}
+use mathlib.Core.Bool.{Bool}
 use mathlib.Core.List.{List, []}
 use native.Mathlib.Omega.{arith}
 use lib.ListN.{length, replicate, length-replicate}
@@ -18,7 +19,7 @@ use Rattle.machine.specs.inner.RunsRows.{firstState, Handed, RunsRows}
 use Rattle.machine.specs.declared.Ran.{Ran}
 use Rattle.machine.specs.declared.Ended.{Ended}
 use Rattle.machine.specs.declared.Ended.the-variants as ended-as
-use Rattle.run.specs.Runs.{Lent, Job, settingOf, runOf, ranOf}
+use Rattle.run.specs.Runs.{Lent, Job, settingKeeping, runOf, ranOf}
 use Rattle.run.specs.Calls.{lentAfter, ranTo}
 use Rattle.run.specs.inner.TableRuns.{enoughSteps, EndsLike, cleared, RunsTable}
 use Rattle.run.specs.inner.CallSteps.{answerAt, resultAt}
@@ -41,8 +42,8 @@ empty-stack zero n =
 
 module _ (A : Arithmetic) where
   -- cleared stacks under the setting of a sheet's run
-  both-empty : (sheet : Sheet) (seeds : List (A .Carrier)) (valueRoom turnRoom : ℕ) (store copied : List (A .Carrier))
-      → Sound A (settingOf A sheet seeds valueRoom turnRoom)
+  both-empty : (keepsCounts : Bool) (sheet : Sheet) (seeds : List (A .Carrier)) (valueRoom turnRoom : ℕ) (store copied : List (A .Carrier))
+      → Sound A (settingKeeping A keepsCounts sheet seeds valueRoom turnRoom)
       (record {
         store = store;
         values = replicate valueRoom (A .zero);
@@ -51,8 +52,8 @@ module _ (A : Arithmetic) where
         turnHeight = 0;
         copied = copied;
       })
-  unfolding settingOf
-  both-empty sheet seeds valueRoom turnRoom store copied =
+  unfolding settingKeeping
+  both-empty keepsCounts sheet seeds valueRoom turnRoom store copied =
       record {
         values = empty-stack (A .zero) valueRoom;
         turns = empty-stack 0 turnRoom;
@@ -105,14 +106,14 @@ module _ (A : Arithmetic) where
   module _ {its : Table} {sheet : Sheet} {roles constants table : List ℕ} {rows : ℕ} {beyond : List ℕ}
       (ready : Ready its sheet roles constants table rows beyond) (runnable : Runnable its)
       {starts seeds before copied result : List (A .Carrier)} (room : RunRoom A roles starts seeds before copied result)
-      (values : List (A .Carrier)) (turns : List ℕ) where
+      (keepsCounts : Bool) (values : List (A .Carrier)) (turns : List ℕ) where
     abbrev pub settingFor : Setting A
-    settingFor = settingOf A sheet seeds (length values) (length turns)
+    settingFor = settingKeeping A keepsCounts sheet seeds (length values) (length turns)
 
     -- what the runner is handed
     handed : {start : Memory A} {store : List (A .Carrier)} → Starts start before store
         → Handed A table rows beyond roles constants seeds (cleared A (cellsOf A store values turns copied)) settingFor (linesOf its) start
-    unfolding settingOf
+    unfolding settingKeeping
     handed {start} {store} from =
         record {
           holds = ready .holds;
@@ -134,7 +135,7 @@ module _ (A : Arithmetic) where
           store = from .is;
           values = from .values;
           turns = from .turns;
-          sound = both-empty sheet seeds (length values) (length turns) store (start .copied);
+          sound = both-empty keepsCounts sheet seeds (length values) (length turns) store (start .copied);
           shallow = table-shallow A settingFor its start (runnable .shallow);
         }
 

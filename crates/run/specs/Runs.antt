@@ -1,6 +1,7 @@
 -- A run: what it is lent, what it is made of and what it leaves. Which table is run, what the run starts from and what its result is are said
 -- apart from how a run goes, which is the row machine's steps in turn (machine/specs/Machine.antt).
 use Prim.Native.Nat.{ℕ, suc, _+_}
+use mathlib.Core.Bool.{Bool, true}
 use mathlib.Core.List.{List, [], _++_}
 use lib.ListN.{length, drop, replicate}
 use Rattle.number.specs.Arithmetic.{Arithmetic}
@@ -44,10 +45,9 @@ module _ (A : Arithmetic) where
   unfolding linesOf stateAfter stepsOf
   runOf table setting start = stateAfter A (suc (stepsOf table)) setting (linesOf table) start
 
-  -- ---- the run of an adjoint table
-
-  unfoldable pub settingOf : Sheet → (seeds : List (A .Carrier)) → (valueRoom turnRoom : ℕ) → Setting A
-  settingOf sheet seeds valueRoom turnRoom =
+  -- of any table that was made for the sheet
+  unfoldable pub settingKeeping : (keepsCounts : Bool) → Sheet → (seeds : List (A .Carrier)) → (valueRoom turnRoom : ℕ) → Setting A
+  settingKeeping keepsCounts sheet seeds valueRoom turnRoom =
       record {
         variables = variablesOf sheet;
         roles = sheet .roles;
@@ -55,7 +55,14 @@ module _ (A : Arithmetic) where
         seeds = seeds;
         valueRoom = valueRoom;
         turnRoom = turnRoom;
+        keepsCounts = keepsCounts;
       }
+
+  -- ---- the run of an adjoint table
+
+  unfoldable pub settingOf : Sheet → (seeds : List (A .Carrier)) → (valueRoom turnRoom : ℕ) → Setting A
+  unfolding settingKeeping
+  settingOf = settingKeeping true
 
   -- "Until then adjoints, t and u are 0."
   unfoldable pub startOf : Sheet → (starts : List (A .Carrier)) → State A

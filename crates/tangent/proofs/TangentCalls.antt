@@ -1,6 +1,7 @@
 -- The run of a tangent table: what it starts from and what its result is, its place in a call, and what the call then answers and leaves.
 use Prim.Native.Nat.{ℕ, _+_, _*_, _-_, _≤_}
 use mathlib.Core.Path.{_≡_, refl, sym, ap, _∙_}
+use mathlib.Core.Bool.{false}
 use mathlib.Core.List.{List, [], _∷_, _++_}
 use native.Mathlib.Omega.{arith}
 use lib.ListN.{length, take, drop, replicate, length-append, length-drop, length-replicate, replicate-append-replicate}
@@ -32,7 +33,7 @@ use Rattle.run.specs.inner.CallAnswers.{TableInPlace, Ready, RunRoom}
 use Rattle.run.proofs.SectionLaws.{table-in-place, place-indexed}
 use Rattle.run.proofs.CallsJudged.{roomsOf, refused-run, numbers-refuse, accepted-run}
 use Rattle.run.proofs.CallLaws.{Starts, table-ends, ResultRight, job-comes-to}
-use Rattle.tangent.specs.TangentRuns.{tangentStart, tangentResult, withoutStacks}
+use Rattle.tangent.specs.TangentRuns.{tangentSetting, tangentStart, tangentResult, withoutStacks}
 use Rattle.tangent.specs.Calls.{tangentOf, tangentNeedsOf, tangentJob, runTangent}
 use Rattle.tangent.specs.inner.TangentAnswers.{ratesFrom, TangentRanTo}
 use Rattle.tangent.proofs.TangentPlanLaws.{counts-rows, planned-few}
@@ -159,8 +160,8 @@ module _ (A : Arithmetic) where
           → left ≡ resultAt end (ratesFrom A roles (after .store)) result
           → answer ≡ answerAt end
           → TangentRanTo A sheet buffer starts rates result answer left
-      unfolding tangentStart
+      unfolding tangentSetting tangentStart
       tangent-comes-to {end = end} laid runs left answered =
           job-comes-to A job (withoutStacks A buffer result) end result-right
-          (table-ends A ready (tangent-runnable (ready .words) sheet (ready .accepted)) room [] [] (start-laid laid) runs)
+          (table-ends A ready (tangent-runnable (ready .words) sheet (ready .accepted)) room false [] [] (start-laid laid) runs)
           (record { valuesAre = refl; turnsAre = refl }) left answered

@@ -10,7 +10,7 @@ use Rattle.table.specs.Calls.{writeBy}
 use Rattle.run.specs.Runs.{Lent, Ran, Job}
 use Rattle.run.specs.Calls.{runBy}
 use Rattle.tangent.specs.Tangent.{tangentBy, tangentRows}
-use Rattle.tangent.specs.TangentRuns.{tangentStart, tangentResult, tangentJobOf}
+use Rattle.tangent.specs.TangentRuns.{tangentSetting, tangentStart, tangentResult, tangentJobOf}
 
 unfoldable pub tangentOf : Sheet → Table
 unfolding marked tangentBy
@@ -29,5 +29,5 @@ module _ (A : Arithmetic) where
   tangentJob starts rates sheet = tangentJobOf A (tangentOf sheet) sheet starts rates
 
   unfoldable pub runTangent : (words : List ℕ) → (starts rates : List (A .Carrier)) → Lent A → Ran A
-  unfolding runBy tangentOf marked tangentRows tangentStart tangentResult
+  unfolding runBy tangentOf marked tangentRows tangentSetting tangentStart tangentResult
   runTangent words starts rates lent = runBy A tangentNeedsOf (tangentJob starts rates) words starts rates lent

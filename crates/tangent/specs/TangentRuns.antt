@@ -1,5 +1,6 @@
 -- The run of a tangent table: what it starts from and what its result is (02 §1). How it goes is the row machine's steps in turn, as of any table.
 use Prim.Native.Nat.{ℕ}
+use mathlib.Core.Bool.{false}
 use mathlib.Core.List.{List, [], _∷_, _++_}
 use lib.ListN.{take, drop}
 use Rattle.number.specs.Arithmetic.{Arithmetic}
@@ -7,9 +8,9 @@ use Rattle.sheet.specs.Rows.{isIndependent, isDependent}
 use Rattle.sheet.specs.Sheets.{Sheet, variablesOf}
 use Rattle.sets.specs.Marks.{Sets}
 use Rattle.table.specs.TableRows.{Table}
-use Rattle.machine.specs.Actions.{Memory, counting}
+use Rattle.machine.specs.Actions.{Memory, Setting, counting}
 use Rattle.machine.specs.Machine.{State}
-use Rattle.run.specs.Runs.{Lent, Job, settingOf}
+use Rattle.run.specs.Runs.{Lent, Job, settingKeeping}
 use Rattle.tangent.specs.Tangent.{tangentBy}
 
 module _ (A : Arithmetic) where
@@ -36,6 +37,11 @@ module _ (A : Arithmetic) where
             };
       }
 
+  -- without stacks; "with rates as seeds", which no row reads
+  unfoldable pub tangentSetting : Sheet → (rates : List (A .Carrier)) → Setting A
+  unfolding settingKeeping
+  tangentSetting sheet rates = settingKeeping A false sheet rates 0 0
+
   -- "the result is the V values and then each dependent's rate, 0 at others"
   unfoldable pub tangentResult : Sheet → Memory A → List (A .Carrier)
   unfolding counting
@@ -43,12 +49,12 @@ module _ (A : Arithmetic) where
       let v = variablesOf sheet in
       take v (memory .store) ++ counting A isDependent (sheet .roles) (drop v (memory .store))
 
-  -- of a table that was made for the sheet, without stacks; "with rates as seeds", which no row reads
+  -- of a table that was made for the sheet
   abbrev pub tangentJobOf : Table → Sheet → (starts rates : List (A .Carrier)) → Job A
   tangentJobOf table sheet starts rates =
       record {
         table = table;
-        setting = settingOf A sheet rates 0 0;
+        setting = tangentSetting sheet rates;
         start = tangentStart sheet starts rates;
         result = tangentResult sheet;
       }
