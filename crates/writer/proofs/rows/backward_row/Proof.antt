@@ -58,10 +58,9 @@ loop-kind-requires c κs = search needs
 
 put-requires-5 : tie.Need-put-requires-5
 put-requires-5 c κs =
-    let kind = c .before .before in
-    let told = kind .before in
+    let told = c .before .before in
     let start : tie.Start = search in
-    rw (backward-by (start .pre .1 .0) (told .enum-told6 .given .1) (start .args .variables) (start .args .mark) (start .args .turns), sym (kind .loop-kind .ensures)) at (start .pre .0)
+    rw (backward-by (start .pre .1 .0) (told .enum-told6 .given .1) (start .args .variables) (start .args .mark) (start .args .turns), sym (c .loop-kind .ensures)) at (start .pre .0)
 
 same-length : tie.Need-same-length
 same-length c = search needs
@@ -113,8 +112,8 @@ same-length-6 c = search needs
 
 returns-6 : tie.Need-returns-6
 returns-6 c =
-    let kind = c .before .before .before .before .before in
-    let told = kind .before in
+    let kind : tie.After-loop-kind = search in
+    let told = kind .before .before in
     let start : tie.Start = search in
     rw (backward-by (start .pre .1 .0) (told .enum-told6 .given .1) (start .args .variables) (start .args .mark) (start .args .turns), sym (kind .loop-kind .ensures)) (c .before .before .put5 .ensures)
 
