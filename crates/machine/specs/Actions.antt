@@ -123,6 +123,18 @@ module _ (A : Arithmetic) where
     turns ← pushed room turn (memory .turns)
     through (record { store = memory .store; values = memory .values; turns = turns; copied = memory .copied })
 
+  abbrev pub withTurns : Memory → List ℕ → Memory
+  withTurns memory turns = record { store = memory .store; values = memory .values; turns = turns; copied = memory .copied }
+
+  -- "When the loop ends, its own row puts the turns done, 0 to d, on the turn stack"; "In a tangent table kind 19 puts nothing away" (02 §6)
+  abbrev pub countKept : {Why : Type 0} → Setting → (count : ℕ) → Memory → Attempt Why Memory
+  countKept setting count memory =
+      cond (setting .keepsCounts)
+      (do
+        turns ← pushed (setting .turnRoom) count (memory .turns)
+        through (withTurns memory turns))
+      (through memory)
+
   -- a take from an empty stack is stuck
   abbrev pub restored : Memory → ℕ → List (A .Carrier) → Try Memory
   restored memory d [] = stuck
