@@ -9,7 +9,7 @@ use mathlib.Core.Bool.{true, cond}
 use Rattle.number.specs.Arithmetic.{Arithmetic}
 use Rattle.number.specs.Residues.{residues}
 use Rattle.sheet.specs.Refusals.{Refusal, numberOf, placeOf}
-use Rattle.sheet.specs.Tree.{RowNumber, Tree, done, one, fork, again, basic, flat}
+use Rattle.sheet.specs.Tree.{RowNumber, times, while, Tree, done, one, fork, again, basic, flat}
 use Rattle.sheet.specs.Sheets.{Sheet, variablesOf}
 use Rattle.sheet.specs.Rows.{Assignment, targetOf, Test, SheetLine, isIndependent}
 use Rattle.sets.specs.Marks.{Sets, LeastSets, activityAt}
@@ -113,12 +113,13 @@ pub data AnswersLike (A : Arithmetic) (sheet : Sheet) (job : Job A) (ran : Ran A
 -- ---- demand 3: "For every accepted sheet, any start values and seeds, stacks of the sizes 01 computes". It speaks of the states of the row
 -- machine, whose steps are the single rows' written meanings.
 
--- a body with no "if" in it
+-- a body with no "if" in it: "without kinds 7 and 19" (02 §6)
 unfoldable pub WithoutIf : Tree Assignment Test → Type 0
 WithoutIf done = Unit {0}
 WithoutIf (one b k) = WithoutIf k
 WithoutIf (fork f a b k) = ⊥
-WithoutIf (again n a k) = WithoutIf a × WithoutIf k
+WithoutIf (again (times m) a k) = WithoutIf a × WithoutIf k
+WithoutIf (again (while f m) a k) = ⊥
 
 -- a table row of this origin that saves d comes from a recorded assignment of the sheet, whose target d is
 pub record SavesRecorded (sheet : Sheet) (sets : Sets) (origin : Origin) (d : ℕ) : Type 0 where

@@ -10,7 +10,7 @@ use lib.ListN.{length, getD, take, drop}
 use Rattle.number.specs.Arithmetic.{Arithmetic, divides}
 use Rattle.sheet.specs.Bounds.{limit}
 use Rattle.sheet.specs.Refusals.{Refusal, wordsEnd, wordsLeft, countBeyond, roleAbove, badRow, badBlock, tooLong, smallTable, smallValueStack, smallTurnStack, wrongStarts, wrongSeeds, wrongResult, notFiniteGiven, notFiniteResult, holdsQuotient}
-use Rattle.sheet.specs.Tree.{Tree, basic, ifLine, elseLine, endIf, repeat, endRepeat, RowNumber, longestRun}
+use Rattle.sheet.specs.Tree.{Loop, Tree, basic, ifLine, elseLine, endIf, repeat, endRepeat, RowNumber, longestRun}
 use Rattle.sheet.specs.Rows.{Assignment, Test, SheetLine, Row, Slot, variable, constant, turns, unused, Kind, kindOf, quotientKind, treeRows}
 use Rattle.sheet.specs.Sheets.{Sheet, variablesOf, rowAt, rowsAt}
 use Rattle.sets.specs.Marks.{Sets, LeastSets}
@@ -59,7 +59,7 @@ Fits v k constant word = word < k
 Fits v k turns word = (1 ≤ word) × (word ≤ limit .turns)
 Fits v k unused word = word ≡ 0
 
--- the line that a row says: its kind is 1 to 11 or 18, and each of its words fits its slot in the table of kinds
+-- the line that a row says: its kind is 1 to 11, 18 or 19, and each of its words fits its slot in the table of kinds
 pub record Says (variableCount constantCount : ℕ) (row : Row) (line : SheetLine) : Type 0 where
   pub kind : Kind
   pub known : kindOf (row .kind) ≡ some kind
@@ -75,13 +75,13 @@ pub data Opening : Type 0 where
   repeatBody : Opening
 
 -- "Every "if" has one "else" and one "end if"; blocks nest at most 8 deep.": which lines may stand where, and what is open after them, nearest
--- first. "else" splits an "if" that is not split yet, "end if" closes one that is, "end repeat" closes a repeat.
+-- first. "else" splits an "if" that is not split yet, "end if" closes one that is, "end repeat" closes a loop of either kind.
 pub data Takes : SheetLine → (before after : List Opening) → Type 0 where
   assigns : {b : Assignment} {outer : List Opening} → Takes (basic b) outer outer
   opensIf : {f : Test} {outer : List Opening} → length outer < limit .depth → Takes (ifLine f) outer (firstBranch ∷ outer)
   splitsIf : {outer : List Opening} → Takes elseLine (firstBranch ∷ outer) (secondBranch ∷ outer)
   closesIf : {outer : List Opening} → Takes endIf (secondBranch ∷ outer) outer
-  opensRepeat : {m : ℕ} {outer : List Opening} → length outer < limit .depth → Takes (repeat m) outer (repeatBody ∷ outer)
+  opensRepeat : {l : Loop Test} {outer : List Opening} → length outer < limit .depth → Takes (repeat l) outer (repeatBody ∷ outer)
   closesRepeat : {outer : List Opening} → Takes endRepeat (repeatBody ∷ outer) outer
 
 -- ---- reading

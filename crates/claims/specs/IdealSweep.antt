@@ -5,14 +5,14 @@ use mathlib.Core.Bool.{cond}
 use mathlib.Core.List.{List, [], _∷_, _++_}
 use lib.ListN.{drop}
 use Rattle.number.specs.Arithmetic.{Arithmetic}
-use Rattle.sheet.specs.Tree.{Tree, done, one, fork, again, rows, RowNumber}
+use Rattle.sheet.specs.Tree.{times, while, Tree, done, one, fork, again, rows, RowNumber}
 use Rattle.sheet.specs.Rows.{Assignment, _≔_, Test}
 use Rattle.sheet.specs.Sheets.{Sheet}
 use Rattle.sets.specs.Transfers.{Activity}
 use Rattle.sets.specs.Marks.{Sets, activityAt}
 use Rattle.table.specs.TableRows.{ofRow, itself, turnWord, Table, linesOf}
 use Rattle.table.specs.Adjoint.{derivativeRows}
-use Rattle.machine.specs.Actions.{Attempt, through, _>>=_, present, turnsThen, replaced, Stop, stoppingAt, evaluated, compared, halted, stuck, Setting, counting, seeded}
+use Rattle.machine.specs.Actions.{Attempt, through, _>>=_, present, turnsThen, whileThen, replaced, Stop, stoppingAt, evaluated, compared, halted, stuck, Setting, counting, seeded}
 use Rattle.machine.specs.Machine.{State, Step, goesOn, ended, stops, sticks, stepsOf}
 use Rattle.machine.specs.RowReads.{Entry, machineLog, onThrough}
 use Rattle.run.specs.Runs.{runOf}
@@ -52,7 +52,7 @@ module _ (A : Arithmetic) where
   turned word now = record { store = now .store; trace = now .trace; turns = word ∷ now .turns }
 
   unfoldable pub executed : (constants : List ℕ) → Tree Assignment Test → (row : ℕ) → Progress → Attempt (Stop A) Progress
-  unfolding performed rows compared turnsThen
+  unfolding performed rows compared turnsThen whileThen
   executed constants done p now = through now
   executed constants (one b k) p now = do
     next ← performed constants p b now
@@ -63,7 +63,11 @@ module _ (A : Arithmetic) where
     first ← present (compared A f (now .store))
     next ← cond first (executed constants a (suc p) now) (executed constants b (suc split) now)
     executed constants k (suc end) (turned (turnWord first) next)
-  executed constants (again m a k) p now = turnsThen m (executed constants a (suc p)) (executed constants k (suc (suc p + rows a))) now
+  executed constants (again (times m) a k) p now = turnsThen m (executed constants a (suc p)) (executed constants k (suc (suc p + rows a))) now
+  -- "The test comes before each turn"; "turns" there covers the counts (02 §6)
+  executed constants (again (while f m) a k) p now =
+      whileThen (λ now. compared A f (now .store)) (executed constants a (suc p)) (λ n now. through (turned n now))
+      (executed constants k (suc (suc p + rows a))) 0 (suc m) now
 
   -- nothing executed yet
   abbrev pub beginning : (starts : List (A .Carrier)) → Progress

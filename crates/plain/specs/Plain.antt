@@ -3,13 +3,13 @@ use Prim.Native.Nat.{ℕ, suc, _+_}
 use mathlib.Core.Bool.{cond}
 use mathlib.Core.List.{List, [], _++_}
 use Rattle.number.specs.Arithmetic.{Arithmetic, over}
-use Rattle.sheet.specs.Tree.{done, one, fork, again, RowNumber}
+use Rattle.sheet.specs.Tree.{times, while, done, one, fork, again, RowNumber}
 use Rattle.sheet.specs.Rows.{Assignment, _≔_, Source, copy, fixed, sum, difference, product, negation, quotient, isDependent}
 use Rattle.sheet.specs.Sheets.{Sheet, variablesOf}
 use Rattle.sets.specs.Transfers.{Activity}
 use Rattle.sets.specs.Marks.{Sets, markedBy}
 use Rattle.table.specs.Adjoint.{Body}
-use Rattle.machine.specs.Actions.{Attempt, through, halted, stuck, _>>=_, fromOutcome, present, turnsThen, look, replaced, Try, evaluated, counting, compared}
+use Rattle.machine.specs.Actions.{Attempt, through, halted, stuck, _>>=_, fromOutcome, present, turnsThen, whileThen, look, replaced, Try, evaluated, counting, compared}
 use Rattle.tangent.specs.Tangent.{fromVaried, rateCount, rowsOver, tangentRows}
 use Rattle.tangent.specs.TangentRuns.{startingRates}
 
@@ -101,7 +101,7 @@ module _ (A : Arithmetic) where
   module _ (variables : ℕ) (constants : List ℕ) where
     -- a body whose tangent table begins at this row
     unfoldable pub plainRun : Body → (row : ℕ) → Carried → Attempt StopAt Carried
-    unfolding carriedOver rateCount compared tangentRows turnsThen
+    unfolding carriedOver rateCount compared tangentRows turnsThen whileThen
     plainRun done row now = through now
     plainRun (one m k) row now = do
       next ← carriedOver constants (m .assignment) (m .known) row now
@@ -112,7 +112,10 @@ module _ (A : Arithmetic) where
       first ← present (compared A (f .test) (now .values))
       next ← cond first (plainRun a (suc row) now) (plainRun b (suc split) now)
       plainRun k (suc end) next
-    plainRun (again m a k) row now = turnsThen m (plainRun a (suc row)) (plainRun k (suc (suc row + tangentRows variables a))) now
+    plainRun (again (times m) a k) row now = turnsThen m (plainRun a (suc row)) (plainRun k (suc (suc row + tangentRows variables a))) now
+    plainRun (again (while f m) a k) row now =
+        whileThen (λ now. compared A (f .test) (now .values)) (plainRun a (suc row)) (λ n now. through now)
+        (plainRun k (suc (suc row + tangentRows variables a))) 0 (suc m) now
 
   -- "Starting rates are read at independents only and are 0 elsewhere"
   unfoldable pub plainBy : Sets → Sheet → (starts rates : List (A .Carrier)) → Attempt StopAt Carried

@@ -1,16 +1,30 @@
 -- A run: what it is lent, what it is made of and what it leaves. Which table is run, what the run starts from and what its result is are said
 -- apart from how a run goes, which is the row machine's steps in turn (machine/specs/Machine.antt).
-use Prim.Native.Nat.{ℕ, suc, _+_}
+use Prim.Native.Nat.{ℕ, _+_, _*_}
 use mathlib.Core.Bool.{Bool, true}
 use mathlib.Core.List.{List, [], _++_}
 use lib.ListN.{length, drop, replicate}
 use Rattle.number.specs.Arithmetic.{Arithmetic}
+use Rattle.sheet.specs.Bounds.{limit}
 use Rattle.sheet.specs.Rows.{isIndependent}
 use Rattle.sheet.specs.Sheets.{Sheet, variablesOf}
 use Rattle.table.specs.TableRows.{Table, linesOf}
+use Rattle.table.specs.RowBounds.{mostForward, mostBackward}
 use Rattle.table.specs.declared.Reply as declared
 use Rattle.machine.specs.Actions.{Memory, Setting, counting}
-use Rattle.machine.specs.Machine.{State, Step, stateAfter, stepsOf}
+use Rattle.machine.specs.Machine.{State, Step, stateAfter}
+
+-- How many steps suffice for every accepted sheet's tables. For each that W counts: forward an if block takes the "if", the save of its turn and its "else" or
+-- "end if", one more than any row has rows there; backward no more than a row has rows.
+abbrev pub mostStepsForward : ℕ
+mostStepsForward = 1 + mostForward
+
+abbrev pub mostStepsEach : ℕ
+mostStepsEach = mostStepsForward + mostBackward
+
+-- these, row 17, and the step that ends the run
+abbrev pub enoughSteps : ℕ
+enoughSteps = mostStepsEach * limit .longestRun + 2
 
 module _ (A : Arithmetic) where
   pub record Lent : Type 0 where
@@ -40,10 +54,10 @@ module _ (A : Arithmetic) where
     -- read off what the run left
     pub result : Memory A → List (A .Carrier)
 
-  -- the steps in turn, as many as suffice for the table: one more than it takes at most, for the step that ends the run
+  -- the steps in turn, as many as suffice
   unfoldable pub runOf : Table → Setting A → State A → Step A
-  unfolding linesOf stateAfter stepsOf
-  runOf table setting start = stateAfter A (suc (stepsOf table)) setting (linesOf table) start
+  unfolding linesOf stateAfter
+  runOf table setting start = stateAfter A enoughSteps setting (linesOf table) start
 
   -- of any table that was made for the sheet
   unfoldable pub settingKeeping : (keepsCounts : Bool) → Sheet → (seeds : List (A .Carrier)) → (valueRoom turnRoom : ℕ) → Setting A

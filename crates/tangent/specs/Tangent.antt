@@ -1,7 +1,7 @@
 -- The tangent table of a marked body (02 §1), and of a sheet, by its sets; and what the sheet's tangent run needs.
 use Prim.Native.Nat.{ℕ, _+_}
 use mathlib.Core.Bool.{cond}
-use Rattle.sheet.specs.Tree.{done, one, fork, again, rows, RowNumber}
+use Rattle.sheet.specs.Tree.{loopBy, done, one, fork, again, rows, RowNumber}
 use Rattle.sheet.specs.Rows.{_≔_, Source, copy, fixed, sum, difference, product, negation, quotient, Assignment}
 use Rattle.sheet.specs.Sheets.{Sheet, variablesOf}
 use Rattle.sets.specs.Transfers.{Activity}
@@ -78,7 +78,7 @@ module _ (variables : ℕ) where
   tangentTable done = done
   tangentTable (one m k) = tangentRow m (tangentTable k)
   tangentTable (fork f a b k) = fork (whether (f .test)) (tangentTable a) (tangentTable b) (tangentTable k)
-  tangentTable (again n a k) = again n (tangentTable a) (tangentTable k)
+  tangentTable (again l a k) = again (loopBy (λ f. whether (f .test)) l) (tangentTable a) (tangentTable k)
 
 -- how many rate rows the table has before an assignment: three for both terms of a product, five for a quotient's, four for its second, else one
 unfoldable pub rateCount : Source → Activity → ℕ

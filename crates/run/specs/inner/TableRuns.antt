@@ -1,31 +1,19 @@
 -- A table's run as the calls' code does it, between cleared stacks: for whatever rows, setting and start the runner is handed.
-use Prim.Native.Nat.{ℕ, _+_, _*_}
+use Prim.Native.Nat.{ℕ}
 use mathlib.Core.Path.{_≡_}
 use mathlib.Core.Logic.{_⊎_}
 use mathlib.Core.List.{List}
 use lib.ListN.{length, replicate}
 use Rattle.number.specs.Arithmetic.{Arithmetic}
-use Rattle.sheet.specs.Bounds.{limit}
 use Rattle.table.specs.TableRows.{TableLine}
-use Rattle.table.specs.RowBounds.{mostForward, mostBackward}
 use Rattle.machine.specs.Actions.{Memory, Setting}
 use Rattle.machine.specs.Machine.{State, Step, goesOn, ended, sticks, stateAfter}
 use Rattle.machine.specs.inner.Buffers.{Cells, cellsOf}
 use Rattle.machine.specs.inner.RowSteps.{StopsAt}
 use Rattle.machine.specs.inner.RunsRows.{firstState, Handed}
+use Rattle.run.specs.Runs.{enoughSteps}
 use Rattle.machine.specs.declared.Ended.{Ended}
 use Rattle.machine.specs.declared.Ended.the-variants as ended-as
-
--- for each that W counts: forward an if block takes the "if", the save of its turn and its "else" or "end if", one more than any row has rows there
-abbrev pub mostStepsForward : ℕ
-mostStepsForward = 1 + mostForward
-
-abbrev pub mostStepsEach : ℕ
-mostStepsEach = mostStepsForward + mostBackward
-
--- suffices for every accepted sheet: these for each that W counts, row 17, and the step that ends the run
-abbrev pub enoughSteps : ℕ
-enoughSteps = mostStepsEach * limit .longestRun + 2
 
 module _ (A : Arithmetic) where
   -- ---- how a run ended, by what the code answered
