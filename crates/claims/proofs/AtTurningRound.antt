@@ -17,7 +17,7 @@ use Rattle.table.specs.Sizes.{valuesNeeded}
 use Rattle.claims.specs.IdealSweep.{Progress}
 use Rattle.claims.specs.Demands.{WithoutIf}
 use Rattle.claims.specs.WholeRun.{savedValues}
-use Rattle.claims.proofs.Runs.{Runs, stay, row, left, right, last, more}
+use Rattle.claims.proofs.Runs.{Runs, stay, row, left, right, last, more, tested}
 use Rattle.claims.proofs.Forward.{body, one-more}
 
 -- ---- the lines of the forward part, and then the rest
@@ -36,9 +36,9 @@ forward-lines (one m k) rest after =
     (row-lines true (m .row) itself (assign (m .assignment)) (forwardPart k rest) (forwardPart k done) after (flat rest after)
     (forward-lines k rest after))
 forward-lines (fork f a b k) rest after = rw (forward-lines k rest after) refl
-forward-lines (again n a k) rest after = rw (forward-lines k rest after) refl
+forward-lines (again l a k) rest after = rw (forward-lines k rest after) refl
 
--- ---- without an "if" every saved row is counted exactly
+-- ---- without an "if" or a loop with a test every saved row is counted exactly
 
 module _ (known : ℕ → Assignment → Activity) (saved : ℕ → Assignment → Bool) (A : Arithmetic) (constants : List ℕ) where
   pub saved-exactly : {t : Tree Assignment Test} {p : ℕ} {s e : Progress A} → Runs A constants t p s e → WithoutIf t
@@ -52,3 +52,4 @@ module _ (known : ℕ → Assignment → Activity) (saved : ℕ → Assignment �
   saved-exactly (last f r) none = omega (arith, saved-exactly f (none .0), saved-exactly r (none .1))
   saved-exactly (more {n = n} {a = a} {p = p} f r) none =
       omega (arith, suc-mul (suc n) (valuesNeeded (body known saved a (suc p))), saved-exactly f (none .0), saved-exactly r none)
+  saved-exactly (tested loop r) none = absurd none

@@ -5,12 +5,12 @@ use mathlib.Core.Bool.{Bool, true, false, cond}
 use mathlib.Core.List.{List, []}
 use lib.ListN.{length}
 use Rattle.number.specs.Arithmetic.{Arithmetic, divides}
-use Rattle.sheet.specs.Tree.{Tree, done, one, fork, again, rows}
+use Rattle.sheet.specs.Tree.{times, while, Tree, done, one, fork, again, rows}
 use Rattle.sheet.specs.Rows.{Assignment, _≔_, Test}
 use Rattle.sheet.specs.Names.{AssignmentPresent, Present, AssignmentFeasible, Feasible}
 use Rattle.table.specs.TableRows.{turnWord}
-use Rattle.machine.specs.Actions.{Attempt, through, Stop, evaluated}
-use Rattle.machine.proofs.AttemptLaws.{Ready, gives, ready-then, stops}
+use Rattle.machine.specs.Actions.{Attempt, through, Stop, evaluated, compared}
+use Rattle.machine.proofs.AttemptLaws.{Ready, gives, ready-then, loop-ready, stops}
 use Rattle.run.proofs.RowsReady.{evaluated-ready, compared-ready}
 use Rattle.run.proofs.Originals.{replaced-alone}
 use Rattle.claims.specs.IdealSweep.{Progress, performed, turned, executed}
@@ -52,9 +52,15 @@ module _ (A : Arithmetic) (constants : List ℕ) (v : ℕ) where
           → length (m .store) ≡ v
       size true m e = runs-keep A constants (runs A constants a (suc p) now m e) ∙ n
       size false m e = runs-keep A constants (runs A constants b (suc (suc p + rows a)) now m e) ∙ n
-  executed-ready (again zero a k) p now n named can =
+  executed-ready (again (times zero) a k) p now n named can =
       ready-then (executed A constants a (suc p) now) _ (executed-ready a (suc p) now n (named .0) (can .0))
       (λ m e. executed-ready k (suc (suc p + rows a)) m (runs-keep A constants (runs A constants a (suc p) now m e) ∙ n) (named .1) (can .1))
-  executed-ready (again (suc c) a k) p now n named can =
+  executed-ready (again (times (suc c)) a k) p now n named can =
       ready-then (executed A constants a (suc p) now) _ (executed-ready a (suc p) now n (named .0) (can .0))
-      (λ m e. executed-ready (again c a k) p m (runs-keep A constants (runs A constants a (suc p) now m e) ∙ n) named can)
+      (λ m e. executed-ready (again (times c) a k) p m (runs-keep A constants (runs A constants a (suc p) now m e) ∙ n) named can)
+  executed-ready (again (while f c) a k) p now n named can =
+      loop-ready (λ x. compared A f (x .store)) (executed A constants a (suc p)) (λ count x. through (turned A count x))
+      (executed A constants k (suc (suc p + rows a))) (λ x. length (x .store) ≡ v) (λ x known. compared-ready A constants v f (x .store) known (named .2))
+      (λ x known. executed-ready a (suc p) x known (named .0) (can .0))
+      (λ x m known e. runs-keep A constants (runs A constants a (suc p) x m e) ∙ known)
+      (λ count x known. executed-ready k (suc (suc p + rows a)) (turned A count x) known (named .1) (can .1)) 0 (suc c) now n

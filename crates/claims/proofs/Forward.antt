@@ -1,5 +1,5 @@
 -- The forward part of a table, for any choice of saved rows: it executes the sheet, and its stacks hold what was saved.
-use Prim.Native.Nat.{ℕ, zero, suc, _+_, _≤_, _<_}
+use Prim.Native.Nat.{ℕ, zero, suc, _+_, _*_, _≤_, _<_}
 use mathlib.Core.Path.{_≡_, refl, sym, ap, subst, _∙_}
 use mathlib.Core.Bool.{Bool, true, false, cond}
 use mathlib.Core.List.{List, _∷_, _++_}
@@ -9,7 +9,7 @@ use native.Mathlib.Nat.{suc-mul}
 use native.Mathlib.Omega.{arith}
 use borrow.Author.Tests.{lt-ltb}
 use Rattle.number.specs.Arithmetic.{Arithmetic}
-use Rattle.sheet.specs.Tree.{Tree, done, one, fork, again, rows, RowNumber}
+use Rattle.sheet.specs.Tree.{times, while, Tree, done, one, fork, again, rows, RowNumber}
 use Rattle.sheet.specs.Rows.{Assignment, _≔_, Source, Test}
 use Rattle.sheet.specs.Names.{SourcePresent, AssignmentPresent, Present}
 use Rattle.sets.specs.Transfers.{Activity}
@@ -17,24 +17,14 @@ use Rattle.sets.specs.Marks.{Marked, MarkedTest, numbered}
 use Rattle.table.specs.TableRows.{Table, ofRow, itself, turning, saving, assign, save, saveTurn, turnWord}
 use Rattle.table.specs.Adjoint.{put, putIf, forwardRow, forwardPart}
 use Rattle.table.specs.Sizes.{valuesNeeded, turnsNeeded}
-use Rattle.machine.specs.Actions.{Attempt, through, halted, stuck, _>>=_, present, replaced, Memory, Setting, Stop, stoppingAt, evaluated, acted, compared, verdictOn, stored}
+use Rattle.machine.specs.Actions.{Attempt, through, halted, stuck, _>>=_, present, replaced, Memory, Setting, countKept, Stop, stoppingAt, evaluated, acted, compared, verdictOn, stored}
 use Rattle.machine.specs.InTheLarge.{tableRun}
-use Rattle.machine.proofs.AttemptLaws.{bind-assoc, bind-same}
+use Rattle.machine.proofs.AttemptLaws.{bind-assoc, bind-same, in-turn, loops-in-step}
 use Rattle.claims.specs.IdealSweep.{Progress, onward, performed, turned, executed}
 use Rattle.claims.specs.WholeRun.{onto, savedValues}
-use Rattle.claims.proofs.Runs.{was-performed, Runs, stay, row, left, right, last, more, runs}
+use Rattle.claims.proofs.Runs.{was-performed, Runs, stay, row, left, right, last, more, tested, Rounds, spent, fails, turns, runs}
 use Rattle.claims.proofs.RunsKeepSizes.{performed-keeps, runs-keep}
 use Rattle.run.proofs.Originals.{evaluated-originals, compared-originals, replaced-original, replaced-alone, looked-up}
-
--- ---- attempts in turn
-
--- a part that comes to where an execution comes to, and then what follows
-in-turn : {W P M Z : Type 0} (part : Attempt W M) (run : Attempt W P) (memory : P → M) (rest : M → Attempt W Z) (next : P → Attempt W P)
-    (after : P → Attempt W Z) → part ≡ (run >>= λ m. through (memory m)) → ((m : P) → run ≡ through m → rest (memory m) ≡ (next m >>= after))
-    → (part >>= rest) ≡ (run >>= next >>= after)
-in-turn part (through m) memory rest next after e h = rw e (h m refl)
-in-turn part (halted why) memory rest next after e h = rw e refl
-in-turn part stuck memory rest next after e h = rw e refl
 
 -- ---- the marks of a choice of saved rows
 
@@ -58,9 +48,10 @@ module _ (known : ℕ → Assignment → Activity) (saved : ℕ → Assignment �
       onto-length true x xs = omega arith
       onto-length false x xs = omega arith
 
-      pub record Grown (t : Tree Assignment Test) (p : ℕ) (s e : Progress A) : Type 0 where
-        pub values : length (savedValues A saved (e .trace)) ≤ length (savedValues A saved (s .trace)) + valuesNeeded (body t p)
-        pub turns : length (e .turns) ≤ length (s .turns) + turnsNeeded (body t p)
+      -- at most so many more on each stack
+      pub record Grown (moreValues moreTurns : ℕ) (s e : Progress A) : Type 0 where
+        pub values : length (savedValues A saved (e .trace)) ≤ length (savedValues A saved (s .trace)) + moreValues
+        pub turns : length (e .turns) ≤ length (s .turns) + moreTurns
 
       -- one assignment
       pub record OneMore (p : ℕ) (b : Assignment) (s m : Progress A) : Type 0 where
@@ -77,44 +68,68 @@ module _ (known : ℕ → Assignment → Activity) (saved : ℕ → Assignment �
             turns = refl;
           })
 
-      pub grown : {t : Tree Assignment Test} {p : ℕ} {s e : Progress A} → Runs A constants t p s e → Grown t p s e
-      unfolding numbered valuesNeeded turnsNeeded
-      grown stay = record { values = omega arith; turns = omega arith }
-      grown (row {b = b} {p = p} {s = s} {m = m} h r) =
-          let one = one-more p b s m h in
-          let rest = grown r in
-          record { values = omega (arith, one .values, rest .values); turns = omega (arith, ap length (one .turns), rest .turns) }
-      grown (left h f r) =
-          let first = grown f in
-          let rest = grown r in
-          record { values = omega arith; turns = omega arith }
-      grown (right h f r) =
-          let second = grown f in
-          let rest = grown r in
-          record { values = omega arith; turns = omega arith }
-      grown (last f r) =
-          let turn = grown f in
-          let rest = grown r in
-          record { values = omega arith; turns = omega arith }
-      grown (more {n = n} {a = a} {p = p} f r) =
-          let turn = grown f in
-          let rest = grown r in
-          record {
-            values = omega (arith, suc-mul (suc n) (valuesNeeded (body a (suc p))));
-            turns = omega (arith, suc-mul (suc n) (turnsNeeded (body a (suc p))));
-          }
+      mutual
+        unfolding numbered valuesNeeded turnsNeeded
+        pub grown : {t : Tree Assignment Test} {p : ℕ} {s e : Progress A} → Runs A constants t p s e
+            → Grown (valuesNeeded (body t p)) (turnsNeeded (body t p)) s e
+        grown stay = record { values = omega arith; turns = omega arith }
+        grown (row {b = b} {p = p} {s = s} {m = m} h r) =
+            let one = one-more p b s m h in
+            let rest = grown r in
+            record { values = omega (arith, one .values, rest .values); turns = omega (arith, ap length (one .turns), rest .turns) }
+        grown (left h f r) =
+            let first = grown f in
+            let rest = grown r in
+            record { values = omega arith; turns = omega arith }
+        grown (right h f r) =
+            let second = grown f in
+            let rest = grown r in
+            record { values = omega arith; turns = omega arith }
+        grown (last f r) =
+            let turn = grown f in
+            let rest = grown r in
+            record { values = omega arith; turns = omega arith }
+        grown (more {n = n} {a = a} {p = p} f r) =
+            let turn = grown f in
+            let rest = grown r in
+            record {
+              values = omega (arith, suc-mul (suc n) (valuesNeeded (body a (suc p))));
+              turns = omega (arith, suc-mul (suc n) (turnsNeeded (body a (suc p))));
+            }
+        grown (tested loop r) =
+            let looped = rounds-grown loop in
+            let rest = grown r in
+            record { values = omega arith; turns = omega arith }
+
+        -- so many turns of a body
+        rounds-grown : {f : Test} {a : Tree Assignment Test} {p most n : ℕ} {s e : Progress A} → Rounds A constants f a p most s n e
+            → Grown (most * valuesNeeded (body a (suc p))) (most * turnsNeeded (body a (suc p))) s e
+        rounds-grown spent = record { values = omega arith; turns = omega arith }
+        rounds-grown (fails test) = record { values = omega arith; turns = omega arith }
+        rounds-grown (turns {a = a} {p = p} {most = most} test f later) =
+            let turn = grown f in
+            let rest = rounds-grown later in
+            record {
+              values = omega (arith, suc-mul most (valuesNeeded (body a (suc p))));
+              turns = omega (arith, suc-mul most (turnsNeeded (body a (suc p))));
+            }
 
     -- ---- the forward part
 
-    module _ (setting : Setting A) (k : ℕ) (tail copied : List (A .Carrier)) where
+    module _ (setting : Setting A) (k : ℕ) (tail copied : List (A .Carrier)) (keeps : setting .keepsCounts ≡ true) where
       -- where the forward part has come so far
       abbrev memory : Progress A → Memory A
       memory now = memoryWith A saved copied (now .store) tail now
 
       -- room on both stacks for what is still to come
-      abbrev RoomLeft : Progress A → (values turns : ℕ) → Type 0
-      RoomLeft now values turns =
-          (length (savedValues A saved (now .trace)) + values ≤ setting .valueRoom) × (length (now .turns) + turns ≤ setting .turnRoom)
+      abbrev RoomLeft : Progress A → (moreValues moreTurns : ℕ) → Type 0
+      RoomLeft now moreValues moreTurns =
+          (length (savedValues A saved (now .trace)) + moreValues ≤ setting .valueRoom) × (length (now .turns) + moreTurns ≤ setting .turnRoom)
+
+      -- what is known before each turn of a loop with a test
+      record BeforeTurn (moreValues moreTurns : ℕ) (now : Progress A) : Type 0 where
+        size : length (now .store) ≡ setting .variables
+        room : RoomLeft now moreValues moreTurns
 
       assigned : (rest : Table) (p d : ℕ) (source : Source) (now : Progress A) (values : List (A .Carrier)) → length (now .store) ≡ setting .variables
           → d < setting .variables → SourcePresent (setting .variables) k source
@@ -212,6 +227,11 @@ module _ (known : ℕ → Assignment → Activity) (saved : ℕ → Assignment �
       fork-executes (some false) now first second a b rest next after e f g h =
           in-turn (second (memory now)) b (λ m. memory (turned A (turnWord false) m)) rest _ after f h
 
+      -- the count that a loop with a test puts away when it ends
+      count-kept : (count : ℕ) (now : Progress A) → length (now .turns) < setting .turnRoom
+          → countKept A {Why = Stop A} setting count (memory now) ≡ through (memory (turned A count now))
+      count-kept count now room = rw (keeps, lt-ltb (length (now .turns)) (setting .turnRoom) room)
+
       -- The forward part executes the sheet: it comes to where the execution comes to, or stops where it stops.
       pub forward-executes : (t : Tree Assignment Test) (p : ℕ) (now : Progress A) (rest : Table) → Present (setting .variables) k t
           → length (now .store) ≡ setting .variables → RoomLeft now (valuesNeeded (body t p)) (turnsNeeded (body t p))
@@ -251,7 +271,7 @@ module _ (known : ℕ → Assignment → Activity) (saved : ℕ → Assignment �
           let grew = grown (setting .constants) went in
           forward-executes kk (suc (suc split + rows b)) (turned A (turnWord false) m) rest (named .3) (runs-keep A (setting .constants) went ∙ n)
           (omega (arith, grew .values, room .0), omega (arith, grew .turns, room .1))))
-      forward-executes (again zero a kk) p now rest named n room =
+      forward-executes (again (times zero) a kk) p now rest named n room =
           in-turn _ (executed A (setting .constants) a (suc p) now) memory _ _ _
           (forward-executes a (suc p) now done (named .0) n (omega (arith, room .0), omega (arith, room .1)))
           (λ m e.
@@ -259,13 +279,38 @@ module _ (known : ℕ → Assignment → Activity) (saved : ℕ → Assignment �
           let grew = grown (setting .constants) went in
           forward-executes kk (suc (suc p + rows a)) m rest (named .1) (runs-keep A (setting .constants) went ∙ n)
           (omega (arith, grew .values, room .0), omega (arith, grew .turns, room .1)))
-      forward-executes (again (suc m) a kk) p now rest named n room =
-          let values = suc-mul (suc m) (valuesNeeded (body a (suc p))) in
-          let turns = suc-mul (suc m) (turnsNeeded (body a (suc p))) in
-          in-turn _ (executed A (setting .constants) a (suc p) now) memory _ _ _
-          (forward-executes a (suc p) now done (named .0) n (omega (arith, values, room .0), omega (arith, turns, room .1)))
+      forward-executes (again (times (suc m)) a kk) p now rest named n room =
+          let valuesSplit = suc-mul (suc m) (valuesNeeded (body a (suc p))) in
+          let turnsSplit = suc-mul (suc m) (turnsNeeded (body a (suc p))) in
+          in-turn _ (executed A (setting .constants) a (suc p) now) memory
+          (λ x. tableRun A setting (forwardPart (body (again (times m) a kk) p) rest) x) (λ x. executed A (setting .constants) (again (times m) a kk) p x)
+          (λ x. tableRun A setting rest (memory x))
+          (forward-executes a (suc p) now done (named .0) n (omega (arith, valuesSplit, room .0), omega (arith, turnsSplit, room .1)))
           (λ x e.
           let went = runs A (setting .constants) a (suc p) now x e in
           let grew = grown (setting .constants) went in
-          forward-executes (again m a kk) p x rest named (runs-keep A (setting .constants) went ∙ n)
-          (omega (arith, values, grew .values, room .0), omega (arith, turns, grew .turns, room .1)))
+          forward-executes (again (times m) a kk) p x rest named (runs-keep A (setting .constants) went ∙ n)
+          (omega (arith, valuesSplit, grew .values, room .0), omega (arith, turnsSplit, grew .turns, room .1)))
+      forward-executes (again (while f m) a kk) p now rest named n room =
+          let end : ℕ = suc (suc p + rows a) in
+          let values : ℕ = valuesNeeded (body a (suc p)) in
+          let words : ℕ = turnsNeeded (body a (suc p)) in
+          loops-in-step memory (λ x. compared A f (x .store)) (λ x. tableRun A setting (forwardPart (body a (suc p)) done) x) (countKept A setting)
+          (λ x. tableRun A setting (forwardPart (body kk end) rest) x) (λ x. compared A f (x .store)) (executed A (setting .constants) a (suc p))
+          (λ count x. through (turned A count x)) (executed A (setting .constants) kk end) (λ x. tableRun A setting rest (memory x))
+          (λ left. BeforeTurn (left * values + valuesNeeded (body kk end)) (left * words + 1 + turnsNeeded (body kk end)))
+          (λ left x known. compared-originals A (setting .variables) k (x .store) tail (known .size) f (named .2))
+          (λ left x known.
+          forward-executes a (suc p) x done (named .0) (known .size)
+          (omega (arith, suc-mul left values, known .room .0), omega (arith, suc-mul left words, known .room .1)))
+          (λ left x m known e.
+          let went = runs A (setting .constants) a (suc p) x m e in
+          let grew = grown (setting .constants) went in
+          record {
+            size = runs-keep A (setting .constants) went ∙ known .size;
+            room = (omega (arith, suc-mul left values, grew .values, known .room .0), omega (arith, suc-mul left words, grew .turns, known .room .1));
+          })
+          (λ count left x known.
+          ap (λ o. o >>= λ x. tableRun A setting (forwardPart (body kk end) rest) x) (count-kept count x (omega (arith, known .room .1)))
+          ∙ forward-executes kk end (turned A count x) rest (named .1) (known .size) (omega (arith, known .room .0), omega (arith, known .room .1)))
+          0 (suc m) now (record { size = n; room = (omega (arith, room .0), omega (arith, room .1)) })

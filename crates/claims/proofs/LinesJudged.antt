@@ -73,7 +73,7 @@ module _ (v k : ℕ) (r : Row) (place : ℕ) where
 abbrev pub opening : Block → Opening
 opening (inFirst f outer) = firstBranch
 opening (inSecond f a outer) = secondBranch
-opening (inRepeat m outer) = repeatBody
+opening (inRepeat l outer) = repeatBody
 
 abbrev pub shape : List Block → List Opening
 shape [] = []
@@ -95,7 +95,7 @@ Effect endIf [] after = ⊥
 Effect endIf (firstBranch ∷ outer) after = ⊥
 Effect endIf (secondBranch ∷ outer) after = outer ≡ after
 Effect endIf (repeatBody ∷ outer) after = ⊥
-Effect (repeat m) outer after = (length outer < limit .depth) × (repeatBody ∷ outer ≡ after)
+Effect (repeat l) outer after = (length outer < limit .depth) × (repeatBody ∷ outer ≡ after)
 Effect endRepeat [] after = ⊥
 Effect endRepeat (firstBranch ∷ outer) after = ⊥
 Effect endRepeat (secondBranch ∷ outer) after = ⊥
@@ -120,7 +120,7 @@ same-effect endIf [] after after′ e e′ = absurd e
 same-effect endIf (firstBranch ∷ outer) after after′ e e′ = absurd e
 same-effect endIf (secondBranch ∷ outer) after after′ e e′ = cc
 same-effect endIf (repeatBody ∷ outer) after after′ e e′ = absurd e
-same-effect (repeat m) outer after after′ e e′ = cc
+same-effect (repeat l) outer after after′ e e′ = cc
 same-effect endRepeat [] after after′ e e′ = absurd e
 same-effect endRepeat (firstBranch ∷ outer) after after′ e e′ = absurd e
 same-effect endRepeat (secondBranch ∷ outer) after after′ e e′ = absurd e
@@ -162,16 +162,16 @@ take-judged (ifLine f) place blocks items = enter-judged (ifLine f) (inFirst f i
 take-judged elseLine place [] items = inr (refl, λ after t. effect t)
 take-judged elseLine place (inFirst f outer ∷ blocks) items = inl (record { progress = _; is = refl; takes = splitsIf })
 take-judged elseLine place (inSecond f a outer ∷ blocks) items = inr (refl, λ after t. effect t)
-take-judged elseLine place (inRepeat m outer ∷ blocks) items = inr (refl, λ after t. effect t)
+take-judged elseLine place (inRepeat l outer ∷ blocks) items = inr (refl, λ after t. effect t)
 take-judged endIf place [] items = inr (refl, λ after t. effect t)
 take-judged endIf place (inFirst f outer ∷ blocks) items = inr (refl, λ after t. effect t)
 take-judged endIf place (inSecond f a outer ∷ blocks) items = inl (record { progress = _; is = refl; takes = closesIf })
-take-judged endIf place (inRepeat m outer ∷ blocks) items = inr (refl, λ after t. effect t)
-take-judged (repeat m) place blocks items = enter-judged (repeat m) (inRepeat m items) place blocks opensRepeat (λ after t. effect t .0)
+take-judged endIf place (inRepeat l outer ∷ blocks) items = inr (refl, λ after t. effect t)
+take-judged (repeat l) place blocks items = enter-judged (repeat l) (inRepeat l items) place blocks opensRepeat (λ after t. effect t .0)
 take-judged endRepeat place [] items = inr (refl, λ after t. effect t)
 take-judged endRepeat place (inFirst f outer ∷ blocks) items = inr (refl, λ after t. effect t)
 take-judged endRepeat place (inSecond f a outer ∷ blocks) items = inr (refl, λ after t. effect t)
-take-judged endRepeat place (inRepeat m outer ∷ blocks) items = inl (record { progress = _; is = refl; takes = closesRepeat })
+take-judged endRepeat place (inRepeat l outer ∷ blocks) items = inl (record { progress = _; is = refl; takes = closesRepeat })
 
 pub take-refused : (line : SheetLine) (place : ℕ) (blocks : List Block) (items : List Item)
     → ((after : List Opening) → ¬ Takes line (shape blocks) after)

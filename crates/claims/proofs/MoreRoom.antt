@@ -1,19 +1,20 @@
 -- A machine that does not get stuck does the same with more room on its stacks, step by step and in the large.
-use Prim.Native.Nat.{ℕ, zero, suc, _≤_, _<_}
+use Prim.Native.Nat.{ℕ, zero, suc, _-_, _≤_, _<_}
 use mathlib.Core.Path.{_≡_, refl, ap, _∙_}
 use mathlib.Core.Bool.{Bool, true, false, cond}
 use mathlib.Core.List.{List, [], _∷_}
+use mathlib.Core.Option.{Option, none, some}
 use lib.ListN.{length, drop}
-use lib.Dec.{ltb, ltb→lt, lt→ltb}
+use lib.Dec.{leb, ltb, ltb→lt, lt→ltb}
 use native.Mathlib.Omega.{arith}
 use Rattle.number.specs.Arithmetic.{Arithmetic}
-use Rattle.sheet.specs.Tree.{done, one, fork, again, basic, ifLine, elseLine, endIf, repeat, endRepeat}
+use Rattle.sheet.specs.Tree.{times, while, done, one, fork, again, basic, ifLine, elseLine, endIf, repeat, endRepeat}
 use Rattle.sheet.specs.Rows.{_≔_}
-use Rattle.table.specs.TableRows.{Action, assign, save, takeBack, saveTurn, clear, turnRound, turnWord, TableLine, Table}
-use Rattle.machine.specs.Actions.{Attempt, through, stuck, present, look, pushed, Memory, Setting, Stop, stoppingAt, saved, turnedRound, acted, tested}
-use Rattle.machine.specs.Machine.{State, Step, goesOn, ended, stops, sticks, afterAction, stepAt, step, ifItGoesOn, stateAfter}
-use Rattle.machine.specs.InTheLarge.{tableRun}
-use Rattle.machine.proofs.AttemptLaws.{bind-unless}
+use Rattle.table.specs.TableRows.{Action, assign, save, takeBack, saveTurn, clear, turnRound, whether, onTurn, turnWord, TableLine, Table}
+use Rattle.machine.specs.Actions.{Attempt, through, stuck, present, look, pushed, Memory, Setting, withTurns, countKept, stoppingAt, saved, turnedRound, acted, compared, tested}
+use Rattle.machine.specs.Machine.{Repeat, State, Step, goesOn, ended, stops, sticks, afterAction, pending, loopEnds, asked, stepAt, step, ifItGoesOn, stateAfter}
+use Rattle.machine.specs.InTheLarge.{countThen, tableRun}
+use Rattle.machine.proofs.AttemptLaws.{bind-unless, cond-unless, turns-unless, while-unless}
 
 -- ---- the same, unless the first is a thing that means stuck
 
@@ -70,6 +71,27 @@ module _ (A : Arithmetic) where
     acted-alike (clear d) memory = λ unstuck. refl
     acted-alike turnRound memory = λ unstuck. refl
 
+    count-alike : {W : Type 0} (count : ℕ) (memory : Memory A) → Alike (countKept A {Why = W} setting count memory) (countKept A roomier count memory)
+    count-alike count memory =
+        cond-unless (setting .keepsCounts) _ _ _ _
+        (bind-unless (pushed (setting .turnRoom) count (memory .turns)) (pushed turns count (memory .turns)) _ _
+        (pushed-alike (setting .turnRoom) turns count (memory .turns) moreTurns) (λ stack unstuck. refl))
+        (λ unstuck. refl)
+
+    -- a loop with a test that ends after so many turns
+    ends-alike : (s : State A) (rest : List TableLine) (outer : List Repeat) (count : ℕ)
+        → SameUnless sticks (loopEnds A s rest outer (countKept A setting count (s .memory))) (loopEnds A s rest outer (countKept A roomier count (s .memory)))
+    ends-alike s rest outer count =
+        same-under (loopEnds A s rest outer) stuck (countKept A setting count (s .memory)) (countKept A roomier count (s .memory))
+        (count-alike count (s .memory))
+
+    asked-alike : (s : State A) (rest : List TableLine) (most left : ℕ) (outer : List Repeat) (holds : Option Bool)
+        → SameUnless sticks (asked A setting s rest most left outer holds) (asked A roomier s rest most left outer holds)
+    asked-alike s rest most zero outer holds = ends-alike s rest outer most
+    asked-alike s rest most (suc n) outer none = λ unstuck. refl
+    asked-alike s rest most (suc n) outer (some true) = λ unstuck. refl
+    asked-alike s rest most (suc n) outer (some false) = ends-alike s rest outer (most - suc n)
+
     step-at-alike : (s : State A) (here : List TableLine) → SameUnless sticks (stepAt A setting s here) (stepAt A roomier s here)
     unfolding stepAt
     step-at-alike s [] = λ unstuck. refl
@@ -80,7 +102,11 @@ module _ (A : Arithmetic) where
     step-at-alike s (ifLine f ∷ rest) = λ unstuck. refl
     step-at-alike s (elseLine ∷ rest) = λ unstuck. refl
     step-at-alike s (endIf ∷ rest) = λ unstuck. refl
-    step-at-alike s (repeat m ∷ rest) = λ unstuck. refl
+    step-at-alike s (repeat (times m) ∷ rest) = λ unstuck. refl
+    step-at-alike s (repeat (while (whether f) m) ∷ rest) =
+        let now = pending A s (suc m) (s .repeats) in
+        asked-alike s rest (suc m) (now .left) (now .outer) (compared A f (s .memory .store))
+    step-at-alike s (repeat (while onTurn m) ∷ rest) = λ unstuck. refl
     step-at-alike s (endRepeat ∷ rest) = λ unstuck. refl
 
     step-alike : (lines : List TableLine) (s : State A) → SameUnless sticks (step A setting lines s) (step A roomier lines s)
@@ -105,10 +131,15 @@ module _ (A : Arithmetic) where
         by-step sticks ih = λ unstuck′. refl
 
     -- the same in the large
-    chosen-alike : (first : Bool) (x x′ y y′ : Attempt (Stop A) (Memory A)) → Alike x x′ → Alike y y′
-        → Alike (cond first x y) (cond first x′ y′)
-    chosen-alike true x x′ y y′ same other = same
-    chosen-alike false x x′ y y′ same other = other
+    count-then-alike : {W Y : Type 0} (most : ℕ) (turn turn′ : Memory A → Attempt W (Memory A)) (rest rest′ : Memory A → Attempt W Y)
+        → ((now : Memory A) → Alike (turn now) (turn′ now)) → ((now : Memory A) → Alike (rest now) (rest′ now))
+        → (memory : Memory A) (words : List ℕ) → Alike (countThen A most turn rest memory words) (countThen A most turn′ rest′ memory words)
+    unfolding countThen
+    count-then-alike most turn turn′ rest rest′ same follows memory [] = λ unstuck. refl
+    count-then-alike most turn turn′ rest rest′ same follows memory (zero ∷ words) =
+        cond-unless (leb 0 most) _ _ _ _ (follows (withTurns A memory words)) (λ unstuck. refl)
+    count-then-alike most turn turn′ rest rest′ same follows memory (suc n ∷ words) =
+        cond-unless (leb (suc n) most) _ _ _ _ (turns-unless turn turn′ rest rest′ same follows n (withTurns A memory words)) (λ unstuck. refl)
 
     tree-alike : (t : Table) (memory : Memory A) → Alike (tableRun A setting t memory) (tableRun A roomier t memory)
     unfolding tableRun
@@ -121,11 +152,16 @@ module _ (A : Arithmetic) where
     tree-alike (fork f a b k) memory =
         bind-unless (present (tested A f memory)) (present (tested A f memory)) _ _ (λ unstuck. refl)
         (λ v. bind-unless (cond (v .first) (tableRun A setting a (v .memory)) (tableRun A setting b (v .memory))) _ _ _
-        (chosen-alike (v .first) _ _ _ _ (tree-alike a (v .memory)) (tree-alike b (v .memory))) (λ next. tree-alike k next))
-    tree-alike (again zero a k) memory =
-        bind-unless (tableRun A setting a memory) (tableRun A roomier a memory) _ _ (tree-alike a memory) (λ next. tree-alike k next)
-    tree-alike (again (suc m) a k) memory =
-        bind-unless (tableRun A setting a memory) (tableRun A roomier a memory) _ _ (tree-alike a memory) (λ next. tree-alike (again m a k) next)
+        (cond-unless (v .first) _ _ _ _ (tree-alike a (v .memory)) (tree-alike b (v .memory))) (λ next. tree-alike k next))
+    tree-alike (again (times m) a k) memory =
+        turns-unless (tableRun A setting a) (tableRun A roomier a) (tableRun A setting k) (tableRun A roomier k) (λ now. tree-alike a now)
+        (λ now. tree-alike k now) m memory
+    tree-alike (again (while (whether f) m) a k) memory =
+        while-unless (tableRun A setting a) (tableRun A roomier a) (tableRun A setting k) (tableRun A roomier k) (λ now. tree-alike a now)
+        (λ now. tree-alike k now) (λ now. compared A f (now .store)) (countKept A setting) (countKept A roomier) count-alike 0 (suc m) memory
+    tree-alike (again (while onTurn m) a k) memory =
+        count-then-alike (suc m) (tableRun A setting a) (tableRun A roomier a) (tableRun A setting k) (tableRun A roomier k) (λ now. tree-alike a now)
+        (λ now. tree-alike k now) memory (memory .turns)
 
     pub more-room-same-in-the-large : (t : Table) (memory : Memory A) → (tableRun A setting t memory ≡ stuck → ⊥)
         → tableRun A (withRooms setting values turns) t memory ≡ tableRun A setting t memory

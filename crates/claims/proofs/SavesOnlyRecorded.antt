@@ -32,7 +32,7 @@ module _ (sheet : Sheet) where
   Fine (ifLine f) = Unit {0}
   Fine elseLine = Unit {0}
   Fine endIf = Unit {0}
-  Fine (repeat n) = Unit {0}
+  Fine (repeat l) = Unit {0}
   Fine endRepeat = Unit {0}
 
   record AllFine (lines : List TableLine) : Type 0 where
@@ -98,7 +98,7 @@ module _ (sheet : Sheet) where
   backward-fine v (fork f a b k) rest after others =
       backward-fine v k _ after
       (one-line tt (backward-fine v a done _ (one-line tt (backward-fine v b done _ (one-line tt others)))))
-  backward-fine v (again n a k) rest after others =
+  backward-fine v (again l a k) rest after others =
       backward-fine v k _ after (one-line tt (backward-fine v a done _ (one-line tt others)))
 
   -- ---- the forward part saves before recorded assignments alone
@@ -144,7 +144,7 @@ module _ (sheet : Sheet) where
       one-line tt (forward-fine a (suc p) _ atA _ _
       (one-line tt (one-line tt (forward-fine b _ _ atB _ _
       (one-line tt (one-line tt (forward-fine k _ below atK rest after others)))))))
-  forward-fine (again n a k) p below there rest after others =
+  forward-fine (again l a k) p below there rest after others =
       let atA = past-line sheetLines p _ _ there in
       let atK = past-line sheetLines (suc p + rows a) endRepeat _ (past-tree sheetLines (suc p) a _ atA) in
       one-line tt (forward-fine a (suc p) _ atA done _ (one-line tt (forward-fine k _ below atK rest after others)))

@@ -1,7 +1,7 @@
 -- A block row's code as one step of the machine, over the arithmetic.
-use Prim.Native.Nat.{ℕ, zero, suc, pred, _+_, _*_, _≤_, _<_}
+use Prim.Native.Nat.{ℕ, zero, suc, pred, _+_, _*_, _-_, _≤_, _<_}
 use mathlib.Core.Path.{_≡_, refl, sym, ap, _∙_, subst}
-use mathlib.Core.Logic.{_≢_}
+use mathlib.Core.Logic.{_≢_, _⊎_, inl, inr}
 use mathlib.Core.Bool.{Bool, true, false}
 use mathlib.Core.List.{List, [], _∷_}
 use mathlib.Core.Option.{Option, none, some}
@@ -9,27 +9,30 @@ use native.Mathlib.Decide.{decLt}
 use native.Mathlib.Omega.{arith}
 use native.Mathlib.Numerals.{add-one}
 use borrow.Author.Tests.{ne-eqb}
-use lib.ListN.{length, getD, drop, drop-of-length-le}
+use lib.ListN.{length, length-set, getD, set, drop, drop-of-length-le}
 use Rattle.number.specs.Arithmetic.{Arithmetic}
 use Rattle.sheet.specs.Bounds.{limit}
-use Rattle.sheet.specs.Tree.{ifLine, elseLine, endIf, repeat, endRepeat}
-use Rattle.sheet.specs.Rows.{less, Row, rowOf}
+use Rattle.sheet.specs.Tree.{times, while, ifLine, elseLine, endIf, repeat, endRepeat}
+use Rattle.sheet.specs.Rows.{Test, less, Row, rowOf, whileKind}
 use Rattle.sheet.specs.Answers.{rowSaid}
 use Rattle.sheet.specs.Sheets.{rowAt}
 use Rattle.sheet.specs.declared.RowWords.{RowWords}
 use Rattle.sheet.specs.declared.Variable.{Variable}
-use Rattle.table.specs.TableRows.{TableTest, whether, onTurn, TableLine, tableRowOf}
-use Rattle.machine.specs.Actions.{Setting, verdictOn}
-use Rattle.machine.specs.Machine.{itsElse, itsEnd, oneMore, seek, Repeat, State, Step, step, stepAt, goTo, jump, afterTest, afterTurn}
-use Rattle.machine.specs.inner.RowAnswers.{branchOf, turnOf, heightBranched}
-use Rattle.machine.specs.inner.Buffers.{Buffers, memoryOf, Sound, Tests, Compares, TakesTurn}
+use Rattle.table.specs.TableRows.{TableTest, whether, onTurn, TableLine, rowOfTableWhile, tableRowOf}
+use Rattle.machine.specs.Actions.{through, stuck, Memory, Setting, countKept, Stop, Verdict, compared, tested, verdictOn}
+use Rattle.machine.specs.Machine.{itsElse, itsEnd, oneMore, seek, seekClose, Repeat, backTo, State, Step, step, stepAt, goTo, jump, afterTest, afterTurn, pending, loopEnds, asked, onCount}
+use Rattle.machine.specs.inner.RowAnswers.{heightAfter, branchOf, turnOf, heightBranched}
+use Rattle.machine.specs.inner.Buffers.{stackOf, Stack, Buffers, memoryOf, Sound, Tests, Compares, TakesTurn}
 use Rattle.machine.specs.inner.RowsHanded.{Indexes, Arrives, Jumps}
-use Rattle.machine.specs.inner.RowSteps.{stuckThere, Opened, Opens, Closes, JumpsTo, BranchesTo, TurnsTo, CrossedLeft, CrossedSays, BlockRow, CrossesBy}
+use Rattle.machine.specs.inner.RowSteps.{stuckThere, noteOf, Opened, Pushes, Opens, Closes, isUnderWay, turnsLeft, loopsAround, Pends, KeptAs, KeepsCount, JumpsTo, BranchesTo, TurnsTo, CrossedLeft, CrossedSays, BlockRow, CrossesBy, StepsTo, EndsLoop, AsksLoop, OnCount}
 use Rattle.machine.specs.inner.RowSteps.{buffersAt, stateAt, raised, within, moved, following, preceding, MeetsRow, MeetsCompare, Meets, Stays, Blocked}
 use Rattle.machine.specs.inner.Buffers.{Cells, cellsOf}
 use Rattle.machine.specs.declared.Place.{Place}
 use Rattle.machine.specs.declared.Branch.{Branch}
-use Rattle.machine.specs.declared.Branch.the-variants as branch
+use Rattle.machine.specs.declared.Branch.the-variants as branch-as
+use Rattle.machine.specs.declared.Moved.{Moved}
+use Rattle.machine.specs.declared.Moved.the-variants as moved-as
+use Rattle.machine.specs.declared.Pending.{Pending}
 use Rattle.machine.specs.declared.Branched.{Branched}
 use Rattle.machine.specs.declared.Branched.the-variants as branched
 use Rattle.machine.specs.declared.Crossed.{Crossed}
@@ -38,7 +41,8 @@ use Rattle.machine.specs.declared.Ended.{Ended}
 use Rattle.machine.specs.declared.Ended.the-variants as ended-as
 use Rattle.machine.specs.declared.Met.{Met}
 use Rattle.machine.specs.declared.Met.the-variants as met-as
-use Rattle.machine.proofs.LineLaws.{blockOf, block-said}
+use Rattle.machine.proofs.LineLaws.{blockOf, saidOf, SaysAll, said-all, said-count, block-said}
+use Rattle.machine.proofs.StackLaws.{stack-top, stack-below, taken-off}
 use Rattle.machine.proofs.OpenedLaws.{opened-length}
 use Rattle.machine.proofs.StraightLaws.{stands-there, words-there}
 
@@ -48,6 +52,10 @@ use Rattle.machine.proofs.StraightLaws.{stands-there, words-there}
 abbrev lowered : Place → (height : ℕ) → Place
 lowered next height = raised next (next .values) height
 
+-- the same place among the loops around a loop with a test
+abbrev amid : Place → Pending → Place
+amid next found = within next (found .depth)
+
 module _ (beyond : List ℕ) (at : ℕ) (next : Place) where
   abbrev PicksTo : (height : ℕ) → (picked : Option Bool) → Crossed → Type 0
   PicksTo height (some true) answer = answer ≡ crossed.On (lowered next height)
@@ -55,8 +63,8 @@ module _ (beyond : List ℕ) (at : ℕ) (next : Place) where
   PicksTo height none answer = answer ≡ stuckThere
 
   branch-picks : (b : Branch) (answer : Crossed) → BranchesTo beyond at next b answer → PicksTo (next .turns) (branchOf b) answer
-  branch-picks branch.First answer to = to
-  branch-picks branch.Second answer to = to
+  branch-picks branch-as.First answer to = to
+  branch-picks branch-as.Second answer to = to
 
   turn-picks : (b : Branched) (answer : Crossed) → TurnsTo beyond at next b answer → PicksTo (heightBranched b (next .turns)) (turnOf b) answer
   turn-picks (branched.First height) answer to = to
@@ -95,6 +103,20 @@ module _ {table : List ℕ} {rows variables : ℕ} (place : Place) {next : Place
       let there = rw is at meets in
       rw (sym (there .second)) (rw (sym (there .meets .said)) at (indexes .indexed .compared (place .at .0) (there .meets .within)) .second (there .kind))
 
+-- and those of a loop's test
+module _ {table : List ℕ} {rows variables : ℕ} (place : Place) {next : Place} {met : Met} {row : RowWords} (meets : Meets table rows place met)
+    (is : met ≡ met-as.Ask row next)
+    (indexes : Indexes table rows variables) where
+  pub first-asked : row .a < variables
+  first-asked =
+      let (there, kind) = rw is at meets in
+      rw (sym (there .said)) at (indexes .indexed .compared (place .at .0) (there .within)) .firstAsked kind
+
+  pub second-asked : row .b < variables
+  second-asked =
+      let (there, kind) = rw is at meets in
+      rw (sym (there .said)) at (indexes .indexed .compared (place .at .0) (there .within)) .secondAsked kind
+
 -- ---- where a jump's code goes
 
 pub jump-goes : (beyond : List ℕ) (at : ℕ) (next to : Place) → to ≡ moved next (getD beyond at 0) → JumpsTo beyond at next (crossed.On to)
@@ -120,7 +142,7 @@ module _ {A : Arithmetic} where
   turn-out state r outer is = rw is
 
   turn-back : (state : State A) (r : Repeat) (n : ℕ) (outer : List Repeat) → r .left ≡ suc n
-      → afterTurn A state (r ∷ outer) ≡ goTo A (suc (r .start .index)) (record { start = r .start; left = n } ∷ outer) (state .memory)
+      → afterTurn A state (r ∷ outer) ≡ goTo A (backTo r) (record { start = r .start; asks = r .asks; left = n } ∷ outer) (state .memory)
   turn-back state r n outer is = rw is
 
   -- what is to be shown of one line
@@ -155,7 +177,27 @@ module _ {A : Arithmetic} where
         subst (λ (r : Crossed). Crosses at next setting line rest repeats before after held bodies toCome r) (sym is)
         (record { says = (omega arith, blocked, record { opened = opened; stays = stays }) })
 
-    -- a jump over as many lines as a search finds
+    -- a jump over as many lines as a search finds, among the loops that are then open
+    jumps-among : {beyond : List ℕ} (from : Place) (open-then : List Repeat) (search-found : Option ℕ)
+        → from .left ≡ next .left
+        → Arrives (oneMore search-found) at (getD beyond at 0)
+        → JumpsTo beyond at from answer
+        → Opened (from .depth) bodies toCome open-then
+        → Sound A setting (buffersAt A from after held)
+        → (state : State A) → state .at .index ≡ at → state .repeats ≡ open-then
+        → stepAt A setting (stateAt A (preceding next at) repeats before held) (line ∷ rest)
+        ≡ jump A state (memoryOf A (buffersAt A from after held)) (oneMore search-found)
+        → Crosses at next setting line rest repeats before after held bodies toCome answer
+    jumps-among {beyond} from open-then search-found left reached jumps opened sound state there open-is found =
+        let memory = memoryOf A (buffersAt A from after held) in
+        let positive = one-more-some search-found (reached .far) (reached .finds) in
+        let arrives = reached .arrives in
+        let here : at < length beyond = listed beyond at (omega arith) in
+        goes-to (moved from (getD beyond at 0)) open-then (jumps .there here) left opened sound
+        (found ∙ ap (λ (o : Option ℕ). jump A state memory o) (reached .finds)
+        ∙ ap (λ (l : List Repeat). goTo A (state .at .index + reached .far) l memory) open-is
+        ∙ ap (λ (n : ℕ). goTo A n open-then memory) (ap (λ (n : ℕ). n + reached .far) there ∙ sym arrives))
+
     jumps-there : {beyond : List ℕ} (from : Place) (search-found : Option ℕ)
         → from .left ≡ next .left
         → Arrives (oneMore search-found) at (getD beyond at 0)
@@ -165,14 +207,8 @@ module _ {A : Arithmetic} where
         → stepAt A setting (stateAt A (preceding next at) repeats before held) (line ∷ rest)
         ≡ jump A (stateAt A (preceding next at) repeats before held) (memoryOf A (buffersAt A from after held)) (oneMore search-found)
         → Crosses at next setting line rest repeats before after held bodies toCome answer
-    jumps-there {beyond} from search-found left reached jumps opened sound found =
-        let memory = memoryOf A (buffersAt A from after held) in
-        let state = stateAt A (preceding next at) repeats before held in
-        let positive = one-more-some search-found (reached .far) (reached .finds) in
-        let arrives = reached .arrives in
-        let here : at < length beyond = listed beyond at (omega arith) in
-        goes-to (moved from (getD beyond at 0)) repeats (jumps .there here) left opened sound
-        (found ∙ ap (λ (o : Option ℕ). jump A state memory o) (reached .finds) ∙ ap (λ (n : ℕ). goTo A n repeats memory) (sym arrives))
+    jumps-there from search-found left reached jumps opened sound found =
+        jumps-among from repeats search-found left reached jumps opened sound (stateAt A (preceding next at) repeats before held) refl refl found
 
   -- kinds 7 and 15
   module _ {beyond : List ℕ} {at : ℕ} {next : Place} {setting : Setting A} {lines rest : List TableLine} {repeats : List Repeat}
@@ -215,10 +251,276 @@ module _ {A : Arithmetic} where
             })
             (same refl))
 
+  -- one loop more, unless there is no room for it
+  module _ {at : ℕ} {next : Place} {setting : Setting A} {line : TableLine} {rest : List TableLine} {repeats : List Repeat}
+      {before after : Cells A} {held : List (A .Carrier)} {bodies toCome bodiesAfter toComeAfter : List ℕ} {answer : Crossed} {body note : ℕ} where
+    pushes-room : (from : Place) (r : Repeat) (outer : List Repeat)
+        → from .left ≡ next .left → from .at .0 ≡ suc at → backTo r ≡ body → noteOf r ≡ note
+        → Pushes body note from bodies toCome bodiesAfter toComeAfter answer
+        → from .depth < limit .depth
+        → Opened (from .depth) bodies toCome outer
+        → Sound A setting (buffersAt A from after held)
+        → stepAt A setting (stateAt A (preceding next at) repeats before held) (line ∷ rest)
+        ≡ goTo A (suc at) (r ∷ outer) (memoryOf A (buffersAt A from after held))
+        → Crosses at next setting line rest repeats before after held bodiesAfter toComeAfter answer
+    pushes-room from r outer left follows back noted pushes room around sound found =
+        goes-to (within from (suc (from .depth))) (r ∷ outer) (pushes .room room) left (pushes .opened room r outer back noted around) sound
+        (found ∙ ap (λ (n : ℕ). goTo A n (r ∷ outer) (memoryOf A (buffersAt A from after held))) (sym follows))
+
+    pushes-crosses : (from : Place) (r : Repeat) (outer : List Repeat)
+        → from .left ≡ next .left → from .at .0 ≡ suc at → backTo r ≡ body → noteOf r ≡ note
+        → Pushes body note from bodies toCome bodiesAfter toComeAfter answer
+        → Opened (from .depth) bodies toCome outer
+        → Opened (next .depth) bodies toCome repeats
+        → Sound A setting (buffersAt A from after held)
+        → Stays A next before after held held
+        → stepAt A setting (stateAt A (preceding next at) repeats before held) (line ∷ rest)
+        ≡ goTo A (suc at) (r ∷ outer) (memoryOf A (buffersAt A from after held))
+        → Crosses at next setting line rest repeats before after held bodiesAfter toComeAfter answer
+    pushes-crosses from r outer left follows back noted pushes around opened sound stays found = by (decLt (from .depth) (limit .depth))
+      where
+        by : Dec (from .depth < limit .depth) → Crosses at next setting line rest repeats before after held bodiesAfter toComeAfter answer
+        by (yes room) = pushes-room from r outer left follows back noted pushes room around sound found
+        by (no full) =
+            let deep = opened-length (from .depth) bodies toCome outer around in
+            let full-up = pushes .full (omega arith) in
+            let ninth : limit .depth < length (r ∷ outer) = omega arith in
+            sticks-there (full-up .0) (subst (λ (s : Step A). Blocked A s) (sym found) ninth) (rw (full-up .1, full-up .2) opened) stays
+
+  -- ---- kind 19
+
+  pending-left : (state : State A) (most : ℕ) (repeats : List Repeat) → pending A state most repeats .left ≡ turnsLeft (state .at .index) most repeats
+  pending-left state most [] = refl
+  pending-left state most (r ∷ outer) = by (isUnderWay (state .at .index) r) refl
+    where
+      by : (b : Bool) → isUnderWay (state .at .index) r ≡ b → pending A state most (r ∷ outer) .left ≡ turnsLeft (state .at .index) most (r ∷ outer)
+      by true e = rw e
+      by false e = rw e
+
+  pending-outer : (state : State A) (most : ℕ) (repeats : List Repeat) → pending A state most repeats .outer ≡ loopsAround (state .at .index) repeats
+  pending-outer state most [] = refl
+  pending-outer state most (r ∷ outer) = by (isUnderWay (state .at .index) r) refl
+    where
+      by : (b : Bool) → isUnderWay (state .at .index) r ≡ b → pending A state most (r ∷ outer) .outer ≡ loopsAround (state .at .index) (r ∷ outer)
+      by true e = rw e
+      by false e = rw e
+
+  -- the step of the loop's row, by what the code found
+  asked-step : (branch : Branch) {most at : ℕ} (next : Place) {bodies toCome : List ℕ} {found : Pending}
+      → Pends most at (next .depth) bodies toCome found → (setting : Setting A) (rest : List TableLine) (f : Test) (m : ℕ) (repeats : List Repeat) (cells : Cells A) (held : List (A .Carrier))
+      → most ≡ suc m → compared A f (cells .store) ≡ branchOf branch → next .depth ≤ limit .depth → Opened (next .depth) bodies toCome repeats
+      → let state = stateAt A (preceding next at) repeats cells held in
+      stepAt A setting state (repeat (while (whether f) m) ∷ rest)
+      ≡ asked A setting state rest most (found .left) (loopsAround at repeats) (branchOf branch)
+  unfolding stepAt
+  asked-step branch {most} {at} next pends setting rest f m repeats cells held is test shallow opened =
+      let state = stateAt A (preceding next at) repeats cells held in
+      rw (sym is, test, pending-left state most repeats, pending-outer state most repeats, sym (pends .left repeats shallow opened))
+
+  module _ {branch : Branch} {most : ℕ} {keeps : Bool} {beyond : List ℕ} {at : ℕ} {next : Place} {turns bodies toCome : List ℕ} {found : Pending}
+      (pends : Pends most at (next .depth) bodies toCome found) where
+    -- into its body
+    pub asks-in : {bodiesAfter toComeAfter : List ℕ} {answer : Crossed} → branch ≡ branch-as.First → 0 < found .left
+        → Pushes at (found .note) (amid next found) bodies toCome bodiesAfter toComeAfter answer
+        → AsksLoop A branch most keeps beyond at next turns bodies toCome turns bodiesAfter toComeAfter answer
+    asks-in {bodiesAfter} {toComeAfter} {answer} first positive pushes =
+        record {
+          left = pushes .left;
+          asks = λ setting lines rest f m repeats store values copied held is test follows here jumps keeping opened shallow sound.
+              let cells = cellsOf A store values turns copied in
+              let loop : Repeat = record { start = record { index = at }; asks = true; left = found .left } in
+              let inside : Crosses at next setting (repeat (while (whether f) m)) rest repeats cells cells held bodiesAfter toComeAfter answer =
+              pushes-crosses (amid next found) loop (loopsAround at repeats) refl follows refl (sym (pends .noted)) pushes (pends .around repeats shallow opened) opened sound refl
+              (asked-step branch next pends setting rest f m repeats cells held is test shallow opened
+              ∙ goes-in setting (stateAt A (preceding next at) repeats cells held) rest (loopsAround at repeats) (found .left) positive) in
+              inside .says;
+        }
+      where
+        goes-in : (setting : Setting A) (state : State A) (rest : List TableLine) (outer : List Repeat) (left : ℕ) → 0 < left
+            → asked A setting state rest most left outer (branchOf branch)
+            ≡ goTo A (suc (state .at .index)) (record { start = state .at; asks = true; left = left } ∷ outer) (state .memory)
+        goes-in setting state rest outer zero h = absurd (omega arith)
+        goes-in setting state rest outer (suc n) h = rw first
+
+    -- past it
+    pub asks-out : {turnsAfter : List ℕ} {answer : Crossed} → (branch ≡ branch-as.First → found .left ≡ 0)
+        → EndsLoop A (most - found .left) keeps beyond at (amid next found) turns turnsAfter answer
+        → AsksLoop A branch most keeps beyond at next turns bodies toCome turnsAfter bodies toCome answer
+    asks-out {turnsAfter} {answer} over ends =
+        record {
+          left = ends .left;
+          asks = λ setting lines rest f m repeats store values copied held is test follows here jumps keeping opened shallow sound.
+              by-move setting lines rest f m repeats store values copied held here jumps opened shallow
+              (ends .keeping .kept setting store values (next .values) held keeping sound)
+              (asked-step branch next pends setting rest f m repeats (cellsOf A store values turns copied) held is test shallow opened
+              ∙ goes-out setting (stateAt A (preceding next at) repeats (cellsOf A store values turns copied) held) rest (loopsAround at repeats) branch over
+              (found .left) refl)
+              (ends .moved) refl .says;
+        }
+      where
+        goes-out : (setting : Setting A) (state : State A) (rest : List TableLine) (outer : List Repeat) (b : Branch) → (b ≡ branch-as.First → found .left ≡ 0)
+            → (left : ℕ) → found .left ≡ left
+            → asked A setting state rest most left outer (branchOf b)
+            ≡ loopEnds A state rest outer (countKept A setting (most - found .left) (state .memory))
+        goes-out setting state rest outer b spent zero is = let all : most - found .left ≡ most = omega arith in rw all
+        goes-out setting state rest outer branch-as.First spent (suc n) is = let none-left = spent refl in absurd (omega arith)
+        goes-out setting state rest outer branch-as.Second spent (suc n) is = rw is
+
+        by-move : (setting : Setting A) (lines rest : List TableLine) (f : Test) (m : ℕ) (repeats : List Repeat) (store values copied held : List (A .Carrier))
+            → drop at lines ≡ repeat (while (whether f) m) ∷ rest → Jumps lines beyond → Opened (next .depth) bodies toCome repeats → next .depth ≤ limit .depth
+            → KeptAs A setting (most - found .left) (buffersAt A next (cellsOf A store values turns copied) held)
+            (buffersAt A (raised next (next .values) (heightAfter (ends .moved) (next .turns))) (cellsOf A store values turnsAfter copied) held) (ends .moved)
+            → let state = stateAt A (preceding next at) repeats (cellsOf A store values turns copied) held in
+            stepAt A setting state (repeat (while (whether f) m) ∷ rest)
+            ≡ loopEnds A state rest (loopsAround at repeats) (countKept A setting (most - found .left) (state .memory))
+            → (moved : Moved) → ends .moved ≡ moved
+            → Crosses at next setting (repeat (while (whether f) m)) rest repeats (cellsOf A store values turns copied) (cellsOf A store values turnsAfter copied) held
+            bodies toCome answer
+        by-move setting lines rest f m repeats store values copied held here jumps opened shallow kept leads (moved-as.To height) is =
+            let after = cellsOf A store values turnsAfter copied in
+            let to = raised (amid next found) (next .values) height in
+            let state = stateAt A (preceding next at) repeats (cellsOf A store values turns copied) held in
+            let memory = memoryOf A (buffersAt A to after held) in
+            let through-there : countKept A {Why = Stop A} setting (most - found .left) (state .memory) ≡ through memory = sym (rw is at (kept .meaning)) in
+            jumps-among to (loopsAround at repeats) (seekClose 0 rest) refl (jumps .fromRepeat at _ rest here) (ends .goes height is)
+            (pends .around repeats shallow opened) (rw is at (kept .sound))
+            (record { at = record { index = at }; repeats = loopsAround at repeats; memory = memory }) refl refl
+            (leads ∙ ap (loopEnds A state rest (loopsAround at repeats)) through-there)
+        by-move setting lines rest f m repeats store values copied held here jumps opened shallow kept leads moved-as.Stuck is =
+            let state = stateAt A (preceding next at) repeats (cellsOf A store values turns copied) held in
+            let stuck-there : countKept A {Why = Stop A} setting (most - found .left) (state .memory) ≡ stuck = sym (rw is at (kept .meaning)) in
+            sticks-there (ends .sticks is)
+            (subst (λ (s : Step A). Blocked A s) (sym (leads ∙ ap (loopEnds A state rest (loopsAround at repeats)) stuck-there)) tt) opened
+            (rw is at (kept .unchanged is))
+
+  -- the end of such a loop, by what became of its count
+  module _ {count : ℕ} {keeps : Bool} {beyond : List ℕ} {at : ℕ} {next : Place} {turns turnsAfter : List ℕ} {moved : Moved} {answer : Crossed}
+      (keeping : KeepsCount A count keeps turns (next .turns) turnsAfter moved) where
+    pub ends-past : {to : Place} (height : ℕ) → moved ≡ moved-as.To height → to ≡ raised next (next .values) height → JumpsTo beyond at to answer
+        → EndsLoop A count keeps beyond at next turns turnsAfter answer
+    ends-past {to} height is there jumps =
+        record {
+          left = rw there at (jumps .left);
+          moved = moved;
+          keeping = keeping;
+          goes = λ other same.
+              let heights : height ≡ other = cc in
+              subst (λ h. JumpsTo beyond at (raised next (next .values) h) answer) heights (subst (λ p. JumpsTo beyond at p answer) there jumps);
+          sticks = λ stuck-there. let z : _≡_ {A = ℕ} 0 1 = cc in absurd (omega arith);
+        }
+
+    pub ends-stuck : moved ≡ moved-as.Stuck → answer ≡ stuckThere → EndsLoop A count keeps beyond at next turns turnsAfter answer
+    ends-stuck is sticks-so =
+        record {
+          left = rw sticks-so tt;
+          moved = moved;
+          keeping = keeping;
+          goes = λ height same. let z : _≡_ {A = ℕ} 0 1 = cc in absurd (omega arith);
+          sticks = λ _. sticks-so;
+        }
+
+  -- ---- kind 20
+
+  -- the buffers with the count taken
+  count-taken : (next : Place) (turns : List ℕ) (top : ℕ) → next .turns ≡ suc top → (setting : Setting A) (store values copied held : List (A .Carrier))
+      → Sound A setting (buffersAt A next (cellsOf A store values turns copied) held)
+      → Sound A setting (buffersAt A (lowered next top) (cellsOf A store values (set turns top 0) copied) held)
+  count-taken next turns top is setting store values copied held sound =
+      let high = subst (λ h. Stack 0 h turns) is (sound .turns) in
+      record {
+        values = sound .values;
+        turns = taken-off 0 top turns high;
+        valueRoom = sound .valueRoom;
+        turnRoom = rw length-set (sound .turnRoom);
+      }
+
+  -- what the step makes of it
+  count-step : (at : ℕ) (next : Place) (turns : List ℕ) (top : ℕ) → next .turns ≡ suc top → top < length turns → (setting : Setting A) (rest : List TableLine) (m : ℕ) (repeats : List Repeat) (store values copied held : List (A .Carrier))
+      → let state = stateAt A (preceding next at) repeats (cellsOf A store values turns copied) held in
+      stepAt A setting state (repeat (while onTurn m) ∷ rest) ≡ onCount A state rest (getD turns top 0 ∷ stackOf top (set turns top 0))
+  unfolding stepAt
+  count-step at next turns top is there setting rest m repeats store values copied held = rw (is, stack-top top turns 0 there, stack-below top turns 0)
+
+  module _ {beyond : List ℕ} {at : ℕ} {next : Place} {turns bodies toCome : List ℕ} where
+    pub counts-none : (next .turns ≡ 0) ⊎ (length turns < next .turns)
+        → OnCount A beyond at next turns bodies toCome turns bodies toCome stuckThere
+    unfolding stepAt
+    counts-none nothing =
+        record {
+          left = tt;
+          takes = λ setting lines rest m repeats store values copied held follows here jumps opened shallow sound.
+              let empty : next .turns ≡ 0 = is-empty nothing (sound .turns .within) in
+              let cells = cellsOf A store values turns copied in
+              let there : Crosses at next setting (repeat (while onTurn m)) rest repeats cells cells held bodies toCome stuckThere =
+              sticks-there refl (rw empty tt) opened refl in
+              there .says;
+        }
+      where
+        is-empty : (next .turns ≡ 0) ⊎ (length turns < next .turns) → next .turns ≤ length turns → next .turns ≡ 0
+        is-empty (inl is) high = is
+        is-empty (inr above) high = absurd (omega arith)
+
+    module _ (top : ℕ) (is : next .turns ≡ suc top) (there : top < length turns) where
+      pub counts-past : {answer : Crossed} → getD turns top 0 ≡ 0 → JumpsTo beyond at (lowered next top) answer
+          → OnCount A beyond at next turns bodies toCome (set turns top 0) bodies toCome answer
+      counts-past {answer} zero-there jumping =
+          record {
+            left = jumping .left;
+            takes = λ setting lines rest m repeats store values copied held follows here jumps opened shallow sound.
+                let after = cellsOf A store values (set turns top 0) copied in
+                let state = stateAt A (preceding next at) repeats (cellsOf A store values turns copied) held in
+                let past : Crosses at next setting (repeat (while onTurn m)) rest repeats (cellsOf A store values turns copied) after held bodies toCome answer =
+                jumps-among (lowered next top) repeats (seekClose 0 rest) refl (jumps .fromRepeat at _ rest here) jumping opened
+                (count-taken next turns top is setting store values copied held sound)
+                (record { at = record { index = at }; repeats = repeats; memory = memoryOf A (buffersAt A (lowered next top) after held) }) refl refl
+                (count-step at next turns top is there setting rest m repeats store values copied held
+                ∙ ap (λ (c : ℕ). onCount A state rest (c ∷ stackOf top (set turns top 0))) zero-there) in
+                past .says;
+          }
+
+      pub counts-full : getD turns top 0 ≢ 0 → limit .depth ≤ next .depth → OnCount A beyond at next turns bodies toCome turns bodies toCome stuckThere
+      counts-full not-zero full =
+          record {
+            left = tt;
+            takes = λ setting lines rest m repeats store values copied held follows here jumps opened shallow sound.
+                let state = stateAt A (preceding next at) repeats (cellsOf A store values turns copied) held in
+                let deep = opened-length (next .depth) bodies toCome repeats opened in
+                let cells = cellsOf A store values turns copied in
+                let blocked : Crosses at next setting (repeat (while onTurn m)) rest repeats cells cells held bodies toCome stuckThere =
+                sticks-there refl
+                (subst (λ (s : Step A). Blocked A s) (sym (count-step at next turns top is there setting rest m repeats store values copied held))
+                (ninth state rest (getD turns top 0) (stackOf top (set turns top 0)) not-zero (omega arith)))
+                opened refl in
+                blocked .says;
+          }
+        where
+          ninth : (state : State A) (rest : List TableLine) (c : ℕ) (below : List ℕ) → c ≢ 0 → limit .depth ≤ length (state .repeats)
+              → Blocked A (onCount A state rest (c ∷ below))
+          ninth state rest zero below not-zero deep = absurd (not-zero refl)
+          ninth state rest (suc n) below not-zero deep = omega arith
+
+      pub counts-in : {bodiesAfter toComeAfter : List ℕ} {answer : Crossed} (n : ℕ) → getD turns top 0 ≡ suc n → next .depth < limit .depth
+          → Opens (getD turns top 0) (lowered next top) bodies toCome bodiesAfter toComeAfter answer
+          → OnCount A beyond at next turns bodies toCome (set turns top 0) bodiesAfter toComeAfter answer
+      counts-in {bodiesAfter} {toComeAfter} {answer} n count room opens =
+          record {
+            left = opens .left;
+            takes = λ setting lines rest m repeats store values copied held follows here jumps opened shallow sound.
+                let state = stateAt A (preceding next at) repeats (cellsOf A store values turns copied) held in
+                let loop : Repeat = record { start = record { index = at }; asks = false; left = n } in
+                let inside : Crosses at next setting (repeat (while onTurn m)) rest repeats (cellsOf A store values turns copied)
+                (cellsOf A store values (set turns top 0) copied) held bodiesAfter toComeAfter answer =
+                pushes-room (lowered next top) loop repeats refl follows (sym follows) (omega arith) (opens .opens n count) room opened
+                (count-taken next turns top is setting store values copied held sound)
+                (count-step at next turns top is there setting rest m repeats store values copied held
+                ∙ ap (λ (c : ℕ). onCount A state rest (c ∷ stackOf top (set turns top 0))) count) in
+                inside .says;
+          }
+
   -- ---- the line that a row's words say
 
   module _ {beyond : List ℕ} {at : ℕ} {next : Place} {row : Row} {turns bodies toCome : List ℕ} where
-    crosses-as : (line : TableLine) {turnsAfter bodiesAfter toComeAfter : List ℕ} {answer : Crossed} → blockOf row ≡ some line
+    crosses-as : (line : TableLine) {turnsAfter bodiesAfter toComeAfter : List ℕ} {answer : Crossed} → blockOf row ≡ some line → SaysAll line
         → CrossedLeft (suc (next .left)) answer
         → ((setting : Setting A) (lines rest : List TableLine) (repeats : List Repeat) (store values copied held : List (A .Carrier))
         → tableRowOf line ≡ row
@@ -231,15 +533,15 @@ module _ {A : Arithmetic} where
         → Crosses at next setting line rest repeats (cellsOf A store values turns copied) (cellsOf A store values turnsAfter copied) held
         bodiesAfter toComeAfter answer)
         → CrossesBy A row beyond at next turns bodies toCome turnsAfter bodiesAfter toComeAfter answer
-    crosses-as line {turnsAfter} {bodiesAfter} {toComeAfter} {answer} said left crosses =
+    crosses-as line {turnsAfter} {bodiesAfter} {toComeAfter} {answer} said all left crosses =
         record {
           left = left;
-          crosses = λ setting lines rest other repeats store values copied held words not-if follows here jumps none-straight opened shallow sound.
-              let told : some line ≡ some other =
+          crosses = λ setting lines rest other repeats store values copied held words not-if not-while follows here jumps none-straight opened shallow sound.
+              let told : some line ≡ some (saidOf other) =
               sym said
               ∙ ap blockOf (sym words)
               ∙ block-said other (λ basic-row is. none-straight basic-row rest (here ∙ ap (λ (l : TableLine). l ∷ rest) is)) in
-              let same : line ≡ other = cc in
+              let same : line ≡ other = said-all line other all cc in
               subst
               (λ (l : TableLine). Crosses at next setting l rest repeats (cellsOf A store values turns copied)
               (cellsOf A store values turnsAfter copied) held bodiesAfter toComeAfter answer)
@@ -253,14 +555,14 @@ module _ {A : Arithmetic} where
         → CrossesBy A row beyond at next turns bodies toCome turns bodies toCome answer
     unfolding blockOf stepAt
     else-crosses kind to =
-        crosses-as elseLine (rw kind) (to .left)
+        crosses-as elseLine (rw kind) tt (to .left)
         (λ setting lines rest repeats store values copied held words follows here jumps opened shallow sound.
         jumps-there next (seek itsEnd 0 rest) refl (jumps .fromElse at rest here) to opened sound refl)
 
     pub end-if-crosses : row .kind ≡ 9 → CrossesBy A row beyond at next turns bodies toCome turns bodies toCome (crossed.On next)
     unfolding blockOf stepAt
     end-if-crosses kind =
-        crosses-as endIf (rw kind) refl
+        crosses-as endIf (rw kind) tt refl
         (λ setting lines rest repeats store values copied held words follows here jumps opened shallow sound.
         goes-to next repeats refl refl opened sound
         (ap (λ (n : ℕ). goTo A n repeats (memoryOf A (buffersAt A next (cellsOf A store values turns copied) held))) (sym follows)))
@@ -270,33 +572,19 @@ module _ {A : Arithmetic} where
         → CrossesBy A row beyond at next turns bodies toCome turns bodiesAfter toComeAfter answer
     unfolding blockOf stepAt tableRowOf rowOf
     repeat-crosses {bodiesAfter} {toComeAfter} {answer} kind opens =
-        crosses-as (repeat (pred (row .a))) (rw kind) (opens .left)
+        let m = pred (row .a) in
+        crosses-as (repeat (times m)) (rw kind) tt (opens .left)
         (λ setting lines rest repeats store values copied held words follows here jumps opened shallow sound.
-        by-room (sym (ap (λ (r : Row). r .a) words)) follows opened sound (decLt (next .depth) (limit .depth)))
-      where
-        by-room : {setting : Setting A} {rest : List TableLine} {repeats : List Repeat} {cells : Cells A} {held : List (A .Carrier)}
-            → row .a ≡ suc (pred (row .a))
-            → next .at .0 ≡ suc at
-            → Opened (next .depth) bodies toCome repeats
-            → Sound A setting (buffersAt A next cells held)
-            → Dec (next .depth < limit .depth)
-            → Crosses at next setting (repeat (pred (row .a))) rest repeats cells cells held bodiesAfter toComeAfter answer
-        by-room {setting} {rest} {repeats} {cells} {held} count follows opened sound (yes room) =
-            let m = pred (row .a) in
-            goes-to (within next (suc (next .depth))) (record { start = record { index = at }; left = m } ∷ repeats) (opens .room room m count) refl
-            (opens .opened room m at repeats count follows opened) sound
-            (ap (λ (n : ℕ). goTo A n (record { start = record { index = at }; left = m } ∷ repeats) (memoryOf A (buffersAt A next cells held))) (sym follows))
-        by-room {setting} {rest} {repeats} {cells} {held} count follows opened sound (no full) =
-            let deep = opened-length (next .depth) bodies toCome repeats opened in
-            let full-up = opens .full (omega arith) in
-            sticks-there (full-up .0) (omega arith) (rw (full-up .1, full-up .2) opened) refl
+        let count = sym (ap (λ (r : Row). r .a) words) in
+        let loop : Repeat = record { start = record { index = at }; asks = false; left = m } in
+        pushes-crosses next loop repeats refl follows (sym follows) (omega arith) (opens .opens m count) opened opened sound refl refl)
 
     pub end-repeat-crosses : {bodiesAfter toComeAfter : List ℕ} {answer : Crossed} → row .kind ≡ 11
         → Closes next bodies toCome bodiesAfter toComeAfter answer
         → CrossesBy A row beyond at next turns bodies toCome turns bodiesAfter toComeAfter answer
     unfolding blockOf stepAt
     end-repeat-crosses {bodiesAfter} {toComeAfter} {answer} kind closes =
-        crosses-as endRepeat (rw kind) (closes .left)
+        crosses-as endRepeat (rw kind) tt (closes .left)
         (λ setting lines rest repeats store values copied held words follows here jumps opened shallow sound.
         by-repeats repeats follows opened shallow sound)
       where
@@ -315,7 +603,7 @@ module _ {A : Arithmetic} where
             ∙ ap (λ (n : ℕ). goTo A n outer (memoryOf A (buffersAt A next cells held))) (sym follows))
         by-left {setting} {rest} {cells} {held} r outer (suc n) left follows opened shallow sound =
             let back = closes .back shallow r n outer opened left in
-            goes-to (moved next (suc (r .start .index))) (record { start = r .start; left = n } ∷ outer) (back .0) refl (back .1) sound
+            goes-to (moved next (backTo r)) (record { start = r .start; asks = r .asks; left = n } ∷ outer) (back .0) refl (back .1) sound
             (turn-back (stateAt A (preceding next at) (r ∷ outer) cells held) r n outer left)
 
         by-repeats : {setting : Setting A} {rest : List TableLine} {cells : Cells A} {held : List (A .Carrier)} (repeats : List Repeat)
@@ -335,18 +623,40 @@ module _ {A : Arithmetic} where
     on-turn-crosses {picked} {turnsAfter} {answer} kind takes to =
         let height = heightBranched picked (next .turns) in
         let picks = turn-picks beyond at next picked answer to in
-        crosses-as (ifLine onTurn) (rw kind) (picks-left beyond at next height (turnOf picked) answer picks)
+        crosses-as (ifLine onTurn) (rw kind) tt (picks-left beyond at next height (turnOf picked) answer picks)
         (λ setting lines rest repeats store values copied held words follows here jumps opened shallow sound.
         test-crosses onTurn height follows here jumps opened (turnOf picked) (takes .tests setting store values (next .values) held sound) picks)
 
+    pub on-count-crosses : {turnsAfter bodiesAfter toComeAfter : List ℕ} {answer : Crossed} → row .kind ≡ 20
+        → OnCount A beyond at next turns bodies toCome turnsAfter bodiesAfter toComeAfter answer
+        → CrossesBy A row beyond at next turns bodies toCome turnsAfter bodiesAfter toComeAfter answer
+    unfolding blockOf
+    on-count-crosses {turnsAfter} {bodiesAfter} {toComeAfter} {answer} kind counts =
+        record {
+          left = counts .left;
+          crosses = λ setting lines rest other repeats store values copied held words not-if not-while follows here jumps none-straight opened shallow sound.
+              let said : blockOf row ≡ some (repeat (while onTurn 0)) = rw kind in
+              let told : some (repeat (while onTurn 0)) ≡ some (saidOf other) =
+              sym said
+              ∙ ap blockOf (sym words)
+              ∙ block-said other (λ basic-row is. none-straight basic-row rest (here ∙ ap (λ (l : TableLine). l ∷ rest) is)) in
+              let loop = said-count other cc in
+              subst
+              (λ (l : TableLine). StepsTo A setting l rest at next repeats (cellsOf A store values turns copied) (cellsOf A store values turnsAfter copied)
+              held bodiesAfter toComeAfter answer)
+              (sym (loop .1))
+              (counts .takes setting lines rest (loop .0) repeats store values copied held follows (here ∙ ap (λ (l : TableLine). l ∷ rest) (loop .1)) jumps opened
+              shallow sound);
+        }
+
     -- no line has another kind
-    pub never-crosses : row .kind ≢ 8 → row .kind ≢ 9 → row .kind ≢ 10 → row .kind ≢ 11 → row .kind ≢ 15
+    pub never-crosses : row .kind ≢ 8 → row .kind ≢ 9 → row .kind ≢ 10 → row .kind ≢ 11 → row .kind ≢ 15 → row .kind ≢ 20
         → CrossesBy A row beyond at next turns bodies toCome turns bodies toCome stuckThere
     unfolding blockOf
-    never-crosses k₈ k₉ k₁₀ k₁₁ k₁₅ =
+    never-crosses k₈ k₉ k₁₀ k₁₁ k₁₅ k₂₀ =
         record {
           left = tt;
-          crosses = λ setting lines rest other repeats store values copied held words k₇ follows here jumps none-straight opened shallow sound.
+          crosses = λ setting lines rest other repeats store values copied held words k₇ k₁₉ follows here jumps none-straight opened shallow sound.
               let nothing : blockOf row ≡ none =
               rw (
                 ne-eqb (row .kind) 7 k₇,
@@ -355,8 +665,10 @@ module _ {A : Arithmetic} where
                 ne-eqb (row .kind) 10 k₁₀,
                 ne-eqb (row .kind) 11 k₁₁,
                 ne-eqb (row .kind) 15 k₁₅,
+                ne-eqb (row .kind) whileKind k₁₉,
+                ne-eqb (row .kind) 20 k₂₀,
               ) in
-              let told : none ≡ some other =
+              let told : none ≡ some (saidOf other) =
               sym nothing
               ∙ ap blockOf (sym words)
               ∙ block-said other (λ basic-row is. none-straight basic-row rest (here ∙ ap (λ (l : TableLine). l ∷ rest) is)) in
@@ -382,18 +694,39 @@ module _ {A : Arithmetic} where
       same-place
       (crosses .says))
 
-  module _ {table : List ℕ} {rows : ℕ} {beyond : List ℕ} {place : Place} {store : List (A .Carrier)} {turns bodies toCome : List ℕ} {met : Met} where
+  firstIn : Option (Verdict A) → Option Bool
+  firstIn none = none
+  firstIn (some verdict) = some (verdict .first)
+
+  -- what a comparison's code says of the test
+  compared-is : (place : Place) (store : List (A .Carrier)) (turns : List ℕ) (a b : ℕ) (setting : Setting A) (picked : Branch) (values copied held : List (A .Carrier)) → Compares A a b store picked
+      → Sound A setting (buffersAt A place (cellsOf A store values turns copied) held)
+      → compared A (less a b) store ≡ branchOf picked
+  unfolding tested firstIn
+  compared-is place store turns a b setting picked values copied held compares sound =
+      by (compared A (less a b) store) picked (compares .tests setting values (place .values) turns (place .turns) held sound .meaning)
+    where
+      memory : Memory A
+      memory = memoryOf A (buffersAt A place (cellsOf A store values turns copied) held)
+
+      by : (o : Option Bool) (b : Branch) → verdictOn A memory (branchOf b) ≡ verdictOn A memory o → o ≡ branchOf b
+      by none branch-as.First e = sym (ap firstIn e)
+      by none branch-as.Second e = sym (ap firstIn e)
+      by (some x) branch-as.First e = sym (ap firstIn e)
+      by (some x) branch-as.Second e = sym (ap firstIn e)
+
+  module _ {table : List ℕ} {rows : ℕ} {beyond : List ℕ} {keeps : Bool} {place : Place} {store : List (A .Carrier)} {turns bodies toCome : List ℕ} {met : Met} where
     pub block-leaves : {how : Ended} → Meets table rows place met → met ≡ met-as.Out how
-        → BlockRow A table rows beyond place store turns bodies toCome turns bodies toCome (crossed.Out how)
+        → BlockRow A table rows beyond keeps place store turns bodies toCome turns bodies toCome (crossed.Out how)
     unfolding step stepAt
     block-leaves {how} meets is = by-end how (rw is at meets)
       where
         by-end : (how : Ended) → Meets table rows place (met-as.Out how)
-            → BlockRow A table rows beyond place store turns bodies toCome turns bodies toCome (crossed.Out how)
+            → BlockRow A table rows beyond keeps place store turns bodies toCome turns bodies toCome (crossed.Out how)
         by-end ended-as.Finished (some-left, over) =
             record {
               left = tt;
-              steps = λ setting lines repeats values copied held holds count jumps none-due opened shallow sound.
+              steps = λ setting lines repeats values copied held holds count jumps none-due keeping opened shallow sound.
                   let none-there : drop (place .at .0) lines ≡ [] = drop-of-length-le lines {i = place .at .0} (rw count over) in
                   (some-left, rw none-there, record { opened = opened; stays = refl });
             }
@@ -402,28 +735,28 @@ module _ {A : Arithmetic} where
         by-end ended-as.Unfinished spent =
             record {
               left = tt;
-              steps = λ setting lines repeats values copied held holds count jumps none-due opened shallow sound.
+              steps = λ setting lines repeats values copied held holds count jumps none-due keeping opened shallow sound.
                   (spent, record { opened = opened; stays = refl });
             }
 
     pub block-crosses : {row : RowWords} {next : Place} {turnsAfter bodiesAfter toComeAfter : List ℕ} {answer : Crossed} → Meets table rows place met
         → met ≡ met-as.Other row next
         → CrossesBy A (rowSaid row) beyond (place .at .0) next turns bodies toCome turnsAfter bodiesAfter toComeAfter answer
-        → BlockRow A table rows beyond place store turns bodies toCome turnsAfter bodiesAfter toComeAfter answer
+        → BlockRow A table rows beyond keeps place store turns bodies toCome turnsAfter bodiesAfter toComeAfter answer
     block-crosses {row} {next} {turnsAfter} {bodiesAfter} {toComeAfter} {answer} meets is crosses =
-        let (there, not-if) = rw is at meets in
+        let (there, not-if, not-while) = rw is at meets in
         let left = there .follows .left in
         let spends = there .follows .spends in
         let done = rw (there .follows .is) at crosses in
         record {
           left = rw spends (done .left);
-          steps = λ setting lines repeats values copied held holds count jumps none-due opened shallow sound.
+          steps = λ setting lines repeats values copied held holds count jumps none-due keeping opened shallow sound.
               let line = stands-there lines (place .at .0) (rw count (there .within)) in
               let words = words-there table lines (line .rest) (line .line) (place .at .0) (rowSaid row) holds (there .said) (line .is) in
               found-there place lines setting repeats (cellsOf A store values turns copied) (cellsOf A store values turnsAfter copied) held
               bodiesAfter toComeAfter answer spends (line .is)
               (record {
-                says = done .crosses setting lines (line .rest) (line .line) repeats store values copied held words not-if (add-one (place .at .0))
+                says = done .crosses setting lines (line .rest) (line .line) repeats store values copied held words not-if not-while (add-one (place .at .0))
                     (line .is) jumps (none-due (omega arith)) opened shallow sound;
               });
         }
@@ -432,7 +765,7 @@ module _ {A : Arithmetic} where
         → met ≡ met-as.Compare a b next
         → Compares A (a .0) (b .0) store picked
         → BranchesTo beyond (place .at .0) next picked answer
-        → BlockRow A table rows beyond place store turns bodies toCome turns bodies toCome answer
+        → BlockRow A table rows beyond keeps place store turns bodies toCome turns bodies toCome answer
     unfolding blockOf
     block-compares {a} {b} {next} {picked} {answer} meets is compares to =
         let there = rw is at meets in
@@ -444,19 +777,56 @@ module _ {A : Arithmetic} where
         let picks = branch-picks beyond (place .at .0) follow picked answer goes in
         record {
           left = rw spends (picks-left beyond (place .at .0) follow (place .turns) (branchOf picked) answer picks);
-          steps = λ setting lines repeats values copied held holds count jumps none-due opened shallow sound.
+          steps = λ setting lines repeats values copied held holds count jumps none-due keeping opened shallow sound.
               let line = stands-there lines (place .at .0) (rw count (there .meets .within)) in
               let words = words-there table lines (line .rest) (line .line) (place .at .0) row holds (there .meets .said) (line .is) in
               let is-if : blockOf row ≡ some (ifLine (whether (less (a .0) (b .0)))) = rw (there .kind, there .first, there .second) in
-              let told : some (ifLine (whether (less (a .0) (b .0)))) ≡ some (line .line) =
+              let told : some (ifLine (whether (less (a .0) (b .0)))) ≡ some (saidOf (line .line)) =
               sym is-if
               ∙ ap blockOf (sym words)
               ∙ block-said (line .line)
               (λ basic-row is. none-due (omega arith) basic-row (line .rest) (line .is ∙ ap (λ (l : TableLine). l ∷ line .rest) is)) in
-              let same : ifLine (whether (less (a .0) (b .0))) ≡ line .line = cc in
+              let same : ifLine (whether (less (a .0) (b .0))) ≡ line .line = said-all _ (line .line) tt cc in
               let here = line .is ∙ ap (λ (l : TableLine). l ∷ line .rest) (sym same) in
               let cells = cellsOf A store values turns copied in
               found-there place lines setting repeats cells cells held bodies toCome answer spends here
               (test-crosses (whether (less (a .0) (b .0))) (place .turns) (add-one (place .at .0)) here jumps opened (branchOf picked)
               (compares .tests setting values (place .values) turns (place .turns) held sound) picks);
+        }
+
+    pub block-asks : {row : RowWords} {next : Place} {picked : Branch} {turnsAfter bodiesAfter toComeAfter : List ℕ} {answer : Crossed}
+        → Meets table rows place met
+        → met ≡ met-as.Ask row next
+        → Compares A (row .a) (row .b) store picked
+        → AsksLoop A picked (row .d) keeps beyond (place .at .0) next turns bodies toCome turnsAfter bodiesAfter toComeAfter answer
+        → BlockRow A table rows beyond keeps place store turns bodies toCome turnsAfter bodiesAfter toComeAfter answer
+    unfolding blockOf tableRowOf rowOfTableWhile
+    block-asks {row} {next} {picked} {turnsAfter} {bodiesAfter} {toComeAfter} {answer} meets is compares loop =
+        let (there, kind) = rw is at meets in
+        let left = there .follows .left in
+        let spends = there .follows .spends in
+        let done = rw (there .follows .is) at loop in
+        record {
+          left = rw spends (done .left);
+          steps = λ setting lines repeats values copied held holds count jumps none-due keeping opened shallow sound.
+              let line = stands-there lines (place .at .0) (rw count (there .within)) in
+              let words = words-there table lines (line .rest) (line .line) (place .at .0) (rowSaid row) holds (there .said) (line .is) in
+              let f : Test = less (row .a) (row .b) in
+              let m : ℕ = pred (row .d) in
+              let is-while : blockOf (rowSaid row) ≡ some (repeat (while (whether f) m)) = rw kind in
+              let told : some (repeat (while (whether f) m)) ≡ some (saidOf (line .line)) =
+              sym is-while
+              ∙ ap blockOf (sym words)
+              ∙ block-said (line .line)
+              (λ basic-row is. none-due (omega arith) basic-row (line .rest) (line .is ∙ ap (λ (l : TableLine). l ∷ line .rest) is)) in
+              let same : repeat (while (whether f) m) ≡ line .line = said-all _ (line .line) tt cc in
+              let here = line .is ∙ ap (λ (l : TableLine). l ∷ line .rest) (sym same) in
+              let turns-are : row .d ≡ suc m = sym (ap (λ (r : Row). r .d) (ap tableRowOf same ∙ words)) in
+              found-there place lines setting repeats (cellsOf A store values turns copied) (cellsOf A store values turnsAfter copied) held
+              bodiesAfter toComeAfter answer spends here
+              (record {
+                says = done .asks setting lines (line .rest) f m repeats store values copied held turns-are
+                    (compared-is place store turns (row .a) (row .b) setting picked values copied held compares sound) (add-one (place .at .0)) here jumps keeping opened shallow
+                    sound;
+              });
         }

@@ -7,8 +7,8 @@ use mathlib.Core.Logic.{_⊎_, inl, inr, _≢_}
 use native.Mathlib.Omega.{arith}
 use borrow.Author.Tests.{ne-eqb}
 use lib.Dec.{eqb}
-use Rattle.sheet.specs.Tree.{basic, ifLine, elseLine, endIf, repeat, endRepeat}
-use Rattle.sheet.specs.Rows.{copy, fixed, sum, difference, product, negation, quotient, _≔_, less, Row, rowOf, rowOfAssignment, rowOfTest, quotientKind}
+use Rattle.sheet.specs.Tree.{times, while, basic, ifLine, elseLine, endIf, repeat, endRepeat}
+use Rattle.sheet.specs.Rows.{copy, fixed, sum, difference, product, negation, quotient, _≔_, less, Row, rowOf, rowOfAssignment, rowOfTest, quotientKind, whileKind}
 use Rattle.sheet.specs.Names.{SourcePresent, AssignmentPresent}
 use Rattle.table.specs.TableRows.{Action, assign, save, takeBack, saveTurn, clear, turnRound, whether, onTurn, TableLine, TableRow, rowOfAction, rowOfTableTest, tableRowOf}
 use Rattle.machine.specs.inner.RowWords.{actionOf, Named}
@@ -34,17 +34,64 @@ blockOf row =
     cond (eqb (row .kind) 7) (some (ifLine (whether (less (row .a) (row .b)))))
     (cond (eqb (row .kind) 8) (some elseLine)
     (cond (eqb (row .kind) 9) (some endIf)
-    (cond (eqb (row .kind) 10) (some (repeat (pred (row .a))))
-    (cond (eqb (row .kind) 11) (some endRepeat) (cond (eqb (row .kind) 15) (some (ifLine onTurn)) none)))))
+    (cond (eqb (row .kind) 10) (some (repeat (times (pred (row .a)))))
+    (cond (eqb (row .kind) 11) (some endRepeat)
+    (cond (eqb (row .kind) 15) (some (ifLine onTurn))
+    (cond (eqb (row .kind) whileKind) (some (repeat (while (whether (less (row .a) (row .b))) (pred (row .d)))))
+    (cond (eqb (row .kind) 20) (some (repeat (while onTurn 0))) none)))))))
 
-pub block-said : (line : TableLine) → ((row : TableRow) → line ≡ basic row → ⊥) → blockOf (tableRowOf line) ≡ some line
+-- a line without what its words don't say: how many turns a loop on a count does at most
+abbrev pub saidOf : TableLine → TableLine
+saidOf (basic row) = basic row
+saidOf (ifLine f) = ifLine f
+saidOf elseLine = elseLine
+saidOf endIf = endIf
+saidOf (repeat (times m)) = repeat (times m)
+saidOf (repeat (while (whether f) m)) = repeat (while (whether f) m)
+saidOf (repeat (while onTurn m)) = repeat (while onTurn 0)
+saidOf endRepeat = endRepeat
+
+-- every other line's words say all of it
+abbrev pub SaysAll : TableLine → Type 0
+SaysAll (basic row) = Unit {0}
+SaysAll (ifLine f) = Unit {0}
+SaysAll elseLine = Unit {0}
+SaysAll endIf = Unit {0}
+SaysAll (repeat (times m)) = Unit {0}
+SaysAll (repeat (while (whether f) m)) = Unit {0}
+SaysAll (repeat (while onTurn m)) = ⊥
+SaysAll endRepeat = Unit {0}
+
+pub said-all : (line other : TableLine) → SaysAll line → line ≡ saidOf other → line ≡ other
+said-all line (basic row) all is = is
+said-all line (ifLine f) all is = is
+said-all line elseLine all is = is
+said-all line endIf all is = is
+said-all line (repeat (times m)) all is = is
+said-all line (repeat (while (whether f) m)) all is = is
+said-all line (repeat (while onTurn m)) all is = absurd (subst SaysAll is all)
+said-all line endRepeat all is = is
+
+pub said-count : (other : TableLine) → repeat (while onTurn 0) ≡ saidOf other → (m : ℕ) × (other ≡ repeat (while onTurn m))
+said-count (basic row) is = let z : _≡_ {A = ℕ} 0 1 = cc in absurd (omega arith)
+said-count (ifLine f) is = let z : _≡_ {A = ℕ} 0 1 = cc in absurd (omega arith)
+said-count elseLine is = let z : _≡_ {A = ℕ} 0 1 = cc in absurd (omega arith)
+said-count endIf is = let z : _≡_ {A = ℕ} 0 1 = cc in absurd (omega arith)
+said-count (repeat (times m)) is = let z : _≡_ {A = ℕ} 0 1 = cc in absurd (omega arith)
+said-count (repeat (while (whether f) m)) is = let z : _≡_ {A = ℕ} 0 1 = cc in absurd (omega arith)
+said-count (repeat (while onTurn m)) is = (m, refl)
+said-count endRepeat is = let z : _≡_ {A = ℕ} 0 1 = cc in absurd (omega arith)
+
+pub block-said : (line : TableLine) → ((row : TableRow) → line ≡ basic row → ⊥) → blockOf (tableRowOf line) ≡ some (saidOf line)
 unfolding blockOf tableRowOf rowOf rowOfTableTest rowOfTest
 block-said (basic row) not = absurd (not row refl)
 block-said (ifLine (whether (less a b))) not = refl
 block-said (ifLine onTurn) not = refl
 block-said elseLine not = refl
 block-said endIf not = refl
-block-said (repeat m) not = refl
+block-said (repeat (times m)) not = refl
+block-said (repeat (while (whether (less a b)) m)) not = refl
+block-said (repeat (while onTurn m)) not = refl
 block-said endRepeat not = refl
 
 -- the straight lines are those whose words say an action
@@ -56,7 +103,9 @@ straight-or-not (ifLine (whether (less a b))) = inr (refl, λ row is. let z : _�
 straight-or-not (ifLine onTurn) = inr (refl, λ row is. let z : _≡_ {A = ℕ} 0 1 = cc in omega arith)
 straight-or-not elseLine = inr (refl, λ row is. let z : _≡_ {A = ℕ} 0 1 = cc in omega arith)
 straight-or-not endIf = inr (refl, λ row is. let z : _≡_ {A = ℕ} 0 1 = cc in omega arith)
-straight-or-not (repeat m) = inr (refl, λ row is. let z : _≡_ {A = ℕ} 0 1 = cc in omega arith)
+straight-or-not (repeat (times m)) = inr (refl, λ row is. let z : _≡_ {A = ℕ} 0 1 = cc in omega arith)
+straight-or-not (repeat (while (whether (less a b)) m)) = inr (refl, λ row is. let z : _≡_ {A = ℕ} 0 1 = cc in omega arith)
+straight-or-not (repeat (while onTurn m)) = inr (refl, λ row is. let z : _≡_ {A = ℕ} 0 1 = cc in omega arith)
 straight-or-not endRepeat = inr (refl, λ row is. let z : _≡_ {A = ℕ} 0 1 = cc in omega arith)
 
 -- ---- what a kind says

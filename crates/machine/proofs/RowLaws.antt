@@ -4,6 +4,7 @@ use mathlib.Core.Path.{_≡_, refl, sym}
 use mathlib.Core.Bool.{Bool, true, false}
 use mathlib.Core.List.{List, []}
 use mathlib.Core.Option.{none, some}
+use native.Mathlib.Decide.{decLt}
 use native.Mathlib.Omega.{arith}
 use native.Mathlib.Numerals.{add-one}
 use borrow.Author.Tests.{lt-ltb, le-ltb}
@@ -14,10 +15,12 @@ use Rattle.number.specs.Doubles.{doubles}
 use Rattle.number.specs.Residues.{residues}
 use Rattle.sheet.specs.Rows.{_≔_}
 use Rattle.table.specs.TableRows.{Action, save, takeBack, saveTurn, clear, assign, turnWord}
-use Rattle.machine.specs.Actions.{through, halted, stuck, _>>=_, Setting, acted, tested, compared}
+use Rattle.machine.specs.Actions.{through, halted, stuck, _>>=_, pushed, Setting, acted, tested, compared}
 use Rattle.machine.specs.inner.RowAnswers.{branchOf, turnOf, heightBranched}
 use Rattle.machine.specs.inner.Buffers.{Buffers, memoryOf, Sound, Does, InBoth, Assigns, Clears, MovesValues, SavesTurn, Compares, TakesTurn, stackOf}
 use Rattle.machine.specs.declared.Went.the-variants as went
+use Rattle.machine.specs.inner.RowSteps.{PutAway, KeepsCount}
+use Rattle.machine.specs.declared.Moved.{Moved}
 use Rattle.machine.specs.declared.Moved.the-variants as moved
 use Rattle.machine.specs.declared.Branch.{Branch}
 use Rattle.machine.specs.declared.Branched.{Branched}
@@ -30,6 +33,13 @@ in-both shown = record { residues = shown residues; doubles = shown doubles }
 
 pub in-both-by : {P Q : Arithmetic → Type 0} → InBoth P → ((A : Arithmetic) → P A → Q A) → InBoth Q
 in-both-by both shown = record { residues = shown residues (both .residues); doubles = shown doubles (both .doubles) }
+
+module _ {word height : ℕ} {turns : List ℕ} where
+  pub puts-none : length turns ≤ height → PutAway word height turns turns moved.Stuck
+  puts-none full = record { full = λ _. (refl, refl); goes = λ room. absurd (omega arith) }
+
+  pub puts-on : height < length turns → PutAway word height turns (set turns height word) (moved.To (height + 1))
+  puts-on room = record { full = λ full. absurd (omega arith); goes = λ _. (refl, refl) }
 
 module _ {A : Arithmetic} where
   -- a row that is stuck or stopped leaves the buffers as they are
@@ -158,38 +168,88 @@ module _ {A : Arithmetic} where
                   absurd (omega arith);
             }
 
-  -- ---- kind 14
+  -- ---- a word onto the turn stack, whatever it stands for
 
-  module _ {first : Bool} {turns : List ℕ} {height : ℕ} where
-    pub save-turn-goes : {word : ℕ} → word ≡ turnWord first → height < length turns
-        → SavesTurn A first turns height (set turns height word) (moved.To (height + 1))
-    unfolding acted
-    save-turn-goes is room =
-        rw is
-        (record {
-          does = λ setting store values valueHeight copied sound.
-              let fits : length (stackOf height turns) < setting .turnRoom =
-              rw (stack-length height turns (sound .turns .within), sound .turnRoom) room in
-              rw (add-one height)
-              (goes setting (saveTurn first) _ _
-              (record {
-                values = sound .values;
-                turns = pushed-on 0 height turns (turnWord first) room (sound .turns);
-                valueRoom = sound .valueRoom;
-                turnRoom = rw length-set (sound .turnRoom);
-              })
-              (rw (lt-ltb _ _ fits, stack-pushed height turns (turnWord first) room)));
-        })
+  module _ {turns : List ℕ} {height : ℕ} (setting : Setting A) (word : ℕ) {store values : List (A .Carrier)} {valueHeight : ℕ} {copied : List (A .Carrier)}
+      (sound : Sound A setting (record { store = store; values = values; height = valueHeight; turns = turns; turnHeight = height; copied = copied })) where
+    turn-pushed : {W : Type 0} → height < length turns
+        → pushed {Why = W} (setting .turnRoom) word (stackOf height turns) ≡ through (stackOf (suc height) (set turns height word))
+    turn-pushed room =
+        let fits : length (stackOf height turns) < setting .turnRoom =
+        rw (stack-length height turns (sound .turns .within), sound .turnRoom) room in
+        rw (lt-ltb _ _ fits, stack-pushed height turns word room)
 
-    pub save-turn-full : length turns ≤ height → SavesTurn A first turns height turns moved.Stuck
-    unfolding acted
-    save-turn-full full =
+    no-turn-pushed : {W : Type 0} → length turns ≤ height → pushed {Why = W} (setting .turnRoom) word (stackOf height turns) ≡ stuck
+    no-turn-pushed full =
+        let none-left : setting .turnRoom ≤ length (stackOf height turns) =
+        rw (stack-length height turns (sound .turns .within), sound .turnRoom) full in
+        rw (le-ltb _ _ none-left)
+
+    sound-pushed : height < length turns
+        → Sound A setting
+        (record { store = store; values = values; height = valueHeight; turns = set turns height word; turnHeight = suc height; copied = copied })
+    sound-pushed room =
         record {
-          does = λ setting store values valueHeight copied sound.
-              let none-left : setting .turnRoom ≤ length (stackOf height turns) =
-              rw (stack-length height turns (sound .turns .within), sound .turnRoom) full in
-              sticks setting (saveTurn first) _ sound (rw (le-ltb _ _ none-left));
+          values = sound .values;
+          turns = pushed-on 0 height turns word room (sound .turns);
+          valueRoom = sound .valueRoom;
+          turnRoom = rw length-set (sound .turnRoom);
         }
+
+  -- what the code that puts it there does
+  module _ {word height : ℕ} {turns turnsAfter : List ℕ} {moved : Moved} (put : PutAway word height turns turnsAfter moved) where
+    -- kind 14
+    pub saves-turn : {first : Bool} → word ≡ turnWord first → SavesTurn A first turns height turnsAfter moved
+    unfolding acted
+    saves-turn {first} is = by (decLt height (length turns))
+      where
+        by : Dec (height < length turns) → SavesTurn A first turns height turnsAfter moved
+        by (yes room) =
+            let goes-on = put .goes room in
+            rw (goes-on .0, goes-on .1, add-one height, is)
+            (record {
+              does = λ setting store values valueHeight copied sound.
+                  goes setting (saveTurn first) _ _ (sound-pushed setting (turnWord first) sound room) (rw (turn-pushed setting (turnWord first) sound room));
+            })
+        by (no full) =
+            let stays = put .full (omega arith) in
+            rw (stays .0, stays .1)
+            (record {
+              does = λ setting store values valueHeight copied sound.
+                  sticks setting (saveTurn first) _ sound (rw (no-turn-pushed setting (turnWord first) sound (omega arith)));
+            })
+
+    -- kind 19, at its loop's end, where counts are kept
+    pub keeps-count : KeepsCount A word true turns height turnsAfter moved
+    keeps-count = by (decLt height (length turns))
+      where
+        by : Dec (height < length turns) → KeepsCount A word true turns height turnsAfter moved
+        by (yes room) =
+            let goes-on = put .goes room in
+            rw (goes-on .0, goes-on .1, add-one height)
+            (record {
+              kept = λ setting store values valueHeight copied keeps sound.
+                  record {
+                    meaning = rw (keeps, turn-pushed setting word sound room);
+                    sound = sound-pushed setting word sound room;
+                    unchanged = λ stuck-there. cc;
+                  };
+            })
+        by (no full) =
+            let stays = put .full (omega arith) in
+            rw (stays .0, stays .1)
+            (record {
+              kept = λ setting store values valueHeight copied keeps sound.
+                  record { meaning = rw (keeps, no-turn-pushed setting word sound (omega arith)); sound = sound; unchanged = λ _. refl };
+            })
+
+  -- and where they are not
+  pub keeps-none : {count height : ℕ} {turns : List ℕ} → KeepsCount A count false turns height turns (moved.To height)
+  keeps-none =
+      record {
+        kept = λ setting store values valueHeight copied keeps sound.
+            record { meaning = rw keeps; sound = sound; unchanged = λ stuck-there. cc };
+      }
 
   -- ---- the operands of kind 7
 

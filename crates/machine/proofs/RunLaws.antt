@@ -3,6 +3,7 @@
 use Prim.Native.Nat.{ℕ, _+_, _≤_, _<_}
 use mathlib.Core.Path.{_≡_, refl, sym, ap, _∙_, subst}
 use mathlib.Core.Logic.{_⊎_, inl, inr}
+use mathlib.Core.Bool.{Bool}
 use mathlib.Core.List.{List, []}
 use native.Mathlib.Omega.{arith}
 use lib.ListN.{length}
@@ -114,6 +115,7 @@ pub record Task (A : Arithmetic) : Type 0 where
   pub table : List ℕ
   pub rows : ℕ
   pub beyond : List ℕ
+  pub keeps : Bool
   pub roles : List ℕ
   pub constants : List ℕ
   pub seeds : List (A .Carrier)
@@ -122,7 +124,7 @@ pub record Task (A : Arithmetic) : Type 0 where
 module _ {A : Arithmetic} (task : Task A) where
   abbrev HandedOver : (first : Cells A) → Setting A → List TableLine → Memory A → Type 0
   HandedOver first setting lines start =
-      Handed A (task .table) (task .rows) (task .beyond) (task .roles) (task .constants) (task .seeds) first setting lines start
+      Handed A (task .table) (task .rows) (task .beyond) (task .keeps) (task .roles) (task .constants) (task .seeds) first setting lines start
 
   abbrev Straight : (until : ℕ) → Place → (before after : Cells A) → Acted → Type 0
   Straight until place before after answer =
@@ -130,11 +132,11 @@ module _ {A : Arithmetic} (task : Task A) where
 
   abbrev Block : Place → (before : Cells A) → (bodies toCome turnsAfter bodiesAfter toComeAfter : List ℕ) → Crossed → Type 0
   Block place before bodies toCome turnsAfter bodiesAfter toComeAfter answer =
-      BlockRow A (task .table) (task .rows) (task .beyond) place (before .store) (before .turns) bodies toCome turnsAfter bodiesAfter toComeAfter answer
+      BlockRow A (task .table) (task .rows) (task .beyond) (task .keeps) place (before .store) (before .turns) bodies toCome turnsAfter bodiesAfter toComeAfter answer
 
   abbrev Left : (first after : Cells A) → (bodies toCome : List ℕ) → Ran → Type 0
   Left first after bodies toCome answer =
-      RunsRows A (task .table) (task .rows) (task .beyond) (task .roles) (task .constants) (task .seeds) (task .steps) first after bodies toCome answer
+      RunsRows A (task .table) (task .rows) (task .beyond) (task .keeps) (task .roles) (task .constants) (task .seeds) (task .steps) first after bodies toCome answer
 
   abbrev Running : (first : Cells A) → Setting A → List TableLine → Memory A → Place → Cells A → (bodies toCome : List ℕ) → Type 0
   Running first setting lines start place cells bodies toCome = AfterSteps A setting lines start (task .steps) first place cells bodies toCome
@@ -311,6 +313,7 @@ module _ {A : Arithmetic} (task : Task A) where
             let deep = opened-length (place .depth) bodies toCome (rested .repeats) (rested .opened) in
             block .steps setting lines (rested .repeats) (after .values) (after .copied) (rested .held) (handed .holds) (handed .rows) (handed .jumps)
             (stepped setting lines start handed acted.Block straight .says .0)
+            (handed .keeping)
             (rested .opened)
             (rw (sym deep) few)
             (rested .sound)

@@ -41,7 +41,7 @@ pub enum Branched {
     Stuck,
 }
 
-// Where a run is: its row, how many repeats are open, the heights of both stacks, and how many steps are left.
+// Where a run is: its row, how many loops are open, the heights of both stacks, and how many steps are left.
 pub struct Place {
     pub at: RowNumber,
     pub depth: usize,
@@ -50,11 +50,25 @@ pub struct Place {
     pub left: usize,
 }
 
-// What the outer loop meets at a place: the run's end, a comparison, or another row, each row with the place after it.
+// What the outer loop meets at a place: the run's end, a comparison, a loop with a test, or another row, each row with the place after it.
 pub enum Met {
     Out(Ended),
     Compare(Variable, Variable, Place),
+    Ask(RowWords, Place),
     Other(RowWords, Place),
+}
+
+// The count on top of the turn stack, and the height below it.
+pub enum Counted {
+    Is(u16, usize),
+    Stuck,
+}
+
+// A loop with a test at its own row: the turns that it may still do, what is noted of it in another turn, and how many loops are open around it.
+pub struct Pending {
+    pub left: usize,
+    pub note: usize,
+    pub depth: usize,
 }
 
 // The row that is expected after one that was done: a clear after a copy, a sum after a product, a copy and its clear after a value was taken back. A runner may

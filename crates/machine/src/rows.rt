@@ -47,6 +47,9 @@ pub fn block_at(table: &[u16], rows: usize, place: Place) -> Met
         let b = row.b as usize;
         return Met::Compare(Variable(a), Variable(b), next);
     }
+    if row.kind == kinds::WHILE {
+        return Met::Ask(row, next);
+    }
     Met::Other(row, next)
 }
 

@@ -1,20 +1,23 @@
 -- One row of the code, held against one step of the row machine: what each row's answer says, and what every buffer then stands for.
 use Prim.Native.Nat.{ℕ, zero, suc, pred, min, _+_, _*_, _≤_, _<_}
+use mathlib.Core.Bool.{Bool, _&&_, cond}
 use mathlib.Core.Path.{_≡_}
 use mathlib.Core.List.{List, [], _∷_}
 use mathlib.Core.Option.{none, some}
 use mathlib.Core.Logic.{_⊎_, _≢_}
-use lib.ListN.{length, getD, drop}
+use lib.ListN.{length, getD, set, drop}
+use lib.Dec.{eqb}
 use Rattle.number.specs.Arithmetic.{Arithmetic}
 use Rattle.sheet.specs.Bounds.{limit}
-use Rattle.sheet.specs.Tree.{basic}
-use Rattle.sheet.specs.Rows.{Row}
+use Rattle.sheet.specs.Tree.{while, basic, repeat}
+use Rattle.sheet.specs.Rows.{Test, Row, whileKind}
 use Rattle.sheet.specs.Answers.{rowSaid}
 use Rattle.sheet.specs.Sheets.{rowAt}
-use Rattle.table.specs.TableRows.{TableLine, TableRow, Action, tableRowOf}
-use Rattle.machine.specs.Actions.{Attempt, through, halted, stuck, Setting, Try, Stop}
-use Rattle.machine.specs.Machine.{Repeat, State, Step, goesOn, ended, stops, sticks, stepAt, step}
+use Rattle.table.specs.TableRows.{TableLine, TableRow, Action, whether, onTurn, tableRowOf}
+use Rattle.machine.specs.Actions.{Attempt, through, halted, stuck, _>>=_, Setting, Try, countKept, Stop, compared}
+use Rattle.machine.specs.Machine.{Repeat, backTo, State, Step, goesOn, ended, stops, sticks, stepAt, step}
 use Rattle.machine.specs.inner.Buffers.{Buffers, Cells, cellsOf, memoryOf, Sound, Does, RoundSizes}
+use Rattle.machine.specs.inner.RowAnswers.{whetherMoved, heightAfter, branchOf}
 use Rattle.machine.specs.inner.RowWords.{actionOf}
 use Rattle.machine.specs.inner.RowsHanded.{Holds, Jumps, Suits}
 use Rattle.machine.specs.declared.Met.{Met}
@@ -28,6 +31,9 @@ use Rattle.machine.specs.declared.Moved.{Moved}
 use Rattle.machine.specs.declared.Moved.the-variants as moved-as
 use Rattle.machine.specs.declared.Branch.{Branch}
 use Rattle.machine.specs.declared.Branch.the-variants as branch-as
+use Rattle.machine.specs.declared.Counted.{Counted}
+use Rattle.machine.specs.declared.Counted.the-variants as counted-as
+use Rattle.machine.specs.declared.Pending.{Pending}
 use Rattle.machine.specs.declared.Branched.{Branched}
 use Rattle.machine.specs.declared.Branched.the-variants as branched-as
 use Rattle.machine.specs.declared.Ahead.{Ahead}
@@ -42,13 +48,17 @@ use Rattle.machine.specs.declared.Ended.{Ended}
 use Rattle.machine.specs.declared.Ended.the-variants as ended-as
 use Rattle.machine.specs.declared.Ran.{Ran}
 
--- the open repeats, nearest first: where the body of each starts, and the turns of it still to come
+-- what is noted of an open loop: twice the turns still to come, and 1 more where its row is asked before each
+abbrev pub noteOf : Repeat → ℕ
+noteOf r = 2 * r .left + cond (r .asks) 1 0
+
+-- the open loops, nearest first: where the next turn of each begins, and the turns of it still to come
 unfoldable pub Nested : (depth : ℕ) → (bodies toCome : List ℕ) → List Repeat → Type 0
 Nested zero bodies toCome [] = Unit {0}
 Nested zero bodies toCome (r ∷ outer) = ⊥
 Nested (suc n) bodies toCome [] = ⊥
 Nested (suc n) bodies toCome (r ∷ outer) =
-    (getD bodies n 0 ≡ suc (r .start .index)) × (getD toCome n 0 ≡ r .left) × Nested n bodies toCome outer
+    (getD bodies n 0 ≡ backTo r) × (getD toCome n 0 ≡ noteOf r) × Nested n bodies toCome outer
 
 -- in arrays with room for as many as a sheet may nest
 pub record Opened (depth : ℕ) (bodies toCome : List ℕ) (repeats : List Repeat) : Type 0 where
@@ -166,7 +176,8 @@ Meets table rows place (met-as.Out (ended-as.Stopped row)) = ⊥
 Meets table rows place (met-as.Out ended-as.Stuck) = ⊥
 Meets table rows place (met-as.Out ended-as.Unfinished) = place .left ≡ 0
 Meets table rows place (met-as.Compare a b next) = MeetsCompare table rows place (a .0) (b .0) next
-Meets table rows place (met-as.Other row next) = MeetsRow table rows place (rowSaid row) next × (row .kind ≢ 7)
+Meets table rows place (met-as.Ask row next) = MeetsRow table rows place (rowSaid row) next × (row .kind ≡ whileKind)
+Meets table rows place (met-as.Other row next) = MeetsRow table rows place (rowSaid row) next × (row .kind ≢ 7) × (row .kind ≢ whileKind)
 
 -- a row of the kind that is expected there
 abbrev pub MeetsKind : (table : List ℕ) → (rows : ℕ) → Place → (kind : ℕ) → Expected → Type 0
@@ -191,16 +202,21 @@ TurnsTo beyond at next (branched-as.First height) answer = answer ≡ crossed.On
 TurnsTo beyond at next (branched-as.Second height) answer = JumpsTo beyond at (raised next (next .values) height) answer
 TurnsTo beyond at next branched-as.Stuck answer = answer ≡ stuckThere
 
--- one repeat more, of which `count` turns are to run; its body starts at the next row
-pub record Opens (count : ℕ) (next : Place) (bodies toCome bodiesAfter toComeAfter : List ℕ) (answer : Crossed) : Type 0 where
+-- one loop more, whose next turn begins at a row, with what is noted of it
+pub record Pushes (body note : ℕ) (next : Place) (bodies toCome bodiesAfter toComeAfter : List ℕ) (answer : Crossed) : Type 0 where
   pub left : CrossedLeft (suc (next .left)) answer
   pub full : limit .depth ≤ next .depth → (answer ≡ stuckThere) × (bodiesAfter ≡ bodies) × (toComeAfter ≡ toCome)
-  pub room : next .depth < limit .depth → (m : ℕ) → count ≡ suc m → answer ≡ crossed.On (within next (suc (next .depth)))
-  pub opened : next .depth < limit .depth → (m start : ℕ) (repeats : List Repeat) → count ≡ suc m → next .at .0 ≡ suc start
+  pub room : next .depth < limit .depth → answer ≡ crossed.On (within next (suc (next .depth)))
+  pub opened : next .depth < limit .depth → (r : Repeat) (repeats : List Repeat) → backTo r ≡ body → noteOf r ≡ note
       → Opened (next .depth) bodies toCome repeats
-      → Opened (suc (next .depth)) bodiesAfter toComeAfter (record { start = record { index = start }; left = m } ∷ repeats)
+      → Opened (suc (next .depth)) bodiesAfter toComeAfter (r ∷ repeats)
 
--- the end of a turn: out of the repeat, or back to its body
+-- one of which `count` turns are to run; its body starts at the next row
+pub record Opens (count : ℕ) (next : Place) (bodies toCome bodiesAfter toComeAfter : List ℕ) (answer : Crossed) : Type 0 where
+  pub left : CrossedLeft (suc (next .left)) answer
+  pub opens : (m : ℕ) → count ≡ suc m → Pushes (next .at .0) (2 * m) next bodies toCome bodiesAfter toComeAfter answer
+
+-- the end of a turn: out of the loop, or on to its next turn
 pub record Closes (next : Place) (bodies toCome bodiesAfter toComeAfter : List ℕ) (answer : Crossed) : Type 0 where
   pub left : CrossedLeft (suc (next .left)) answer
   pub none : Opened (next .depth) bodies toCome [] → (answer ≡ stuckThere) × Opened (next .depth) bodiesAfter toComeAfter []
@@ -211,10 +227,55 @@ pub record Closes (next : Place) (bodies toCome bodiesAfter toComeAfter : List �
   pub back : next .depth ≤ limit .depth → (r : Repeat) (n : ℕ) (outer : List Repeat)
       → Opened (next .depth) bodies toCome (r ∷ outer)
       → r .left ≡ suc n
-      → (answer ≡ crossed.On (moved next (suc (r .start .index))))
-      × Opened (next .depth) bodiesAfter toComeAfter (record { start = r .start; left = n } ∷ outer)
+      → (answer ≡ crossed.On (moved next (backTo r)))
+      × Opened (next .depth) bodiesAfter toComeAfter (record { start = r .start; asks = r .asks; left = n } ∷ outer)
+
+-- ---- a loop with a test, at its own row
+
+-- it is under way if it is the innermost: how many turns it may then still do, and the loops around it
+abbrev pub isUnderWay : (at : ℕ) → Repeat → Bool
+isUnderWay at r = r .asks && eqb (r .start .index) at
+
+abbrev pub turnsLeft : (at most : ℕ) → List Repeat → ℕ
+turnsLeft at most [] = most
+turnsLeft at most (r ∷ outer) = cond (isUnderWay at r) (r .left) most
+
+abbrev pub loopsAround : (at : ℕ) → List Repeat → List Repeat
+loopsAround at [] = []
+loopsAround at (r ∷ outer) = cond (isUnderWay at r) outer (r ∷ outer)
+
+pub record Pends (most at depth : ℕ) (bodies toCome : List ℕ) (found : Pending) : Type 0 where
+  pub noted : found .note ≡ 2 * found .left + 1
+  pub left : (repeats : List Repeat) → depth ≤ limit .depth → Opened depth bodies toCome repeats → found .left ≡ turnsLeft at most repeats
+  pub around : (repeats : List Repeat) → depth ≤ limit .depth → Opened depth bodies toCome repeats → Opened (found .depth) bodies toCome (loopsAround at repeats)
+  pub shallow : found .depth ≤ depth
+
+-- ---- the turn stack
+
+-- a word onto it
+pub record PutAway (word height : ℕ) (turns turnsAfter : List ℕ) (moved : Moved) : Type 0 where
+  pub full : length turns ≤ height → (moved ≡ moved-as.Stuck) × (turnsAfter ≡ turns)
+  pub goes : height < length turns → (moved ≡ moved-as.To (height + 1)) × (turnsAfter ≡ set turns height word)
+
+-- the word on top of it
+abbrev pub CountThere : (turns : List ℕ) → (height : ℕ) → Counted → Type 0
+CountThere turns height (counted-as.Is count top) = (height ≡ suc top) × (top < length turns) × (count ≡ getD turns top 0)
+CountThere turns height counted-as.Stuck = (height ≡ 0) ⊎ (length turns < height)
 
 module _ (A : Arithmetic) where
+  -- a count that is kept, if counts are: what it means, and every cell besides
+  pub record KeptAs (setting : Setting A) (count : ℕ) (before after : Buffers A) (moved : Moved) : Type 0 where
+    pub meaning : (whetherMoved moved >>= λ _. through (memoryOf A after)) ≡ countKept A {Why = Stop A} setting count (memoryOf A before)
+    pub sound : Sound A setting after
+    pub unchanged : moved ≡ moved-as.Stuck → after ≡ before
+
+  pub record KeepsCount (count : ℕ) (keeps : Bool) (turns : List ℕ) (height : ℕ) (turnsAfter : List ℕ) (moved : Moved) : Type 0 where
+    pub kept : (setting : Setting A) (store values : List (A .Carrier)) (valueHeight : ℕ) (copied : List (A .Carrier))
+        → setting .keepsCounts ≡ keeps
+        → Sound A setting (record { store = store; values = values; height = valueHeight; turns = turns; turnHeight = height; copied = copied })
+        → KeptAs setting count (record { store = store; values = values; height = valueHeight; turns = turns; turnHeight = height; copied = copied })
+        (record { store = store; values = values; height = valueHeight; turns = turnsAfter; turnHeight = heightAfter moved height; copied = copied }) moved
+
   -- Until row 17 the copies' buffer stands for nothing, so what has been copied is said apart.
   abbrev pub buffersAt : Place → Cells A → (held : List (A .Carrier)) → Buffers A
   buffersAt place cells held =
@@ -354,7 +415,7 @@ module _ (A : Arithmetic) where
       (place .left ≡ 0) × Rests place repeats bodies toCome before after held
 
   -- The rows of blocks change the turn stack and the open repeats alone.
-  pub record BlockRow (table : List ℕ) (rows : ℕ) (beyond : List ℕ) (place : Place) (store : List (A .Carrier))
+  pub record BlockRow (table : List ℕ) (rows : ℕ) (beyond : List ℕ) (keeps : Bool) (place : Place) (store : List (A .Carrier))
       (turns bodies toCome turnsAfter bodiesAfter toComeAfter : List ℕ) (answer : Crossed) : Type 0 where
     pub left : CrossedLeft (place .left) answer
     pub steps : (setting : Setting A) (lines : List TableLine) (repeats : List Repeat) (values copied held : List (A .Carrier))
@@ -362,6 +423,7 @@ module _ (A : Arithmetic) where
         → length lines ≡ rows
         → Jumps lines beyond
         → NoneDue place lines
+        → setting .keepsCounts ≡ keeps
         → Opened (place .depth) bodies toCome repeats
         → place .depth ≤ limit .depth
         → Sound A setting (buffersAt place (cellsOf A store values turns copied) held)
@@ -375,6 +437,7 @@ module _ (A : Arithmetic) where
     pub crosses : (setting : Setting A) (lines rest : List TableLine) (line : TableLine) (repeats : List Repeat) (store values copied held : List (A .Carrier))
         → tableRowOf line ≡ row
         → row .kind ≢ 7
+        → row .kind ≢ whileKind
         → next .at .0 ≡ suc at
         → drop at lines ≡ line ∷ rest
         → Jumps lines beyond
@@ -385,3 +448,50 @@ module _ (A : Arithmetic) where
         → CrossedSays setting (preceding next at) repeats bodiesAfter toComeAfter (cellsOf A store values turns copied)
         (cellsOf A store values turnsAfter copied) held
         (stepAt A setting (stateAt (preceding next at) repeats (cellsOf A store values turns copied) held) (line ∷ rest)) answer
+
+  -- ---- loops with a test and loops on a count
+
+  -- one step at a line that stands at a row, from what the code has done there
+  abbrev pub StepsTo : Setting A → (line : TableLine) (rest : List TableLine) → (at : ℕ) → (next : Place) → List Repeat → (before after : Cells A)
+      → (held : List (A .Carrier)) → (bodies toCome : List ℕ) → Crossed → Type 0
+  StepsTo setting line rest at next repeats before after held bodies toCome answer =
+      CrossedSays setting (preceding next at) repeats bodies toCome before after held
+      (stepAt A setting (stateAt (preceding next at) repeats before held) (line ∷ rest)) answer
+
+  -- the end of a loop with a test after so many turns, among the loops around it
+  pub record EndsLoop (count : ℕ) (keeps : Bool) (beyond : List ℕ) (at : ℕ) (next : Place) (turns turnsAfter : List ℕ) (answer : Crossed) : Type 0 where
+    pub left : CrossedLeft (suc (next .left)) answer
+    pub moved : Moved
+    pub keeping : KeepsCount count keeps turns (next .turns) turnsAfter moved
+    pub goes : (height : ℕ) → moved ≡ moved-as.To height → JumpsTo beyond at (raised next (next .values) height) answer
+    pub sticks : moved ≡ moved-as.Stuck → answer ≡ stuckThere
+
+  -- kind 19, from the branch that its comparison picks
+  pub record AsksLoop (branch : Branch) (most : ℕ) (keeps : Bool) (beyond : List ℕ) (at : ℕ) (next : Place)
+      (turns bodies toCome turnsAfter bodiesAfter toComeAfter : List ℕ) (answer : Crossed) : Type 0 where
+    pub left : CrossedLeft (suc (next .left)) answer
+    pub asks : (setting : Setting A) (lines rest : List TableLine) (f : Test) (m : ℕ) (repeats : List Repeat) (store values copied held : List (A .Carrier))
+        → most ≡ suc m
+        → compared A f store ≡ branchOf branch
+        → next .at .0 ≡ suc at
+        → drop at lines ≡ repeat (while (whether f) m) ∷ rest
+        → Jumps lines beyond
+        → setting .keepsCounts ≡ keeps
+        → Opened (next .depth) bodies toCome repeats
+        → next .depth ≤ limit .depth
+        → Sound A setting (buffersAt next (cellsOf A store values turns copied) held)
+        → StepsTo setting (repeat (while (whether f) m)) rest at next repeats (cellsOf A store values turns copied) (cellsOf A store values turnsAfter copied)
+        held bodiesAfter toComeAfter answer
+
+  -- kind 20, whatever number of turns its loop does at most
+  pub record OnCount (beyond : List ℕ) (at : ℕ) (next : Place) (turns bodies toCome turnsAfter bodiesAfter toComeAfter : List ℕ) (answer : Crossed) : Type 0 where
+    pub left : CrossedLeft (suc (next .left)) answer
+    pub takes : (setting : Setting A) (lines rest : List TableLine) (m : ℕ) (repeats : List Repeat) (store values copied held : List (A .Carrier))
+        → next .at .0 ≡ suc at
+        → drop at lines ≡ repeat (while onTurn m) ∷ rest
+        → Jumps lines beyond
+        → Opened (next .depth) bodies toCome repeats
+        → next .depth ≤ limit .depth
+        → Sound A setting (buffersAt next (cellsOf A store values turns copied) held)
+        → StepsTo setting (repeat (while onTurn m)) rest at next repeats (cellsOf A store values turns copied) (cellsOf A store values turnsAfter copied)
+        held bodiesAfter toComeAfter answer

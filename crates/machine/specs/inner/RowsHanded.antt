@@ -8,7 +8,7 @@ use lib.ListN.{length, getD, drop}
 use Rattle.number.specs.Arithmetic.{Arithmetic}
 use Rattle.sheet.specs.Bounds.{limit}
 use Rattle.sheet.specs.Tree.{ifLine, elseLine, repeat}
-use Rattle.sheet.specs.Rows.{Row}
+use Rattle.sheet.specs.Rows.{Row, whileKind}
 use Rattle.sheet.specs.Sheets.{rowAt}
 use Rattle.table.specs.TableRows.{TableLine, TableTest, tableRowOf}
 use Rattle.machine.specs.Actions.{Setting}
@@ -24,10 +24,12 @@ pub record Holds (buffer : List ℕ) (lines : List TableLine) : Type 0 where
   pub within : placeOfRow (length lines) ≤ length buffer
   pub held : (p : ℕ) (line : TableLine) (rest : List TableLine) → drop p lines ≡ line ∷ rest → rowAt buffer (placeOfRow p) ≡ tableRowOf line
 
--- a comparison's operands are variables that are there
+-- the operands of a comparison, an "if"'s or a loop's, are variables that are there
 pub record Compared (variables : ℕ) (row : Row) : Type 0 where
   pub first : row .kind ≡ 7 → row .a < variables
   pub second : row .kind ≡ 7 → row .b < variables
+  pub firstAsked : row .kind ≡ whileKind → row .a < variables
+  pub secondAsked : row .kind ≡ whileKind → row .b < variables
 
 -- rows that lie in a buffer, of which every straight one and every comparison names only variables and constants that are there: so many of each
 pub record Indexed (buffer : List ℕ) (count variables constants : ℕ) : Type 0 where

@@ -2,6 +2,7 @@
 -- and buffers are the machine's state.
 use Prim.Native.Nat.{ℕ, _+_, _<_}
 use mathlib.Core.Path.{_≡_}
+use mathlib.Core.Bool.{Bool}
 use mathlib.Core.List.{List, []}
 use lib.ListN.{length}
 use Rattle.number.specs.Arithmetic.{Arithmetic}
@@ -22,11 +23,12 @@ module _ (A : Arithmetic) where
 
   -- what the runner is handed: a table's rows with their jumps, a setting, buffers of a run's sizes with empty stacks, and no more open
   -- repeats at any step than it has room for
-  pub record Handed (table : List ℕ) (count : ℕ) (beyond roles constants : List ℕ) (seeds : List (A .Carrier)) (cells : Cells A)
+  pub record Handed (table : List ℕ) (count : ℕ) (beyond : List ℕ) (keeps : Bool) (roles constants : List ℕ) (seeds : List (A .Carrier)) (cells : Cells A)
       (setting : Setting A) (lines : List TableLine) (start : Memory A) : Type 0 where
     pub holds : Holds table lines
     pub rows : length lines ≡ count
     pub jumps : Jumps lines beyond
+    pub keeping : setting .keepsCounts ≡ keeps
     pub suits : Suits A roles constants seeds setting
     pub sizes : RoundSizes A roles seeds (cells .store) (cells .copied)
     pub store : start .store ≡ cells .store
@@ -62,9 +64,9 @@ module _ (A : Arithmetic) where
         (step A setting lines (stateAt A (answer .place) (stands .repeats) after (stands .held))) (answer .ended)
 
   -- the runner's contract
-  abbrev pub RunsRows : (table : List ℕ) → (rows : ℕ) → (beyond roles constants : List ℕ) → (seeds : List (A .Carrier)) → (steps : ℕ)
+  abbrev pub RunsRows : (table : List ℕ) → (rows : ℕ) → (beyond : List ℕ) → (keeps : Bool) → (roles constants : List ℕ) → (seeds : List (A .Carrier)) → (steps : ℕ)
       → (before after : Cells A) → (bodies toCome : List ℕ) → Ran → Type 0
-  RunsRows table rows beyond roles constants seeds steps before after bodies toCome answer =
+  RunsRows table rows beyond keeps roles constants seeds steps before after bodies toCome answer =
       (setting : Setting A) (lines : List TableLine) (start : Memory A)
-      → Handed table rows beyond roles constants seeds before setting lines start
+      → Handed table rows beyond keeps roles constants seeds before setting lines start
       → Leaves setting lines start steps before after bodies toCome answer

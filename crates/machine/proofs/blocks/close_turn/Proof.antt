@@ -19,11 +19,11 @@ returns-2 c =
     let args = c .before .before .args in
     closes-beyond (args .next) (args .bodies .now) (args .to-come .now) (omega (arith, c .if2 .taken, c .before .if1 .left))
 
-mul-turns : tie.Need-mul-turns
-mul-turns c = search needs
+mul-note : tie.Need-mul-note
+mul-note c = search needs
 
-element-copy-out-turns : tie.Need-element-copy-out-turns
-element-copy-out-turns c = search needs
+element-copy-out-note : tie.Need-element-copy-out-note
+element-copy-out-note c = search needs
 
 within-requires : tie.Need-within-requires
 within-requires c κs = search needs
@@ -34,9 +34,6 @@ returns-3 c =
     rw (c .within .ensures)
     (closes-out (args .next) (args .bodies .now) (args .to-come .now) (args .next .depth - 1) (omega (arith, c .before .before .before .before .if1 .left))
     (c .before .if3 .taken))
-
-sub-to-come : tie.Need-sub-to-come
-sub-to-come c = search needs
 
 mul-to-come : tie.Need-mul-to-come
 mul-to-come c = search needs
@@ -67,11 +64,10 @@ close-turn-spec =
     returns
     sub-top
     returns-2
-    mul-turns
-    element-copy-out-turns
+    mul-note
+    element-copy-out-note
     within-requires
     returns-3
-    sub-to-come
     mul-to-come
     element-write-to-come
     mul-body

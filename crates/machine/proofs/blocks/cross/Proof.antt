@@ -1,7 +1,7 @@
 -- `machine::blocks::cross` meets its contract, in either arithmetic: one law for each kind of row.
 use borrow.Author.Needs.{needs}
 use Rattle.machine.proofs.RowLaws.{in-both, in-both-by}
-use Rattle.machine.proofs.CrossLaws.{else-crosses, end-if-crosses, repeat-crosses, end-repeat-crosses, on-turn-crosses, never-crosses}
+use Rattle.machine.proofs.CrossLaws.{else-crosses, end-if-crosses, repeat-crosses, end-repeat-crosses, on-turn-crosses, on-count-crosses, never-crosses}
 use Rattle.machine.proofs.blocks.cross.Statement.{statement}
 use Rattle.machine.proofs.blocks.cross.Tie as tie
 
@@ -40,8 +40,19 @@ returns-5 c =
     in-both-by (c .before .before .before .test-turn .ensures)
     (λ A takes. on-turn-crosses (c .before .before .before .before .before .if5 .taken) takes (c .turn-to .ensures))
 
+on-count-requires : tie.Need-on-count-requires
+on-count-requires c κs = search needs
+
+same-length-2 : tie.Need-same-length-2
+same-length-2 c = search needs
+
 returns-6 : tie.Need-returns-6
-returns-6 c = in-both (λ A. search (never-crosses, needs))
+returns-6 c =
+    let counted : tie.After-on-count = search in
+    in-both-by (counted .on-count .ensures) (λ A counts. on-count-crosses (counted .before .before .before .before .if6 .taken) counts)
+
+returns-7 : tie.Need-returns-7
+returns-7 c = in-both (λ A. search (never-crosses, needs))
 
 pub cross-spec : {M : Type 1} → statement M
 cross-spec =
@@ -58,4 +69,7 @@ cross-spec =
     turn-to-requires
     same-length
     returns-5
-    returns-6)
+    on-count-requires
+    same-length-2
+    returns-6
+    returns-7)

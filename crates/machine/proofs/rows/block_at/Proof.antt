@@ -36,7 +36,16 @@ returns-3 c =
     (c .before .before .if3 .taken)
 
 returns-4 : tie.Need-returns-4
-returns-4 c = (meets-row (c .before .before .before .row-of .ensures) (omega arith) (omega arith) (c .before .before .following .ensures), c .if3 .left)
+returns-4 c =
+    let read : tie.After-row-of = search in
+    let next : tie.After-following = search in
+    (meets-row (read .row-of .ensures) (omega arith) (omega arith) (next .following .ensures), c .if4 .taken)
+
+returns-5 : tie.Need-returns-5
+returns-5 c =
+    let read : tie.After-row-of = search in
+    let next : tie.After-following = search in
+    (meets-row (read .row-of .ensures) (omega arith) (omega arith) (next .following .ensures), c .before .before .if3 .left, c .if4 .left)
 
 pub block-at-spec : {M : Type 1} → statement M
 block-at-spec =
@@ -51,4 +60,5 @@ block-at-spec =
     cast-a
     cast-b
     returns-3
-    returns-4)
+    returns-4
+    returns-5)
