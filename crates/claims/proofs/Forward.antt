@@ -70,6 +70,7 @@ module _ (known : ℕ → Assignment → Activity) (saved : ℕ → Assignment �
 
       mutual
         unfolding numbered valuesNeeded turnsNeeded
+
         pub grown : {t : Tree Assignment Test} {p : ℕ} {s e : Progress A} → Runs A constants t p s e
             → Grown (valuesNeeded (body t p)) (turnsNeeded (body t p)) s e
         grown stay = record { values = omega arith; turns = omega arith }

@@ -155,6 +155,7 @@ module _ (setting : Setting residues) (constants : List ℕ) (variedSets usefulS
 
   mutual
     unfolding Present ForwardAlong BackwardAlong rows
+
     pub swept-agrees : {t : Tree Assignment Test} {p : ℕ} {s e : Progress residues} → Runs residues constants t p s e → length (s .store) ≡ v
         → Present v (length constants) t → Varies t p → Uses t p → (q : ℕ) → q ≡ p + rows t → (full : ℕ → ℕ) (lean : List ℕ) → AgreesAt q full lean
         → Came (entry t p) (e .trace) (s .trace) full lean

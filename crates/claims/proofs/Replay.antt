@@ -178,6 +178,7 @@ module _ (known : ℕ → Assignment → Activity) (saved : ℕ → Assignment �
     module _ (k : ℕ) (covers : Covers known saved at) where
       mutual
         unfolding rows Present ForwardAlong numbered backwardPart
+
         pub retraces : {t : Tree Assignment Test} {p : ℕ} {s e : Progress A} → Runs A (setting .constants) t p s e → Present v k t
             → length (s .store) ≡ v → Requires t p → (originals adjoints : List (A .Carrier))
             → Restored A v (at (p + rows t)) originals adjoints (e .store) → (rest : Table) → Retraces t p s e originals adjoints rest

@@ -94,11 +94,7 @@ fn open_repeat(
 }
 
 // Kind 11, whatever opens the loop.
-fn close_turn(
-    next: Place,
-    bodies: &[usize; MAX_DEPTH],
-    to_come: &mut [usize; MAX_DEPTH],
-) -> Crossed
+fn close_turn(next: Place, bodies: &[usize; MAX_DEPTH], to_come: &mut [usize; MAX_DEPTH]) -> Crossed
     ensures { λ r. ⌜ Closes next (now (bodies .entry)) (now («to_come» .entry)) (now (bodies .entry)) (now («to_come» .exit)) r ⌝ }
 {
     let depth = next.depth;

@@ -65,7 +65,8 @@ returns-3 c =
     let counted : tie.After-count-there = search in
     let matched : tie.After-count = search in
     let top = rw (matched .count .given .1) at (counted .count-there .ensures) in
-    in-both (λ A. counts-full _ (top .0) (top .1) (λ none. c .before .if1 .left (top .2 ∙ none)) (c .if2 .taken))
+    let some : tie.Else1 = search in
+    in-both (λ A. counts-full _ (top .0) (top .1) (λ none. some .if1 .left (top .2 ∙ none)) (c .if2 .taken))
 
 mul-turns-2 : tie.Need-mul-turns-2
 mul-turns-2 c =
