@@ -1,5 +1,5 @@
--- Stacks never stand higher than their rooms, whatever more is lent, and a run that does not get stuck is at no step.
-use Prim.Native.Nat.{ℕ, zero, suc, _+_, _≤_}
+-- Stacks never stand higher than their rooms, whatever more is lent, and a run that ends or stops is stuck at no step.
+use Prim.Native.Nat.{ℕ, zero, suc, _+_, _-_, _≤_}
 use mathlib.Core.Path.{_≡_, refl, sym, ap, subst, _∙_}
 use mathlib.Core.Bool.{Bool, true, false, cond}
 use mathlib.Core.List.{List, [], _∷_}
@@ -8,15 +8,16 @@ use lib.ListN.{length, drop}
 use lib.Dec.{eqb, ltb, ltb→lt}
 use native.Mathlib.Omega.{arith}
 use Rattle.number.specs.Arithmetic.{Arithmetic}
-use Rattle.sheet.specs.Tree.{basic, ifLine, elseLine, endIf, repeat, endRepeat, RowNumber}
+use Rattle.sheet.specs.Tree.{times, while, basic, ifLine, elseLine, endIf, repeat, endRepeat, RowNumber}
 use Rattle.sheet.specs.Rows.{_≔_}
 use Rattle.table.specs.TableRows.{Action, assign, save, takeBack, saveTurn, clear, turnRound, whether, onTurn, turnWord, Origin, TableLine, Table, linesOf}
-use Rattle.machine.specs.Actions.{Attempt, through, halted, stuck, _>>=_, look, replaced, pushed, Memory, Setting, stoppingAt, evaluated, restored, turnedRound, acted, compared, verdictOn, turnTaken, tested}
-use Rattle.machine.specs.Machine.{itsElse, itsEnd, oneMore, seek, Repeat, State, Step, goesOn, ended, stops, sticks, jump, afterAction, branchTo, afterTest, afterTurn, stepAt, step, ifItGoesOn, stateAfter, stepsOf}
+use Rattle.machine.specs.Actions.{Attempt, through, halted, stuck, _>>=_, look, replaced, pushed, Memory, Setting, withTurns, countKept, Stop, stoppingAt, evaluated, restored, turnedRound, acted, compared, verdictOn, turnTaken, tested}
+use Rattle.machine.specs.Machine.{itsElse, itsEnd, oneMore, seek, seekClose, Repeat, State, Step, goesOn, ended, stops, sticks, jump, afterAction, branchTo, afterTest, afterTurn, pending, loopEnds, answered, asked, onCount, stepAt, step, ifItGoesOn, stateAfter}
 use Rattle.machine.proofs.StepsInTurn.{steps-add}
-use Rattle.run.specs.Runs.{runOf}
-use Rattle.run.proofs.MachineFollows.{atRow, more-steps-same, steps-suffice}
+use Rattle.run.specs.Runs.{enoughSteps, runOf}
+use Rattle.run.proofs.MachineFollows.{atRow, more-steps-same}
 use Rattle.claims.proofs.MoreRoom.{withRooms, more-room-same}
+use Rattle.claims.proofs.RunsEnd.{EndsSome, ended-goes-on-nowhere}
 
 -- ---- what holds of whatever goes through
 
@@ -107,9 +108,44 @@ module _ (A : Arithmetic) where
     turn-within s [] h = tt
     turn-within s (r ∷ outer) h = by-left (r .start) (r .left)
       where
-        by-left : (start : RowNumber) (left : ℕ) → FitsAfter (afterTurn A s (record { start = start; left = left } ∷ outer))
+        by-left : (start : RowNumber) (left : ℕ) → FitsAfter (afterTurn A s (record { start = start; asks = r .asks; left = left } ∷ outer))
         by-left start zero = h
         by-left start (suc n) = h
+
+    -- a loop with a test, at its own row
+    kept-within : (count : ℕ) (memory : Memory A) → Fits memory → Through Fits (countKept A {Why = Stop A} setting count memory)
+    kept-within count memory h = by-setting (setting .keepsCounts)
+      where
+        by-setting : (keeps : Bool)
+            → Through Fits
+            (cond keeps (pushed {Why = Stop A} (setting .turnRoom) count (memory .turns) >>= λ turns. through (withTurns A memory turns)) (through memory))
+        by-setting true = pushed-fits Fits (setting .turnRoom) count (memory .turns) _ (λ fits. record { valuesFit = h .valuesFit; turnsFit = fits })
+        by-setting false = h
+
+    end-within : (s : State A) (rest : List TableLine) (outer : List Repeat) (x : Attempt (Stop A) (Memory A)) → Through Fits x
+        → FitsAfter (loopEnds A s rest outer x)
+    end-within s rest outer (through memory) h = jump-within _ memory (oneMore (seekClose 0 rest)) h
+    end-within s rest outer (halted stop) h = tt
+    end-within s rest outer stuck h = tt
+
+    answered-within : (s : State A) (rest : List TableLine) (most n : ℕ) (outer : List Repeat) (answer : Option Bool) → Fits (s .memory)
+        → FitsAfter (answered A setting s rest most n outer answer)
+    answered-within s rest most n outer none h = tt
+    answered-within s rest most n outer (some true) h = h
+    answered-within s rest most n outer (some false) h = end-within s rest outer (countKept A setting (most - suc n) (s .memory)) (kept-within _ (s .memory) h)
+
+    asked-within : (s : State A) (rest : List TableLine) (most left : ℕ) (outer : List Repeat) (answer : Option Bool) → Fits (s .memory)
+        → FitsAfter (asked A setting s rest most left outer answer)
+    asked-within s rest most zero outer answer h = end-within s rest outer (countKept A setting most (s .memory)) (kept-within most (s .memory) h)
+    asked-within s rest most (suc n) outer answer h = answered-within s rest most n outer answer h
+
+    -- one on a count that is taken back
+    count-within : (s : State A) (rest : List TableLine) (counts : List ℕ) → length counts ≤ setting .turnRoom → Fits (s .memory)
+        → FitsAfter (onCount A s rest counts)
+    count-within s rest [] t h = tt
+    count-within s rest (zero ∷ counts) t h =
+        jump-within _ (withTurns A (s .memory) counts) (oneMore (seekClose 0 rest)) (record { valuesFit = h .valuesFit; turnsFit = omega arith })
+    count-within s rest (suc n ∷ counts) t h = record { valuesFit = h .valuesFit; turnsFit = omega arith }
 
     step-at-within : (s : State A) (here : List TableLine) → Fits (s .memory) → FitsAfter (stepAt A setting s here)
     unfolding stepAt tested
@@ -120,7 +156,11 @@ module _ (A : Arithmetic) where
     step-at-within s (ifLine onTurn ∷ rest) h = on-turn-within s rest (s .memory .turns) (h .turnsFit) h
     step-at-within s (elseLine ∷ rest) h = jump-within s (s .memory) (oneMore (seek itsEnd 0 rest)) h
     step-at-within s (endIf ∷ rest) h = h
-    step-at-within s (repeat m ∷ rest) h = h
+    step-at-within s (repeat (times m) ∷ rest) h = h
+    step-at-within s (repeat (while (whether f) m) ∷ rest) h =
+        let now = pending A s (suc m) (s .repeats) in
+        asked-within s rest (suc m) (now .left) (now .outer) (compared A f (s .memory .store)) h
+    step-at-within s (repeat (while onTurn m) ∷ rest) h = count-within s rest (s .memory .turns) (h .turnsFit) h
     step-at-within s (endRepeat ∷ rest) h = turn-within s (s .repeats) h
 
     step-within : (lines : List TableLine) (s : State A) → Fits (s .memory) → FitsAfter (step A setting lines s)
@@ -146,14 +186,14 @@ module _ (A : Arithmetic) where
   -- ---- a run that does not get stuck
 
   module _ (setting : Setting A) (lines : List TableLine) where
-    -- if a run ends and not by being stuck, no number of steps is stuck
-    never-sticks : (most : ℕ) (s : State A) → (stateAfter A most setting lines s ≡ sticks → ⊥)
-        → ((state : State A) → stateAfter A most setting lines s ≡ goesOn state → ⊥)
-        → (n : ℕ) → stateAfter A n setting lines s ≡ sticks → ⊥
-    never-sticks most s unstuck enough n e =
+    -- if so many steps end or stop, no number of steps is stuck
+    never-sticks : (most : ℕ) (s : State A) → EndsSome A (stateAfter A most setting lines s) → (n : ℕ) → stateAfter A n setting lines s ≡ sticks → ⊥
+    never-sticks most s ends n e =
         let swap : most + n ≡ n + most = omega arith in
-        unstuck (sym (more-steps-same A setting lines most n s enough) ∙ ap (λ m. stateAfter A m setting lines s) swap
+        subst (EndsSome A)
+        (sym (more-steps-same A setting lines most n s (ended-goes-on-nowhere A _ ends)) ∙ ap (λ m. stateAfter A m setting lines s) swap
         ∙ steps-add A setting lines n most s ∙ ap (λ x. ifItGoesOn A x (λ next. stateAfter A most setting lines next)) e)
+        ends
 
     heights-within : (values turns : ℕ) → setting .valueRoom ≤ values → setting .turnRoom ≤ turns → (start : State A)
         → Within (setting .valueRoom) (setting .turnRoom) (start .memory) → ((n : ℕ) → stateAfter A n setting lines start ≡ sticks → ⊥)
@@ -162,12 +202,11 @@ module _ (A : Arithmetic) where
     heights-within values turns moreValues moreTurns start h unstuck n s e =
         within-room setting n lines start s h (sym (more-room-same A setting values turns moreValues moreTurns n lines start (unstuck n)) ∙ e)
 
-  -- a table's run that does not get stuck: no number of steps is, and the stacks stay within these rooms whatever more is lent
-  module _ (table : Table) (setting : Setting A) (memory : Memory A) (unstuck : runOf A table setting (atRow A 0 [] memory) ≡ sticks → ⊥) where
+  -- a table's run that ends or stops: no number of steps is stuck, and the stacks stay within these rooms whatever more is lent
+  module _ (table : Table) (setting : Setting A) (memory : Memory A) (ends : EndsSome A (runOf A table setting (atRow A 0 [] memory))) where
     pub table-never-sticks : (n : ℕ) → stateAfter A n setting (linesOf table) (atRow A 0 [] memory) ≡ sticks → ⊥
     unfolding runOf
-    table-never-sticks =
-        never-sticks setting (linesOf table) (suc (stepsOf table)) (atRow A 0 [] memory) unstuck (steps-suffice A table setting memory)
+    table-never-sticks = never-sticks setting (linesOf table) enoughSteps (atRow A 0 [] memory) ends
 
     pub table-heights : Within (setting .valueRoom) (setting .turnRoom) memory → (values turns : ℕ)
         → setting .valueRoom ≤ values → setting .turnRoom ≤ turns

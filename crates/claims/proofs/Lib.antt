@@ -28,9 +28,9 @@ pub mod Undoing
 pub mod BackwardRest
 pub mod Replay
 pub mod MoreRoom
-pub mod Heights
 pub mod IdealRooms
 pub mod RunsEnd
+pub mod Heights
 pub mod RowSeventeen
 pub mod RunInTheLarge
 pub mod WholeRunMatches

@@ -1,6 +1,6 @@
 -- A run of an accepted sheet's table, for any rows saved that include the recorded ones: the forward part executes the sheet, row 17 turns
 -- round, the backward part sweeps back; the whole matches the ideal.
-use Prim.Native.Nat.{ℕ, _+_, _≤_}
+use Prim.Native.Nat.{ℕ, _+_, _≤_, _<_}
 use mathlib.Core.Path.{_≡_, refl, sym, ap, subst, _∙_}
 use mathlib.Core.Bool.{Bool}
 use mathlib.Core.List.{List, [], _++_}
@@ -14,6 +14,7 @@ use Rattle.sheet.specs.Names.{Present}
 use Rattle.sheet.specs.Sheets.{Sheet, variablesOf}
 use Rattle.sheet.proofs.Feasibility.{ReadFor}
 use Rattle.sheet.proofs.NamesPresent.{names-present}
+use Rattle.sheet.proofs.ReadingParts.{accepted}
 use Rattle.sets.specs.Rounds.{setsOf, setAt, required}
 use Rattle.sets.specs.Equations.{Satisfy}
 use Rattle.sets.specs.Transfers.{Activity, requiredAfter}
@@ -23,11 +24,14 @@ use Rattle.sets.proofs.SetsLeast.{required-least}
 use Rattle.table.specs.TableRows.{Table, turnRound, ofTurningRound}
 use Rattle.table.specs.Adjoint.{forwardPart, backwardPart, adjointTable}
 use Rattle.table.specs.Sizes.{valuesNeeded, turnsNeeded}
-use Rattle.machine.specs.Actions.{Attempt, through, halted, _>>=_, Memory, Setting, Stop, acted}
+use Rattle.table.proofs.TableBounds.{marked-run}
+use Rattle.machine.specs.Actions.{Attempt, through, halted, stuck, _>>=_, Memory, Setting, Stop, acted}
 use Rattle.machine.specs.InTheLarge.{tableRun, tableLog}
+use Rattle.machine.specs.Machine.{stepsOf}
 use Rattle.machine.specs.RowReads.{onThrough}
 use Rattle.machine.proofs.AttemptLaws.{Ready, gives, stops}
-use Rattle.run.specs.Runs.{settingOf, startOf, runOf}
+use Rattle.run.specs.Runs.{enoughSteps, settingOf, startOf, runOf}
+use Rattle.run.proofs.EnoughSteps.{enough-steps}
 use Rattle.run.proofs.MachineFollows.{EndsAs, run-follows}
 use Rattle.claims.specs.IdealSweep.{Progress, beginning, execution, swept, firstAdjoints, Ideal, ideal, sweptLog}
 use Rattle.claims.specs.WholeRun.{savedValues, Matches}
@@ -35,7 +39,7 @@ use Rattle.claims.proofs.Runs.{Runs, runs}
 use Rattle.claims.proofs.RunsKeepSizes.{runs-keep}
 use Rattle.claims.proofs.Accounts.{account}
 use Rattle.claims.proofs.ExecutionReady.{executed-ready}
-use Rattle.claims.proofs.Forward.{body, memoryWith, forward-executes}
+use Rattle.claims.proofs.Forward.{marking, body, memoryWith, forward-executes}
 use Rattle.claims.proofs.ForwardLog.{forward-notes-nothing}
 use Rattle.claims.proofs.Undoing.{Covers}
 use Rattle.claims.proofs.Replay.{Requires, Retraces, retraced, cutShort, retraces}
@@ -160,6 +164,21 @@ module _ (A : Arithmetic) where
           ≡ tableRun A setting (backwardPart (variablesOf sheet) marks done) turned
       table-comes = forward-part turning ∙ rw executes refl ∙ ap (λ x. x .outcome) turning-comes
 
+      -- the table isn't stuck in the large, so that the machine notes what it does there (`table-log`)
+      pub table-unstuck : tableRun A setting (forwardPart marks turning) (memory (beginning A starts)) ≡ stuck → ⊥
+      unfolding tableRun settingOf
+      table-unstuck is-stuck = by-end backward-part
+        where
+          by-end : Back → ⊥
+          by-end (retraced originals adjoints then log sw goes) =
+              let goes-through = sym is-stuck ∙ table-comes ∙ ap (λ x. x .outcome) goes in
+              let z : _≡_ {A = ℕ} 0 1 = cc in
+              absurd (omega arith)
+          by-end (cutShort stop log sw goes) =
+              let halts = sym is-stuck ∙ table-comes ∙ ap (λ x. x .outcome) goes in
+              let z : _≡_ {A = ℕ} 0 1 = cc in
+              absurd (omega arith)
+
       ideal-comes : ideal A sheet (setsOf sheet) setting starts
           ≡ (swept A setting (knownIn sheet) (e .trace) adjoints₀ >>= λ adjoints. through (record { progress = e; adjoints = adjoints }))
       unfolding ideal settingOf
@@ -170,13 +189,18 @@ module _ (A : Arithmetic) where
     abbrev Claim : Attempt (Stop A) (Ideal A) → Type 0
     Claim i = Matches A (variablesOf sheet) i (runOf A (adjointTable (variablesOf sheet) marks) setting (startOf A sheet starts))
 
-    -- the machine does what the table does in the large
+    -- the machine has steps enough, and does what the table does in the large
+    short : stepsOf (adjointTable (variablesOf sheet) marks) < enoughSteps
+    short =
+        enough-steps (variablesOf sheet) marks
+        (omega (arith, marked-run (marking (knownIn sheet) saved) (sheet .body) 0, accepted words sheet (is .reads .isRead) .short))
+
     machine-follows : (result : Attempt (Stop A) (Memory A)) → tableRun A setting (forwardPart marks turning) (memory (beginning A starts)) ≡ result
-        → EndsAs A result (runOf A (adjointTable (variablesOf sheet) marks) setting (startOf A sheet starts))
+        → EndsAs A ⊥ result (runOf A (adjointTable (variablesOf sheet) marks) setting (startOf A sheet starts))
     unfolding startOf savedValues adjointTable
     machine-follows result e =
-        subst (λ r. EndsAs A r (runOf A (adjointTable (variablesOf sheet) marks) setting (startOf A sheet starts))) e
-        (run-follows A (adjointTable (variablesOf sheet) marks) setting (memory (beginning A starts)))
+        subst (λ r. EndsAs A ⊥ r (runOf A (adjointTable (variablesOf sheet) marks) setting (startOf A sheet starts))) e
+        (run-follows A ⊥ (adjointTable (variablesOf sheet) marks) setting (memory (beginning A starts)) (λ never. absurd never) short)
 
     ends-alike : (i : Ideal A) (originals : List (A .Carrier)) → length originals ≡ variablesOf sheet → ideal A sheet (setsOf sheet) setting starts ≡ through i
         → tableRun A setting (forwardPart marks turning) (memory (beginning A starts))

@@ -1,6 +1,6 @@
 -- Every run of an accepted sheet matches the ideal, for any choice of further saved rows; the sheet's own table is the choice of none.
 use Prim.Native.Nat.{ℕ, suc, _+_, _≤_}
-use mathlib.Core.Path.{_≡_, refl, ap₂, subst}
+use mathlib.Core.Path.{_≡_, refl, sym, ap, ap₂, subst}
 use mathlib.Core.Bool.{Bool, true, false, _||_, or-false}
 use mathlib.Core.List.{List}
 use lib.ListN.{length}
@@ -11,7 +11,7 @@ use Rattle.sheet.specs.Sheets.{Sheet, variablesOf}
 use Rattle.sheet.proofs.Feasibility.{ReadFor}
 use Rattle.sets.specs.Rounds.{setsOf}
 use Rattle.sets.specs.Marks.{numbered, markBy, markedBy}
-use Rattle.table.specs.Adjoint.{Body, tableBy}
+use Rattle.table.specs.Adjoint.{Body, adjointTable, tableBy}
 use Rattle.table.specs.Sizes.{valuesNeeded, turnsNeeded}
 use Rattle.machine.specs.Machine.{Step}
 use Rattle.run.specs.Runs.{settingOf, startOf, runOf}
@@ -65,7 +65,9 @@ module _ (A : Arithmetic) (sheet : Sheet) where
       → runSaving A noFurther sheet (setsOf sheet) starts seeds valueRoom turnRoom
       ≡ runOf A (tableBy (setsOf sheet) sheet) (settingOf A sheet seeds valueRoom turnRoom) (startOf A sheet starts)
   unfolding runSaving tableBy
-  own-table-run starts seeds valueRoom turnRoom = rw (as-it-is (markedBy (setsOf sheet) sheet)) refl
+  own-table-run starts seeds valueRoom turnRoom =
+      ap (λ t. runOf A (adjointTable (variablesOf sheet) t) (settingOf A sheet seeds valueRoom turnRoom) (startOf A sheet starts))
+      (as-it-is (markedBy (setsOf sheet) sheet))
 
 -- ---- the run
 
@@ -78,7 +80,9 @@ module _ (A : Arithmetic) (words : List ℕ) (sheet : Sheet) (reads : ReadFor (d
       → Like valueRoom turnRoom (runSaving A choice sheet (setsOf sheet) starts seeds valueRoom turnRoom)
   unfolding runSaving markBy
   run-matches choice valueRoom turnRoom room =
-      rw (also-body sheet choice)
+      subst
+      (λ t. Like valueRoom turnRoom (runOf A (adjointTable (variablesOf sheet) t) (settingOf A sheet seeds valueRoom turnRoom) (startOf A sheet starts)))
+      (sym (also-body sheet choice))
       (matches-ideal A {words = words} seeds
       (record {
         reads = reads;

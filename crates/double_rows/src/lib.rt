@@ -28,6 +28,7 @@ use machine::Moved;
 use machine::Place;
 use machine::Ran;
 use machine::Went;
+use machine::blocks::ask_loop;
 use machine::blocks::branch_to;
 use machine::blocks::cross;
 use machine::places::did_to;
@@ -345,14 +346,15 @@ fn block_row(
     table: &[u16],
     rows: usize,
     beyond: &[u16],
+    keeps: bool,
     store: &[f64],
     turns: &mut [u16],
     bodies: &mut [usize; MAX_DEPTH],
-    to_come: &mut [u16; MAX_DEPTH],
+    to_come: &mut [usize; MAX_DEPTH],
     place: Place,
 ) -> Crossed
     requires { ⌜ Indexes (now table) rows (length (now store)) ⌝ }
-    ensures { λ r. ⌜ BlockRow doubles (now (table .entry)) rows (now (beyond .entry)) place (now (store .entry))
+    ensures { λ r. ⌜ BlockRow doubles (now (table .entry)) rows (now (beyond .entry)) keeps place (now (store .entry))
         (now (turns .entry)) (now (bodies .entry)) (now («to_come» .entry)) (now (turns .exit)) (now (bodies .exit)) (now («to_come» .exit)) r ⌝ }
 {
     let at = place.at;
@@ -360,6 +362,20 @@ fn block_row(
         Met::Out(ended) => Crossed::Out(ended),
         Met::Compare(a, b, next) => branch_to(test(store, a, b), beyond, at, next),
         Met::Other(row, next) => cross(row, beyond, at, next, turns, bodies, to_come),
+        Met::Ask(row, next) => {
+            let branch = test(store, Variable(row.a as usize), Variable(row.b as usize));
+            ask_loop(
+                branch,
+                row.d,
+                keeps,
+                beyond,
+                at,
+                next,
+                turns,
+                bodies,
+                to_come,
+            )
+        }
     }
 }
 
@@ -446,6 +462,7 @@ pub fn run_rows(
     table: &[u16],
     rows: usize,
     beyond: &[u16],
+    keeps: bool,
     roles: &[u16],
     constants: &[u16],
     seeds: &[f64],
@@ -454,11 +471,11 @@ pub fn run_rows(
     turns: &mut [u16],
     copied: &mut [f64],
     bodies: &mut [usize; MAX_DEPTH],
-    to_come: &mut [u16; MAX_DEPTH],
+    to_come: &mut [usize; MAX_DEPTH],
     steps: usize,
 ) -> Ran
     requires { ⌜ Indexed (now table) rows (length (now store)) (length (now constants)) ⌝ ∗ ⌜ limit .depth ≤ length (now bodies) ⌝ ∗ ⌜ limit .depth ≤ length (now «to_come») ⌝ }
-    ensures { λ r. ⌜ RunsRows doubles (now (table .entry)) rows (now (beyond .entry)) (now (roles .entry)) (now (constants .entry)) (now (seeds .entry)) steps
+    ensures { λ r. ⌜ RunsRows doubles (now (table .entry)) rows (now (beyond .entry)) keeps (now (roles .entry)) (now (constants .entry)) (now (seeds .entry)) steps
         (cellsOf doubles (now (store .entry)) (now (values .entry)) (now (turns .entry)) (now (copied .entry)))
         (cellsOf doubles (now (store .exit)) (now (values .exit)) (now (turns .exit)) (now (copied .exit)))
         (now (bodies .exit)) (now («to_come» .exit)) r ⌝ }
@@ -488,7 +505,17 @@ pub fn run_rows(
                 Acted::Stuck => break 'run left_at(place, Ended::Stuck),
             }
         }
-        match block_row(table, rows, beyond, store, turns, bodies, to_come, place) {
+        match block_row(
+            table,
+            rows,
+            beyond,
+            keeps,
+            store,
+            turns,
+            bodies,
+            to_come,
+            place,
+        ) {
             Crossed::On(next) => place = next,
             Crossed::Out(ended) => break 'run left_at(place, ended),
         }

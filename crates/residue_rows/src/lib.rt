@@ -25,6 +25,7 @@ use machine::Moved;
 use machine::Place;
 use machine::Ran;
 use machine::Went;
+use machine::blocks::ask_loop;
 use machine::blocks::branch_to;
 use machine::blocks::cross;
 use machine::places::first_place;
@@ -289,14 +290,15 @@ fn block_row(
     table: &[u16],
     rows: usize,
     beyond: &[u16],
+    keeps: bool,
     store: &[u32],
     turns: &mut [u16],
     bodies: &mut [usize; MAX_DEPTH],
-    to_come: &mut [u16; MAX_DEPTH],
+    to_come: &mut [usize; MAX_DEPTH],
     place: Place,
 ) -> Crossed
     requires { ⌜ Indexes (now table) rows (length (now store)) ⌝ }
-    ensures { λ r. ⌜ BlockRow residues (now (table .entry)) rows (now (beyond .entry)) place (now (store .entry))
+    ensures { λ r. ⌜ BlockRow residues (now (table .entry)) rows (now (beyond .entry)) keeps place (now (store .entry))
         (now (turns .entry)) (now (bodies .entry)) (now («to_come» .entry)) (now (turns .exit)) (now (bodies .exit)) (now («to_come» .exit)) r ⌝ }
 {
     let at = place.at;
@@ -304,6 +306,20 @@ fn block_row(
         Met::Out(ended) => Crossed::Out(ended),
         Met::Compare(a, b, next) => branch_to(test(store, a, b), beyond, at, next),
         Met::Other(row, next) => cross(row, beyond, at, next, turns, bodies, to_come),
+        Met::Ask(row, next) => {
+            let branch = test(store, Variable(row.a as usize), Variable(row.b as usize));
+            ask_loop(
+                branch,
+                row.d,
+                keeps,
+                beyond,
+                at,
+                next,
+                turns,
+                bodies,
+                to_come,
+            )
+        }
     }
 }
 
@@ -313,6 +329,7 @@ pub fn run_rows(
     table: &[u16],
     rows: usize,
     beyond: &[u16],
+    keeps: bool,
     roles: &[u16],
     constants: &[u16],
     seeds: &[u32],
@@ -321,11 +338,11 @@ pub fn run_rows(
     turns: &mut [u16],
     copied: &mut [u32],
     bodies: &mut [usize; MAX_DEPTH],
-    to_come: &mut [u16; MAX_DEPTH],
+    to_come: &mut [usize; MAX_DEPTH],
     steps: usize,
 ) -> Ran
     requires { ⌜ Indexed (now table) rows (length (now store)) (length (now constants)) ⌝ ∗ ⌜ limit .depth ≤ length (now bodies) ⌝ ∗ ⌜ limit .depth ≤ length (now «to_come») ⌝ }
-    ensures { λ r. ⌜ RunsRows residues (now (table .entry)) rows (now (beyond .entry)) (now (roles .entry)) (now (constants .entry)) (now (seeds .entry)) steps
+    ensures { λ r. ⌜ RunsRows residues (now (table .entry)) rows (now (beyond .entry)) keeps (now (roles .entry)) (now (constants .entry)) (now (seeds .entry)) steps
         (cellsOf residues (now (store .entry)) (now (values .entry)) (now (turns .entry)) (now (copied .entry)))
         (cellsOf residues (now (store .exit)) (now (values .exit)) (now (turns .exit)) (now (copied .exit)))
         (now (bodies .exit)) (now («to_come» .exit)) r ⌝ }
@@ -355,7 +372,17 @@ pub fn run_rows(
                 Acted::Stuck => break 'run left_at(place, Ended::Stuck),
             }
         }
-        match block_row(table, rows, beyond, store, turns, bodies, to_come, place) {
+        match block_row(
+            table,
+            rows,
+            beyond,
+            keeps,
+            store,
+            turns,
+            bodies,
+            to_come,
+            place,
+        ) {
             Crossed::On(next) => place = next,
             Crossed::Out(ended) => break 'run left_at(place, ended),
         }

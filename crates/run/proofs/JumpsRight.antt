@@ -5,10 +5,10 @@ use mathlib.Core.List.{List, [], _∷_, map}
 use lib.ListN.{length, getD, drop, length-set, set}
 use lib.Seq.{drop-nil}
 use native.Mathlib.Omega.{arith}
-use Rattle.sheet.specs.Tree.{done, one, fork, again, rows, flat, basic, ifLine, elseLine, endIf, repeat, endRepeat}
-use Rattle.sheet.specs.Rows.{less, rowOf, rowOfTest}
+use Rattle.sheet.specs.Tree.{Loop, times, while, done, one, fork, again, rows, flat, basic, ifLine, elseLine, endIf, repeat, endRepeat}
+use Rattle.sheet.specs.Rows.{less, rowOf, rowOfTest, rowOfWhile}
 use Rattle.sets.proofs.KeptPlaces.{Keeps, keeps-all, wider, GoesBlock, goes-block, GoesFork, goes-fork}
-use Rattle.table.specs.TableRows.{TableTest, whether, onTurn, Table, TableLine, tableRowOf, rowOfTableTest, linesOf}
+use Rattle.table.specs.TableRows.{TableTest, whether, onTurn, Table, TableLine, tableRowOf, rowOfTableTest, rowOfTableWhile, linesOf}
 use Rattle.table.specs.inner.MarkedRows.{rowsIn}
 use Rattle.writer.specs.declared.jumps.Branching.the-variants as branching
 use Rattle.writer.specs.inner.JumpsNoted.{Noting, noting, notedBy, branchingOf, notedOver, JumpsNoted}
@@ -67,6 +67,12 @@ unfolding tableRowOf rowOf rowOfTableTest rowOfTest
 if-opens (whether (less a b)) p s = refl
 if-opens onTurn p s = refl
 
+loop-opens : (l : Loop TableTest) (p : ℕ) (s : Noting) → notedBy (branchingOf (tableRowOf (repeat l) .kind)) p s ≡ notedBy branching.Opens p s
+unfolding tableRowOf rowOf rowOfTableWhile rowOfWhile
+loop-opens (times m) p s = refl
+loop-opens (while (whether (less a b)) m) p s = refl
+loop-opens (while onTurn m) p s = refl
+
 split-long : (p : ℕ) (s : Noting) → length (notedBy branching.Splits p s .beyond) ≡ length (s .beyond)
 unfolding notedBy
 split-long p s = length-set (set (s .beyond) (s .top) (suc p)) p (getD (s .beyond) (s .top) 0) ∙ length-set (s .beyond) (s .top) (suc p)
@@ -105,9 +111,9 @@ module _ (f : TableTest) (a b k : Table) (p : ℕ) (s : Noting) where
         );
       }
 
-module _ {m : _} (a k : Table) (p : ℕ) (s : Noting) where
+module _ (l : Loop TableTest) (a k : Table) (p : ℕ) (s : Noting) where
   over-again : let q = suc p + rows a in suc q ≤ length (s .beyond) → (A : Over a (suc p) (notedBy branching.Opens p s))
-      → Over k (suc q) (notedBy branching.Closes q (A .after)) → Over (again m a k) p s
+      → Over k (suc q) (notedBy branching.Closes q (A .after)) → Over (again l a k) p s
   unfolding notedOver notedBy GoesOn rows flat tableRowOf rowOf
   over-again room A K =
       let q = suc p + rows a in
@@ -120,7 +126,10 @@ module _ {m : _} (a k : Table) (p : ℕ) (s : Noting) where
       (wider k₃ (omega arith) (omega arith)) in
       record {
         after = K .after;
-        on = λ rest. A .on (endRepeat ∷ flat k rest) ∙ K .on rest ∙ ap (λ n. overLines rest n (K .after)) upto;
+        on =
+            λ rest.
+            ap (overLines (flat a (endRepeat ∷ flat k rest)) (suc p)) (loop-opens l p s)
+            ∙ A .on (endRepeat ∷ flat k rest) ∙ K .on rest ∙ ap (λ n. overLines rest n (K .after)) upto;
         top = K .top ∙ ap (λ j. getD (s₂ .beyond) j 0) (A .top) ∙ G .around;
         kept = wider (G .whole) (omega arith) (omega arith);
         right = (G .at, goes-on-stays a (suc p) (s₂ .beyond) (K .after .beyond) (G .inside) (A .right), K .right);
@@ -156,7 +165,7 @@ over-tree (again m a k) p s h =
     let q = suc p + rows a in
     let A = over-tree a (suc p) (notedBy branching.Opens p s) (omega (arith, length-set (s .beyond) p (s .top))) in
     let long : length (A .after .beyond) ≡ length (s .beyond) = A .kept .long ∙ length-set (s .beyond) p (s .top) in
-    over-again a k p s (omega arith) A
+    over-again m a k p s (omega arith) A
     (over-tree k (suc q) (notedBy branching.Closes q (A .after)) (omega (arith, length-set (A .after .beyond) (A .after .top) (suc q))))
 
 -- ---- and so line by line

@@ -1,14 +1,17 @@
 -- A table's rows in the large as in machine/specs/InTheLarge.antt, with the number of the table row threaded: a stop names its row. Without the
 -- number it is the run in the large.
 use Prim.Native.Nat.{ℕ, zero, suc, _+_}
-use mathlib.Core.Path.{_≡_, refl, sym}
+use mathlib.Core.Path.{_≡_, refl, sym, ap, _∙_}
 use mathlib.Core.Bool.{Bool, true, false, cond}
+use mathlib.Core.List.{List, [], _∷_}
 use mathlib.Core.Option.{Option, none, some}
+use lib.Dec.{leb, ltb}
+use lib.ListN.{length}
 use Rattle.number.specs.Arithmetic.{Arithmetic}
-use Rattle.sheet.specs.Tree.{done, one, fork, again, rows, RowNumber}
-use Rattle.table.specs.TableRows.{Table}
-use Rattle.machine.specs.Actions.{Attempt, through, halted, stuck, _>>=_, present, turnsThen, Memory, Setting, Stop, stoppingAt, Verdict, acted, tested}
-use Rattle.machine.specs.InTheLarge.{tableRun}
+use Rattle.sheet.specs.Tree.{times, while, done, one, fork, again, rows, RowNumber}
+use Rattle.table.specs.TableRows.{Table, whether, onTurn}
+use Rattle.machine.specs.Actions.{Attempt, through, halted, stuck, _>>=_, present, turnsThen, whileThen, Memory, Setting, withTurns, countKept, Stop, stoppingAt, Verdict, acted, compared, tested}
+use Rattle.machine.specs.InTheLarge.{turnsOr, countThen, tableRun}
 
 module _ (A : Arithmetic) where
   -- a stop with its row of the table
@@ -26,7 +29,7 @@ module _ (A : Arithmetic) where
 
   -- a tree that begins at this row
   unfoldable pub tableRunAt : Setting A → Table → (row : ℕ) → Memory A → ResultAt
-  unfolding acted tested rows turnsThen
+  unfolding acted compared tested rows turnsThen whileThen countThen
   tableRunAt setting done p memory = through memory
   tableRunAt setting (one row k) p memory = do
     next ← inRow p (stoppingAt A (row .origin) (acted A setting (row .action) memory))
@@ -37,8 +40,13 @@ module _ (A : Arithmetic) where
     verdict ← present (tested A f memory)
     next ← cond (verdict .first) (tableRunAt setting a (suc p) (verdict .memory)) (tableRunAt setting b (suc split) (verdict .memory))
     tableRunAt setting k (suc end) next
-  tableRunAt setting (again m a k) p memory =
+  tableRunAt setting (again (times m) a k) p memory =
       turnsThen m (tableRunAt setting a (suc p)) (tableRunAt setting k (suc (suc p + rows a))) memory
+  tableRunAt setting (again (while (whether f) m) a k) p memory =
+      whileThen (λ now. compared A f (now .store)) (tableRunAt setting a (suc p)) (countKept A setting)
+      (tableRunAt setting k (suc (suc p + rows a))) 0 (suc m) memory
+  tableRunAt setting (again (while onTurn m) a k) p memory =
+      countThen A (suc m) (tableRunAt setting a (suc p)) (tableRunAt setting k (suc (suc p + rows a))) memory (memory .turns)
 
   -- ---- without the number
 
@@ -72,6 +80,64 @@ module _ (A : Arithmetic) where
       by-branch true = then-without-row (a (v .memory)) (a′ (v .memory)) k k′ (first (v .memory)) after
       by-branch false = then-without-row (b (v .memory)) (b′ (v .memory)) k k′ (second (v .memory)) after
 
+  -- ---- loops, by a turn and by what follows them
+
+  -- the count that is put away stops nowhere
+  pub kept-in-row : (row : ℕ) (setting : Setting A) (count : ℕ) (memory : Memory A)
+      → inRow row (countKept A setting count memory) ≡ countKept A setting count memory
+  kept-in-row row setting count memory = by (setting .keepsCounts) (ltb (length (memory .turns)) (setting .turnRoom))
+    where
+      by : (keeps fits : Bool)
+          → inRow row (cond keeps (cond fits (through (count ∷ memory .turns)) stuck >>= λ turns. through (withTurns A memory turns)) (through memory))
+          ≡ cond keeps (cond fits (through (count ∷ memory .turns)) stuck >>= λ turns. through (withTurns A memory turns)) (through memory)
+      by true true = refl
+      by true false = refl
+      by false fits = refl
+
+  kept-without-row : (setting : Setting A) (count : ℕ) (memory : Memory A)
+      → withoutRow (countKept A setting count memory) ≡ countKept A setting count memory
+  kept-without-row setting count memory = ap withoutRow (sym (kept-in-row 0 setting count memory)) ∙ without-its-row 0 (countKept A setting count memory)
+
+  module _ (turn rest : Memory A → ResultAt) (turn′ rest′ : Memory A → Attempt (Stop A) (Memory A))
+      (same : (memory : Memory A) → withoutRow (turn memory) ≡ turn′ memory) (after : (memory : Memory A) → withoutRow (rest memory) ≡ rest′ memory) where
+    turns-without-row : (m : ℕ) (memory : Memory A) → withoutRow (turnsThen m turn rest memory) ≡ turnsThen m turn′ rest′ memory
+    unfolding turnsThen
+    turns-without-row zero memory = then-without-row (turn memory) (turn′ memory) rest rest′ (same memory) after
+    turns-without-row (suc m) memory =
+        then-without-row (turn memory) (turn′ memory) (turnsThen m turn rest) (turnsThen m turn′ rest′) (same memory) (turns-without-row m)
+
+    while-without-row : (setting : Setting A) (holds : Memory A → Option Bool) (n left : ℕ) (memory : Memory A)
+        → withoutRow (whileThen holds turn (countKept A setting) rest n left memory) ≡ whileThen holds turn′ (countKept A setting) rest′ n left memory
+    unfolding whileThen
+    while-without-row setting holds n zero memory =
+        then-without-row (countKept A setting n memory) (countKept A setting n memory) rest rest′ (kept-without-row setting n memory) after
+    while-without-row setting holds n (suc left) memory = by-answer (holds memory) (while-without-row setting holds (suc n) left)
+      where
+        by-answer : (answer : Option Bool)
+            → ((now : Memory A) → withoutRow (whileThen holds turn (countKept A setting) rest (suc n) left now)
+            ≡ whileThen holds turn′ (countKept A setting) rest′ (suc n) left now)
+            → withoutRow (present answer >>= λ more. cond more (turn memory >>= whileThen holds turn (countKept A setting) rest (suc n) left)
+            (countKept A setting n memory >>= rest))
+            ≡ (present answer >>= λ more. cond more (turn′ memory >>= whileThen holds turn′ (countKept A setting) rest′ (suc n) left)
+            (countKept A setting n memory >>= rest′))
+        by-answer none later = refl
+        by-answer (some true) later = then-without-row (turn memory) (turn′ memory) _ _ (same memory) later
+        by-answer (some false) later =
+            then-without-row (countKept A setting n memory) (countKept A setting n memory) rest rest′ (kept-without-row setting n memory) after
+
+    count-without-row : (most : ℕ) (memory : Memory A) (counts : List ℕ)
+        → withoutRow (countThen A most turn rest memory counts) ≡ countThen A most turn′ rest′ memory counts
+    unfolding countThen
+    count-without-row most memory [] = refl
+    count-without-row most memory (count ∷ counts) = by-bound (leb count most) count
+      where
+        by-bound : (may : Bool) (n : ℕ)
+            → withoutRow (cond may (turnsOr A n turn rest (withTurns A memory counts)) stuck)
+            ≡ cond may (turnsOr A n turn′ rest′ (withTurns A memory counts)) stuck
+        by-bound false n = refl
+        by-bound true zero = after (withTurns A memory counts)
+        by-bound true (suc n) = turns-without-row n (withTurns A memory counts)
+
   pub run-without-row : (setting : Setting A) (t : Table) (p : ℕ) (memory : Memory A)
       → withoutRow (tableRunAt setting t p memory) ≡ tableRun A setting t memory
   unfolding tableRunAt tableRun
@@ -85,10 +151,15 @@ module _ (A : Arithmetic) where
       fork-without-row (tested A f memory) (tableRunAt setting a (suc p)) (tableRunAt setting b (suc split)) (tableRunAt setting k (suc end))
       (tableRun A setting a) (tableRun A setting b) (tableRun A setting k) (run-without-row setting a (suc p)) (run-without-row setting b (suc split))
       (run-without-row setting k (suc end))
-  run-without-row setting (again zero a k) p memory =
+  run-without-row setting (again (times m) a k) p memory =
       let end = suc p + rows a in
-      then-without-row (tableRunAt setting a (suc p) memory) (tableRun A setting a memory) (tableRunAt setting k (suc end)) (tableRun A setting k)
-      (run-without-row setting a (suc p) memory) (run-without-row setting k (suc end))
-  run-without-row setting (again (suc m) a k) p memory =
-      then-without-row (tableRunAt setting a (suc p) memory) (tableRun A setting a memory) (tableRunAt setting (again m a k) p)
-      (tableRun A setting (again m a k)) (run-without-row setting a (suc p) memory) (run-without-row setting (again m a k) p)
+      turns-without-row (tableRunAt setting a (suc p)) (tableRunAt setting k (suc end)) (tableRun A setting a) (tableRun A setting k)
+      (run-without-row setting a (suc p)) (run-without-row setting k (suc end)) m memory
+  run-without-row setting (again (while (whether f) m) a k) p memory =
+      let end = suc p + rows a in
+      while-without-row (tableRunAt setting a (suc p)) (tableRunAt setting k (suc end)) (tableRun A setting a) (tableRun A setting k)
+      (run-without-row setting a (suc p)) (run-without-row setting k (suc end)) setting (λ now. compared A f (now .store)) 0 (suc m) memory
+  run-without-row setting (again (while onTurn m) a k) p memory =
+      let end = suc p + rows a in
+      count-without-row (tableRunAt setting a (suc p)) (tableRunAt setting k (suc end)) (tableRun A setting a) (tableRun A setting k)
+      (run-without-row setting a (suc p)) (run-without-row setting k (suc end)) (suc m) memory (memory .turns)

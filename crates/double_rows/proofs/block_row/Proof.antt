@@ -1,11 +1,13 @@
 -- `double_rows::block_row` meets its contract.
 use borrow.Author.Needs.{needs}
-use Rattle.machine.proofs.CrossLaws.{first-there, second-there, block-leaves, block-compares, block-crosses}
+use Rattle.machine.proofs.CrossLaws.{first-there, second-there, first-asked, second-asked, block-leaves, block-compares, block-crosses, block-asks}
 use Rattle.double_rows.proofs.block_row.Statement.{statement}
 use Rattle.double_rows.proofs.block_row.Tie as tie
 
 block-at-requires : tie.Need-block-at-requires
-block-at-requires c κs = c .before .before .before .before .before .pre .indexed .within
+block-at-requires c κs =
+    let start : tie.Start = search in
+    start .pre .indexed .within
 
 enum-known-ended : tie.Need-enum-known-ended
 enum-known-ended c = search needs
@@ -15,10 +17,11 @@ enum-known-a c = search needs
 
 test-requires : tie.Need-test-requires
 test-requires c κs =
-    let met = c .before .before .before in
-    let start = met .before .before .before .before .before .before in (
-      first-there (start .args .place) (met .block-at .ensures) (c .before .a .given .1) (start .pre),
-      second-there (start .args .place) (met .block-at .ensures) (c .before .a .given .1) (start .pre),
+    let start : tie.Start = search in
+    let met : tie.After-block-at = search in
+    let matched : tie.After-a = search in (
+      first-there (start .args .place) (met .block-at .ensures) (matched .a .given .1) (start .pre),
+      second-there (start .args .place) (met .block-at .ensures) (matched .a .given .1) (start .pre),
     )
 
 branch-to-requires : tie.Need-branch-to-requires
@@ -30,23 +33,60 @@ enum-known-row c = search needs
 cross-requires : tie.Need-cross-requires
 cross-requires c κs = search needs
 
+enum-known-row-2 : tie.Need-enum-known-row-2
+enum-known-row-2 c = search needs
+
+cast-t27 : tie.Need-cast-t27
+cast-t27 c = search needs
+
+cast-t29 : tie.Need-cast-t29
+cast-t29 c = search needs
+
+test-requires-2 : tie.Need-test-requires-2
+test-requires-2 c κs =
+    let start : tie.Start = search in
+    let met : tie.After-block-at = search in
+    let matched : tie.After-row2 = search in (
+      first-asked (start .args .place) (met .block-at .ensures) (matched .row2 .given .1) (start .pre),
+      second-asked (start .args .place) (met .block-at .ensures) (matched .row2 .given .1) (start .pre),
+    )
+
+ask-loop-requires : tie.Need-ask-loop-requires
+ask-loop-requires c κs = search needs
+
 returns : tie.Need-returns
-returns c = block-leaves (c .before .before .before .block-at .ensures) (c .before .ended .given .1)
+returns c =
+    let met : tie.After-block-at = search in
+    let matched : tie.After-ended = search in
+    block-leaves (met .block-at .ensures) (matched .ended .given .1)
 
 returns-2 : tie.Need-returns-2
 returns-2 c =
-    block-compares (c .before .before .before .before .before .block-at .ensures)
-    (c .before .before .before .a .given .1)
-    (c .before .test .ensures) (c .branch-to .ensures)
+    let met : tie.After-block-at = search in
+    let matched : tie.After-a = search in
+    let tested : tie.After-test = search in
+    block-compares (met .block-at .ensures) (matched .a .given .1) (tested .test .ensures) (c .branch-to .ensures)
 
 same-length : tie.Need-same-length
 same-length c = search needs
 
 returns-3 : tie.Need-returns-3
 returns-3 c =
-    block-crosses (c .before .before .before .before .before .before .before .before .before .block-at .ensures)
-    (c .before .before .before .before .before .before .before .row .given .1)
-    (c .before .before .cross .ensures .doubles)
+    let met : tie.After-block-at = search in
+    let matched : tie.After-row = search in
+    let crossed : tie.After-cross = search in
+    block-crosses (met .block-at .ensures) (matched .row .given .1) (crossed .cross .ensures .doubles)
+
+same-length-2 : tie.Need-same-length-2
+same-length-2 c = search needs
+
+returns-4 : tie.Need-returns-4
+returns-4 c =
+    let met : tie.After-block-at = search in
+    let matched : tie.After-row2 = search in
+    let tested : tie.After-test2 = search in
+    let asked : tie.After-ask-loop = search in
+    block-asks (met .block-at .ensures) (matched .row2 .given .1) (tested .test2 .ensures) (asked .ask-loop .ensures .doubles)
 
 pub block-row-spec : {M : Type 1} → statement M
 block-row-spec =
@@ -59,7 +99,14 @@ block-row-spec =
     branch-to-requires
     enum-known-row
     cross-requires
+    enum-known-row-2
+    cast-t27
+    cast-t29
+    test-requires-2
+    ask-loop-requires
     returns
     returns-2
     same-length
-    returns-3)
+    returns-3
+    same-length-2
+    returns-4)

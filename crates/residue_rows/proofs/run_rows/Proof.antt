@@ -16,9 +16,9 @@ use Rattle.residue_rows.proofs.straight_row.Reads as straight-row-reads
 use Rattle.residue_rows.proofs.block_row.Reads as block-row-reads
 
 abbrev Inv-loop : tie.InvT-loop
-Inv-loop table rows beyond roles constants seeds store₀ values₀ turns₀ copied₀ bodies to-come steps place₀ until store values turns copied place =
+Inv-loop table rows beyond keeps roles constants seeds store₀ values₀ turns₀ copied₀ bodies to-come steps place₀ until store values turns copied place =
     Inner
-    (record { table = table; rows = rows; beyond = beyond; roles = roles; constants = constants; seeds = seeds; steps = steps })
+    (record { table = table; rows = rows; beyond = beyond; keeps = keeps; roles = roles; constants = constants; seeds = seeds; steps = steps })
     until
     place₀
     (cellsOf residues store₀ values₀ turns₀ copied₀)
@@ -28,13 +28,13 @@ Inv-loop table rows beyond roles constants seeds store₀ values₀ turns₀ cop
     to-come
 
 abbrev μ-loop : tie.MeasureT-loop
-μ-loop table rows beyond roles constants seeds store₀ values₀ turns₀ copied₀ bodies to-come steps place₀ until store values turns copied place =
+μ-loop table rows beyond keeps roles constants seeds store₀ values₀ turns₀ copied₀ bodies to-come steps place₀ until store values turns copied place =
     place .left
 
 abbrev Inv-run : tie.InvT-run
-Inv-run table rows beyond roles constants seeds store₀ values₀ turns₀ copied₀ bodies₀ to-come₀ steps place₀ store values turns copied bodies to-come place =
+Inv-run table rows beyond keeps roles constants seeds store₀ values₀ turns₀ copied₀ bodies₀ to-come₀ steps place₀ store values turns copied bodies to-come place =
     Invariant
-    (record { table = table; rows = rows; beyond = beyond; roles = roles; constants = constants; seeds = seeds; steps = steps })
+    (record { table = table; rows = rows; beyond = beyond; keeps = keeps; roles = roles; constants = constants; seeds = seeds; steps = steps })
     (cellsOf residues store₀ values₀ turns₀ copied₀)
     place
     (cellsOf residues store values turns copied)
@@ -42,7 +42,7 @@ Inv-run table rows beyond roles constants seeds store₀ values₀ turns₀ copi
     to-come
 
 abbrev μ-run : tie.MeasureT-run
-μ-run table rows beyond roles constants seeds store₀ values₀ turns₀ copied₀ bodies₀ to-come₀ steps place₀ store values turns copied bodies to-come place =
+μ-run table rows beyond keeps roles constants seeds store₀ values₀ turns₀ copied₀ bodies₀ to-come₀ steps place₀ store values turns copied bodies to-come place =
     place .left
 
 -- what is known once a straight row's code has answered
@@ -205,7 +205,7 @@ same-length-10 c =
 same-length-11 : tie.Need-same-length-11 Inv-loop μ-loop Inv-run μ-run
 same-length-11 c =
     let a : Answered = search in
-    c .before .before .before .before .before .before .block-row .kept .1 .1 .1 .1 .0
+    c .before .before .before .before .before .before .block-row .kept .1 .1 .1 .1 .1 .0
     ∙ a .straight-row .kept .1 .1 .1 .1 .1 .1 .1 .0 ∙ turn a .loop .inv .lengths .turns
     ∙ outer (turn a) .run .inv .lengths .turns
 
