@@ -15,7 +15,7 @@ use Rattle.table.specs.TableRows.{Table, ofTurningRound, turnRound, linesOf}
 use Rattle.table.specs.Adjoint.{Body, forwardPart, backwardPart, adjointTable, tableBy}
 use Rattle.table.specs.Sizes.{valuesNeeded, turnsNeeded, needsBy}
 use Rattle.machine.specs.Actions.{Attempt, through, _>>=_, Memory, Setting}
-use Rattle.machine.specs.Machine.{State, goesOn, sticks}
+use Rattle.machine.specs.Machine.{State, goesOn}
 use Rattle.machine.specs.InTheLarge.{tableRun, tableLog}
 use Rattle.machine.specs.RowReads.{onThrough}
 use Rattle.machine.proofs.LinesPassed.{past-tree}
@@ -26,11 +26,12 @@ use Rattle.claims.specs.WholeRun.{savedValues, recordedIn, Matches}
 use Rattle.claims.specs.ThreeDemands.{ThirdDemand}
 use Rattle.claims.specs.Demands.{lines, afterSteps, NeverStuck, SavedAtTurning, ReplaysInReverse, DemandThree}
 use Rattle.claims.proofs.MachineLogs.{table-log}
+use Rattle.claims.proofs.RunsEnd.{EndsSome}
 use Rattle.claims.proofs.Heights.{Within, table-never-sticks, table-heights}
-use Rattle.claims.proofs.RunInTheLarge.{knownIn, marksOf, turningOf, memoryAt, Prepared, forward-part, forward-notes, ran, keeps-size, turning-notes}
+use Rattle.claims.proofs.RunInTheLarge.{knownIn, marksOf, turningOf, memoryAt, Prepared, forward-part, forward-notes, ran, keeps-size, turning-notes, table-unstuck}
 use Rattle.claims.proofs.WholeRunMatches.{own-run-matches}
 use Rattle.claims.proofs.StartExactlyWhen.{reads-for, by-own-sets}
-use Rattle.claims.proofs.RunsAnswer.{unstuck-run}
+use Rattle.claims.proofs.RunsAnswer.{ends-some}
 use Rattle.claims.proofs.AtTurningRound.{forward-lines, saved-exactly}
 use Rattle.claims.proofs.SavesOnlyRecorded.{saves-only-recorded}
 
@@ -47,8 +48,8 @@ module _ (A : Arithmetic) (words : List ℕ) (sheet : Sheet) (reads : ReadFor (d
         (runOf A (tableBy (setsOf sheet) sheet) (settingIn valueRoom turnRoom) (startOf A sheet starts))
     matches = own-run-matches A words sheet reads starts seeds n valueRoom turnRoom values turns
 
-    unstuck : runOf A (tableBy (setsOf sheet) sheet) (settingIn valueRoom turnRoom) (startOf A sheet starts) ≡ sticks → ⊥
-    unstuck = unstuck-run A v (ideal A sheet (setsOf sheet) (settingIn valueRoom turnRoom) starts) _ matches
+    run-ends : EndsSome A (runOf A (tableBy (setsOf sheet) sheet) (settingIn valueRoom turnRoom) (startOf A sheet starts))
+    run-ends = ends-some A v (ideal A sheet (setsOf sheet) (settingIn valueRoom turnRoom) starts) _ matches
 
   -- ---- never stuck, and never higher than S and T
 
@@ -59,7 +60,7 @@ module _ (A : Arithmetic) (words : List ℕ) (sheet : Sheet) (reads : ReadFor (d
       record {
         unstuck =
             table-never-sticks A (tableBy (setsOf sheet) sheet) (settingIn valueRoom turnRoom) (startOf A sheet starts .memory)
-            (unstuck valueRoom turnRoom values turns);
+            (run-ends valueRoom turnRoom values turns);
         valuesWithin = λ k s e. within k s e .valuesFit;
         turnsWithin = λ k s e. within k s e .turnsFit;
       }
@@ -72,7 +73,7 @@ module _ (A : Arithmetic) (words : List ℕ) (sheet : Sheet) (reads : ReadFor (d
 
       within : (k : ℕ) (s : State A) → afterSteps A sheet (setsOf sheet) starts seeds valueRoom turnRoom k ≡ goesOn s → Within A S T (s .memory)
       within k s e =
-          table-heights A (tableBy (setsOf sheet) sheet) (settingIn S T) (startOf A sheet starts .memory) (unstuck S T (omega arith) (omega arith))
+          table-heights A (tableBy (setsOf sheet) sheet) (settingIn S T) (startOf A sheet starts .memory) (run-ends S T (omega arith) (omega arith))
           (record { valuesFit = omega arith; turnsFit = omega arith }) valueRoom turnRoom values turns k s e
 
   -- ---- an execution that goes through
@@ -123,7 +124,7 @@ module _ (A : Arithmetic) (words : List ℕ) (sheet : Sheet) (reads : ReadFor (d
     unfolding startOf savedValues flat
     saved-at-turning =
         let there = goes-through A setting (lines A sheet (setsOf sheet) starts seeds valueRoom turnRoom) (forwardPart marks done) 0 (flat turning []) []
-        (memory (beginning A starts)) (memory e) table-lines forward-goes in
+        (memory (beginning A starts)) (memory e) table-lines tt forward-goes in
         record {
           steps = there .0;
           state = atRow A (0 + rows (forwardPart marks done)) [] (memory e);
@@ -142,7 +143,8 @@ module _ (A : Arithmetic) (words : List ℕ) (sheet : Sheet) (reads : ReadFor (d
     replays-in-reverse : ReplaysInReverse A sheet (setsOf sheet) starts seeds valueRoom turnRoom e
     unfolding startOf savedValues settingOf
     replays-in-reverse k h =
-        table-log A setting (tableBy (setsOf sheet) sheet) (startOf A sheet starts .memory) k h
+        table-log A setting ⊥ (tableBy (setsOf sheet) sheet) (startOf A sheet starts .memory) (λ never. absurd never)
+        (λ is-stuck. table-unstuck A seeds prepared e executes (ap (λ t. tableRun A setting t (memory (beginning A starts))) (sym table-is) ∙ is-stuck)) k h
         ∙ ap (λ t. tableLog A setting t (memory (beginning A starts))) table-is ∙ forward-notes A seeds prepared turning
         ∙ ap (λ (x : Attempt _ _). onThrough A x (λ m. tableLog A setting turning (memory m))) executes
         ∙ turning-notes A seeds prepared e executes

@@ -1,4 +1,5 @@
--- The claims speak of something: sheets E (a repeat that saves), D (an "if") and C meet every hypothesis, and what is claimed of them isn't empty.
+-- The claims speak of something: sheets E (a repeat that saves), D (an "if"), P (a loop with a test in a repeat, which saves) and C meet every hypothesis, and what is
+-- claimed of them isn't empty.
 use Prim.Native.Nat.{ℕ, zero, suc, _*_, _<_}
 use mathlib.Core.Path.{_≡_, refl, sym}
 use mathlib.Core.Bool.{Bool, true, false, _&&_}
@@ -27,7 +28,7 @@ use Rattle.claims.specs.ExactlyWhen.{Accepted}
 use Rattle.claims.specs.IdealSweep.{Progress, execution, firstAdjoints, sweptLog}
 use Rattle.claims.specs.EquationTwo.{Instance, valueNo, EquationTwo}
 use Rattle.claims.specs.WholeRun.{savedValues, recordedIn}
-use Rattle.claims.specs.WorkedSheets.{wordsC, wordsD, wordsE}
+use Rattle.claims.specs.WorkedSheets.{wordsC, wordsD, wordsE, wordsP}
 use Rattle.claims.specs.ThreeDemands.{SameAsAllSaved, AreResidues}
 use Rattle.claims.specs.Demands.{AuditSolves, DemandThree}
 use Rattle.claims.specs.Balance.{Balances}
@@ -140,7 +141,42 @@ D-turns : ended (execution residues sheetD (5 ∷ 2 ∷ [])) .turns ≡ 1 ∷ []
 unfolding ended sheetD execution
 D-turns = refl
 
--- ---- C, D and E: both directions run, and balance. None of the sums is 0: C's is −5120 modulo 2^32, D's 42, E's 225, as the table of worked sheets has them.
+-- ---- P: the turns done are saved
+
+sheetP : Sheet
+unfolding sheetIn read
+sheetP = sheetIn (read wordsP)
+
+P-is-read : read wordsP ≡ given sheetP
+unfolding sheetP read
+P-is-read = refl
+
+P-accepted : Accepted wordsP sheetP (setsOf sheetP)
+P-accepted = own-sets wordsP sheetP (given-exactly (reading-settled wordsP) sheetP .0 P-is-read)
+
+P-fits : Fits false needsBy wordsP (replicate 100 7) sheetP
+unfolding readFor readIn sheetP tableRows markedBy required
+P-fits = given-exactly (writing-settled false needsBy wordsP (replicate 100 7)) sheetP .0 refl
+
+P-demand-three : DemandThree residues sheetP (setsOf sheetP) (2 ∷ 5 ∷ []) (1 ∷ 0 ∷ []) 6 2
+unfolding sheetP markedBy required valuesNeeded turnsNeeded
+P-demand-three = demand-three residues wordsP sheetP (setsOf sheetP) P-accepted (P-fits .calculable) (2 ∷ 5 ∷ []) (1 ∷ 0 ∷ []) refl 6 2 (omega arith) (omega arith)
+
+progressP : Progress residues
+unfolding ended sheetP execution residue
+progressP = ended (execution residues sheetP (2 ∷ 5 ∷ []))
+
+-- two turns in the repeat's first and none in its second, whose count is on top; so two values are saved, of the six that there is room for
+P-turns : progressP .turns ≡ 0 ∷ 2 ∷ []
+unfolding progressP
+P-turns = refl
+
+P-saves : savedValues residues (recordedIn (setsOf sheetP)) (progressP .trace) ≡ 4 ∷ 2 ∷ []
+unfolding savedValues markBy required progressP
+P-saves = refl
+
+-- ---- C, D, E and P: both directions run, and balance. None of the sums is 0: C's is −5120 modulo 2^32, D's 42, E's 225, P's 480, as the table of worked sheets has
+-- them.
 
 allResidues : List ℕ → Bool
 allResidues [] = true
@@ -173,9 +209,9 @@ sheetC : Sheet
 unfolding sheetIn read
 sheetC = sheetIn (read wordsC)
 
--- buffers that suffice for each of the three
+-- buffers that suffice for each of the four
 roomy : (variables : ℕ) → Lent residues
-roomy variables = record { table = replicate 77 7; values = 7 ∷ 7 ∷ 7 ∷ []; turns = 7 ∷ []; result = replicate (2 * variables) 7 }
+roomy variables = record { table = replicate 81 7; values = replicate 6 7; turns = replicate 2 7; result = replicate (2 * variables) 7 }
 
 C-balances : Balances sheetC (4294967295 ∷ []) (5 ∷ []) (run residues wordsC (2 ∷ []) (4294967295 ∷ []) (roomy 1)) (runTangent residues wordsC (2 ∷ []) (5 ∷ []) (roomy 1))
 unfolding readToRun sheetC roomy allResidues tableRows markedBy required valuesNeeded turnsNeeded tangentRows
@@ -190,4 +226,9 @@ D-balances = balanced-on wordsD (1 ∷ 2 ∷ []) (7 ∷ 9 ∷ []) (6 ∷ 9 ∷ [
 E-balances : Balances sheetE (3 ∷ 9 ∷ []) (5 ∷ 9 ∷ []) (run residues wordsE (1 ∷ 0 ∷ []) (3 ∷ 9 ∷ []) (roomy 2)) (runTangent residues wordsE (1 ∷ 0 ∷ []) (5 ∷ 9 ∷ []) (roomy 2))
 unfolding readToRun sheetE roomy allResidues tableRows markedBy required valuesNeeded turnsNeeded tangentRows
 E-balances = balanced-on wordsE (1 ∷ 0 ∷ []) (3 ∷ 9 ∷ []) (5 ∷ 9 ∷ []) (roomy 2) (roomy 2) sheetE
+    (record { residueSeeds = refl; residueRates = refl; adjointReads = refl; tangentReads = refl })
+
+P-balances : Balances sheetP (3 ∷ 9 ∷ []) (5 ∷ 9 ∷ []) (run residues wordsP (2 ∷ 5 ∷ []) (3 ∷ 9 ∷ []) (roomy 2)) (runTangent residues wordsP (2 ∷ 5 ∷ []) (5 ∷ 9 ∷ []) (roomy 2))
+unfolding readToRun sheetP roomy allResidues tableRows markedBy required valuesNeeded turnsNeeded tangentRows
+P-balances = balanced-on wordsP (2 ∷ 5 ∷ []) (3 ∷ 9 ∷ []) (5 ∷ 9 ∷ []) (roomy 2) (roomy 2) sheetP
     (record { residueSeeds = refl; residueRates = refl; adjointReads = refl; tangentReads = refl })

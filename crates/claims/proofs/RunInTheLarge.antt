@@ -102,7 +102,7 @@ module _ (A : Arithmetic) where
         ≡ (execution A sheet starts >>= λ e. tableRun A setting rest (memory e))
     unfolding settingOf execution
     forward-part rest =
-        forward-executes (knownIn sheet) saved A setting (length (sheet .constants)) (replicate (variablesOf sheet + 2) (A .zero)) []
+        forward-executes (knownIn sheet) saved A setting (length (sheet .constants)) (replicate (variablesOf sheet + 2) (A .zero)) [] refl
         (sheet .body) 0 (beginning A starts) rest present (is .started) enough
 
     pub forward-notes : (rest : Table)
@@ -110,7 +110,7 @@ module _ (A : Arithmetic) where
         ≡ onThrough A (execution A sheet starts) (λ e. tableLog A setting rest (memory e))
     unfolding settingOf execution
     forward-notes rest =
-        forward-notes-nothing A setting (knownIn sheet) saved (length (sheet .constants)) (replicate (variablesOf sheet + 2) (A .zero)) []
+        forward-notes-nothing A setting (knownIn sheet) saved (length (sheet .constants)) (replicate (variablesOf sheet + 2) (A .zero)) [] refl
         (sheet .body) 0 (beginning A starts) rest present (is .started) enough
 
     -- ---- an execution that went through, and the rows from row 17 on

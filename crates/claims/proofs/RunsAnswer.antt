@@ -5,7 +5,6 @@ use mathlib.Core.Logic.{_⊎_, inl, inr}
 use mathlib.Core.Bool.{Bool}
 use mathlib.Core.List.{List, _++_}
 use lib.ListN.{length}
-use native.Mathlib.Omega.{arith}
 use Rattle.number.specs.Arithmetic.{Arithmetic, divides}
 use Rattle.number.specs.Residues.{residues}
 use Rattle.sheet.specs.Tree.{RowNumber}
@@ -17,7 +16,7 @@ use Rattle.table.specs.Adjoint.{tableBy}
 use Rattle.table.specs.Computed.{tableOf}
 use Rattle.table.specs.Sizes.{needsBy}
 use Rattle.machine.specs.Actions.{Attempt, through, halted, stuck, Stop, counting}
-use Rattle.machine.specs.Machine.{Step, sticks}
+use Rattle.machine.specs.Machine.{Step}
 use Rattle.run.specs.Runs.{Lent, Ran, settingOf, independentAdjoints, resultOf, runOf, startOf}
 use Rattle.run.specs.Calls.{lentAfter, ranTo, run}
 use Rattle.claims.specs.IdealSweep.{Ideal, ideal}
@@ -61,7 +60,7 @@ module _ (A : Arithmetic) where
   answers-as sheet starts seeds lent stuck ending m = absurd m
 
   -- what matches the ideal ends or stops
-  ends-some : (v : ℕ) (i : Attempt (Stop A) (Ideal A)) (ending : Step A) → Matches A v i ending → EndsSome A ending
+  pub ends-some : (v : ℕ) (i : Attempt (Stop A) (Ideal A)) (ending : Step A) → Matches A v i ending → EndsSome A ending
   unfolding Matches
   ends-some v (through i) ending m = subst (EndsSome A) (sym (m .ends)) tt
   ends-some v (halted stop) ending m = subst (EndsSome A) (sym (m .1)) tt
@@ -118,13 +117,7 @@ module _ (A : Arithmetic) where
   same-outcome v (halted stop) first second m k = bothStop (m .0) (k .0) stop (m .1) (k .1)
   same-outcome v stuck first second m k = absurd m
 
-  -- what matches the ideal isn't stuck, and neither is the ideal
-  pub unstuck-run : (v : ℕ) (i : Attempt (Stop A) (Ideal A)) (ending : Step A) → Matches A v i ending → ending ≡ sticks → ⊥
-  unfolding Matches
-  unstuck-run v (through i) ending m e = let z : _≡_ {A = ℕ} 0 1 = cc (m .ends) in absurd (omega arith)
-  unstuck-run v (halted stop) ending m e = let z : _≡_ {A = ℕ} 0 1 = cc (m .1) in absurd (omega arith)
-  unstuck-run v stuck ending m e = absurd m
-
+  -- where something matches the ideal, that isn't stuck
   unstuck-ideal : (v : ℕ) (i : Attempt (Stop A) (Ideal A)) (ending : Step A) → Matches A v i ending → i ≡ stuck → ⊥
   unfolding Matches
   unstuck-ideal v i ending m e = subst (λ x. Matches A v x ending) e m

@@ -9,7 +9,7 @@ use native.Mathlib.Omega.{arith}
 use borrow.Author.Tests.{lt-ltb}
 use Rattle.number.specs.Arithmetic.{Arithmetic, divides}
 use Rattle.number.specs.Residues.{residues}
-use Rattle.sheet.specs.Tree.{Tree, done, one, fork, again, rows}
+use Rattle.sheet.specs.Tree.{times, while, Tree, done, one, fork, again, rows}
 use Rattle.sheet.specs.Rows.{Assignment, _≔_, Source, Test}
 use Rattle.sheet.specs.Sheets.{Sheet, variablesOf}
 use Rattle.sheet.proofs.Feasibility.{ReadFor}
@@ -17,7 +17,7 @@ use Rattle.sets.specs.Transfers.{Activity}
 use Rattle.sets.specs.Marks.{Sets, numbered, markBy, markedBy}
 use Rattle.table.specs.TableRows.{turnWord}
 use Rattle.table.specs.Adjoint.{Body}
-use Rattle.machine.specs.Actions.{Attempt, through, halted, stuck, _>>=_, present, replaced, Memory, Stop, Try, evaluated, compared}
+use Rattle.machine.specs.Actions.{Attempt, through, halted, stuck, _>>=_, present, turnsThen, whileThen, replaced, Memory, Stop, Try, evaluated, compared}
 use Rattle.machine.specs.Machine.{Step, ended}
 use Rattle.machine.proofs.AttemptLaws.{went, same-through, was-replaced}
 use Rattle.run.specs.Runs.{runOf}
@@ -39,6 +39,20 @@ module _ (A : Arithmetic) where
       → Executes (attempt >>= next) values
   then-executes attempt next first h = rw (first .goes) (h (first .progress) (first .same))
 
+  -- by what a test answers
+  answer-executes : (test : Option Bool) (carried : Bool → Attempt (StopAt A) (Carried A)) (runs : Bool → Attempt (Stop A) (Progress A)) (end : Carried A)
+      → ((first : Bool) → carried first ≡ through end → Executes (runs first) (end .values))
+      → (present test >>= carried) ≡ through end → Executes (present test >>= runs) (end .values)
+  answer-executes none carried runs end h e = let z : _≡_ {A = ℕ} 0 1 = cc in absurd (omega arith)
+  answer-executes (some first) carried runs end h e = h first e
+
+  -- one of two
+  either-executes : (first : Bool) (ofA ofB : Attempt (StopAt A) (Carried A)) (a b : Attempt (Stop A) (Progress A)) (end : Carried A)
+      → (ofA ≡ through end → Executes a (end .values)) → (ofB ≡ through end → Executes b (end .values))
+      → cond first ofA ofB ≡ through end → Executes (cond first a b) (end .values)
+  either-executes true ofA ofB a b end h other = h
+  either-executes false ofA ofB a b end other h = h
+
   -- by the branch that a test picks
   fork-executes : (test : Option Bool) (ofA ofB : Attempt (StopAt A) (Carried A)) (then : Carried A → Attempt (StopAt A) (Carried A))
       (a b : Attempt (Stop A) (Progress A)) (after : Bool → Progress A → Attempt (Stop A) (Progress A)) (end : Carried A)
@@ -47,13 +61,44 @@ module _ (A : Arithmetic) where
       → Executes (after first between) (end .values))
       → (present test >>= λ first. cond first ofA ofB >>= then) ≡ through end
       → Executes (present test >>= λ first. cond first a b >>= λ between. after first between) (end .values)
-  fork-executes none ofA ofB then a b after end first second rest e = let z : _≡_ {A = ℕ} 0 1 = cc in absurd (omega arith)
-  fork-executes (some true) ofA ofB then a b after end first second rest e =
-      let c = went ofA then end e in
-      then-executes a (after true) (first (c .0) (c .1)) (λ between here. rest true (c .0) between here (c .2))
-  fork-executes (some false) ofA ofB then a b after end first second rest e =
-      let c = went ofB then end e in
-      then-executes b (after false) (second (c .0) (c .1)) (λ between here. rest false (c .0) between here (c .2))
+  fork-executes test ofA ofB then a b after end first second rest =
+      answer-executes test (λ taken. cond taken ofA ofB >>= then) (λ taken. cond taken a b >>= after taken) end
+      (λ taken e.
+      let c = went (cond taken ofA ofB) then end e in
+      then-executes (cond taken a b) (after taken) (either-executes taken ofA ofB a b (c .0) (first (c .0)) (second (c .0)) (c .1))
+      (λ between here. rest taken (c .0) between here (c .2)))
+
+  -- loops, of which each turn and what follows are executed
+  module _ (itsTurn then : Carried A → Attempt (StopAt A) (Carried A)) (turn next : Progress A → Attempt (Stop A) (Progress A)) (end : Carried A)
+      (turns : (now after : Carried A) (before : Progress A) → before .store ≡ now .values → itsTurn now ≡ through after
+      → Executes (turn before) (after .values))
+      (follows : (now : Carried A) (before : Progress A) → before .store ≡ now .values → then now ≡ through end → Executes (next before) (end .values)) where
+    -- a turn, and then what is executed from there
+    turn-executes : (then : Carried A → Attempt (StopAt A) (Carried A)) (next : Progress A → Attempt (Stop A) (Progress A))
+        → ((now : Carried A) (before : Progress A) → before .store ≡ now .values → then now ≡ through end → Executes (next before) (end .values))
+        → (now : Carried A) (before : Progress A) → before .store ≡ now .values → (itsTurn now >>= then) ≡ through end
+        → Executes (turn before >>= next) (end .values)
+    turn-executes then next later now before same e =
+        let c = went (itsTurn now) then end e in
+        then-executes (turn before) next (turns now (c .0) before same (c .1)) (λ between here. later (c .0) between here (c .2))
+
+    turns-execute : (m : ℕ) (now : Carried A) (before : Progress A) → before .store ≡ now .values
+        → turnsThen m itsTurn then now ≡ through end → Executes (turnsThen m turn next before) (end .values)
+    unfolding turnsThen
+    turns-execute zero = turn-executes then next follows
+    turns-execute (suc m) = turn-executes (turnsThen m itsTurn then) (turnsThen m turn next) (turns-execute m)
+
+    -- the count that is put away leaves the values as they are
+    while-executes : (holds : List (A .Carrier) → Option Bool) (n left : ℕ) (now : Carried A) (before : Progress A) → before .store ≡ now .values
+        → whileThen (λ now. holds (now .values)) itsTurn (λ n now. through now) then n left now ≡ through end
+        → Executes (whileThen (λ now. holds (now .store)) turn (λ n now. through (turned A n now)) next n left before) (end .values)
+    unfolding whileThen
+    while-executes holds n zero now before same e = follows now (turned A n before) same e
+    while-executes holds n (suc left) now before same e =
+        rw (ap holds same)
+        (answer-executes (holds (now .values)) _ _ end
+        (λ more.
+        either-executes more _ _ _ _ end (turn-executes _ _ (while-executes holds (suc n) left) now before same) (follows now (turned A n before) same)) e)
 
   passed-in : {X : Type 0} (row : ℕ) (m : Try A X) (x : X) → stoppingIn A row m ≡ through x → m ≡ through x
   passed-in row (through y) x e = cc
@@ -123,16 +168,18 @@ module _ (A : Arithmetic) where
           (λ next went. carried-executes a (suc p) (suc row) now next before same went)
           (λ next went. carried-executes b (suc split) (suc rowSplit) now next before same went)
           (λ first next between here went. carried-executes k (suc (suc split + rows b)) after next end (turned A (turnWord first) between) here went) e)
-      carried-executes (again zero a k) p row now end before same e =
-          let c = went (plainRun A v constants (body a (suc p)) (suc row) now) _ end e in
-          then-executes (executed A constants a (suc p) before) (executed A constants k (suc (suc p + rows a)))
-          (carried-executes a (suc p) (suc row) now (c .0) before same (c .1))
-          (λ next here. carried-executes k (suc (suc p + rows a)) (suc (suc row + tangentRows v (body a (suc p)))) (c .0) end next here (c .2))
-      carried-executes (again (suc m) a k) p row now end before same e =
-          let c = went (plainRun A v constants (body a (suc p)) (suc row) now) _ end e in
-          then-executes (executed A constants a (suc p) before) (executed A constants (again m a k) p)
-          (carried-executes a (suc p) (suc row) now (c .0) before same (c .1))
-          (λ next here. carried-executes (again m a k) p row (c .0) end next here (c .2))
+      carried-executes (again (times m) a k) p row now end before same e =
+          let after = suc (suc p + rows a) in
+          let rowAfter = suc (suc row + tangentRows v (body a (suc p))) in
+          turns-execute (plainRun A v constants (body a (suc p)) (suc row)) (plainRun A v constants (body k after) rowAfter)
+          (executed A constants a (suc p)) (executed A constants k after) end
+          (carried-executes a (suc p) (suc row)) (λ now before. carried-executes k after rowAfter now end before) m now before same e
+      carried-executes (again (while f m) a k) p row now end before same e =
+          let after = suc (suc p + rows a) in
+          let rowAfter = suc (suc row + tangentRows v (body a (suc p))) in
+          while-executes (plainRun A v constants (body a (suc p)) (suc row)) (plainRun A v constants (body k after) rowAfter)
+          (executed A constants a (suc p)) (executed A constants k after) end
+          (carried-executes a (suc p) (suc row)) (λ now before. carried-executes k after rowAfter now end before) (compared A f) 0 (suc m) now before same e
 
   -- ---- whole runs of a sheet
 

@@ -135,7 +135,7 @@ module _ (A : Arithmetic) (words : List ℕ) (starts rates : List (A .Carrier)) 
   unfolding tangentStart
   never-sticks sheet ready =
       table-never-sticks A (tangentBy (setsOf sheet) sheet) (tangentSetting A sheet rates) (tangentStart A sheet starts rates .memory)
-      (λ stuck. subst (EndsSome A) stuck (ends sheet ready))
+      (ends sheet ready)
 
   -- a finished run has executed the sheet, which keeps the number of its values
   executed-size : (sheet : Sheet) (progress : Progress A) → execution A sheet starts ≡ through progress → length (progress .store) ≡ length starts

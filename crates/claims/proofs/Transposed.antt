@@ -21,7 +21,7 @@ use Rattle.machine.specs.Actions.{through}
 use Rattle.claims.specs.IdealSweep.{Progress, performed}
 use Rattle.claims.specs.EquationTwo.{Trace}
 use Rattle.claims.specs.Balance.{sumBelow}
-use Rattle.claims.proofs.Runs.{Runs, stay, row, left, right, last, more, was-performed}
+use Rattle.claims.proofs.Runs.{Runs, stay, row, left, right, last, more, tested, Rounds, spent, fails, turns, was-performed}
 use Rattle.claims.proofs.EquationTwoSolved.{firstFactor, secondFactor, share, fullStep, fullSwept}
 use Rattle.claims.proofs.FullRates.{OperandPresent, operands-present, rateRead, rateGiven, rateStep, ratesAlong}
 
@@ -163,15 +163,25 @@ performed-named variables constants p (d ≔ source) s m performs present named 
     let was = was-performed residues constants p d source s m performs in
     subst (λ (now : Progress residues). Named variables (length constants) (now .trace)) (sym (was .goes)) (present, named)
 
-pub runs-named : {t : Tree Assignment Test} {p : ℕ} {s e : Progress residues} {constants : List ℕ} (variables : ℕ) → Runs residues constants t p s e
-    → Present variables (length constants) t → Named variables (length constants) (s .trace) → Named variables (length constants) (e .trace)
-unfolding Present
-runs-named variables stay present named = named
-runs-named {constants = constants} variables (row performs rest) present named =
-    runs-named variables rest (present .1) (performed-named variables constants _ _ _ _ performs (present .0) named)
-runs-named variables (left test first rest) present named =
-    runs-named variables rest (present .3) (runs-named variables first (present .1) named)
-runs-named variables (right test second rest) present named =
-    runs-named variables rest (present .3) (runs-named variables second (present .2) named)
-runs-named variables (last body rest) present named = runs-named variables rest (present .1) (runs-named variables body (present .0) named)
-runs-named variables (more body rest) present named = runs-named variables rest present (runs-named variables body (present .0) named)
+mutual
+  unfolding Present
+
+  pub runs-named : {t : Tree Assignment Test} {p : ℕ} {s e : Progress residues} {constants : List ℕ} (variables : ℕ) → Runs residues constants t p s e
+      → Present variables (length constants) t → Named variables (length constants) (s .trace) → Named variables (length constants) (e .trace)
+  runs-named variables stay present named = named
+  runs-named {constants = constants} variables (row performs rest) present named =
+      runs-named variables rest (present .1) (performed-named variables constants _ _ _ _ performs (present .0) named)
+  runs-named variables (left test first rest) present named =
+      runs-named variables rest (present .3) (runs-named variables first (present .1) named)
+  runs-named variables (right test second rest) present named =
+      runs-named variables rest (present .3) (runs-named variables second (present .2) named)
+  runs-named variables (last body rest) present named = runs-named variables rest (present .1) (runs-named variables body (present .0) named)
+  runs-named variables (more body rest) present named = runs-named variables rest present (runs-named variables body (present .0) named)
+  runs-named variables (tested loop rest) present named = runs-named variables rest (present .1) (rounds-named variables loop (present .0) named)
+
+  rounds-named : {f : Test} {a : Tree Assignment Test} {p most count : ℕ} {s e : Progress residues} {constants : List ℕ} (variables : ℕ)
+      → Rounds residues constants f a p most s count e → Present variables (length constants) a → Named variables (length constants) (s .trace)
+      → Named variables (length constants) (e .trace)
+  rounds-named variables spent present named = named
+  rounds-named variables (fails test) present named = named
+  rounds-named variables (turns test body later) present named = rounds-named variables later present (runs-named variables body present named)

@@ -1,5 +1,6 @@
 -- "Sheets worked by hand": the starred ones as one table, what is stated of each, and what the definitions find. Where 01 leaves out one of
--- W, R, S and T, it is the one that its rules give. Tangents are 02's, and so are H's numbers; J is ours, and so are K to N, of §4, and the sums of §5.
+-- W, R, S and T, it is the one that its rules give. Tangents are 02's, and so are H's numbers; J is ours, and so are K to N, of §4, the sums of §5, and O to
+-- R, of §6.
 use Prim.Native.Nat.{ℕ}
 use mathlib.Core.Bool.{Bool, true, false}
 use mathlib.Core.List.{List, [], _∷_, _++_, map}
@@ -64,7 +65,7 @@ pub record Worked : Type 0 where
   pub tangents : List TangentTrial
   pub balances : List BalanceTrial
 
--- of these three more is proved than the table says
+-- of these four more is proved than the table says
 abbrev pub wordsC : List ℕ
 wordsC = 1 ∷ 3 ∷ 0 ∷ 3 ∷ 10 ∷ 0 ∷ 3 ∷ 0 ∷ 5 ∷ 0 ∷ 0 ∷ 0 ∷ 11 ∷ 0 ∷ 0 ∷ 0 ∷ []
 
@@ -73,6 +74,9 @@ wordsD = 2 ∷ 3 ∷ 0 ∷ 0 ∷ 4 ∷ 7 ∷ 0 ∷ 1 ∷ 0 ∷ 1 ∷ 0 ∷ 1 ∷
 
 abbrev pub wordsE : List ℕ
 wordsE = 2 ∷ 3 ∷ 0 ∷ 0 ∷ 4 ∷ 10 ∷ 0 ∷ 2 ∷ 0 ∷ 5 ∷ 1 ∷ 0 ∷ 0 ∷ 3 ∷ 0 ∷ 0 ∷ 1 ∷ 11 ∷ 0 ∷ 0 ∷ 0 ∷ []
+
+abbrev pub wordsP : List ℕ
+wordsP = 2 ∷ 3 ∷ 0 ∷ 0 ∷ 6 ∷ 10 ∷ 0 ∷ 2 ∷ 0 ∷ 19 ∷ 3 ∷ 0 ∷ 1 ∷ 5 ∷ 0 ∷ 0 ∷ 0 ∷ 11 ∷ 0 ∷ 0 ∷ 0 ∷ 3 ∷ 1 ∷ 1 ∷ 1 ∷ 11 ∷ 0 ∷ 0 ∷ 0 ∷ []
 
 abbrev pub starred : List Worked
 starred =
@@ -427,6 +431,179 @@ starred =
           ∷ [];
       balances = [];
     }
+    -- O: a loop with a test, that its test ends after three turns, that its bound ends, and that does no turn. Roles 3 0, while x < y, at most 5: x := x + x
+    ∷ record {
+      words = 2 ∷ 3 ∷ 0 ∷ 0 ∷ 3 ∷ 19 ∷ 5 ∷ 0 ∷ 1 ∷ 3 ∷ 0 ∷ 0 ∷ 0 ∷ 11 ∷ 0 ∷ 0 ∷ 0 ∷ [];
+      quotientAt = none;
+      sizes = record { longest = 11; rows = 10; values = 0; turns = 1 };
+      recorded = [];
+      table =
+          (10
+          ∷ 19 ∷ 5 ∷ 0 ∷ 1
+          ∷ 3 ∷ 0 ∷ 0 ∷ 0
+          ∷ 11 ∷ 0 ∷ 0 ∷ 0
+          ∷ 17 ∷ 0 ∷ 0 ∷ 0
+          ∷ 20 ∷ 0 ∷ 0 ∷ 0
+          ∷ 1 ∷ 4 ∷ 2 ∷ 0
+          ∷ 16 ∷ 2 ∷ 0 ∷ 0
+          ∷ 3 ∷ 2 ∷ 2 ∷ 4
+          ∷ 3 ∷ 2 ∷ 2 ∷ 4
+          ∷ 11 ∷ 0 ∷ 0 ∷ 0
+          ∷ [])
+          ∷ [];
+      trials =
+          record { starts = 1 ∷ 8 ∷ []; seeds = 1 ∷ 0 ∷ []; result = whole (8 ∷ 8 ∷ 8 ∷ 0 ∷ []) }
+          ∷ record { starts = 1 ∷ 1000 ∷ []; seeds = 1 ∷ 0 ∷ []; result = whole (32 ∷ 1000 ∷ 32 ∷ 0 ∷ []) }
+          ∷ record { starts = 9 ∷ 8 ∷ []; seeds = 1 ∷ 0 ∷ []; result = whole (9 ∷ 8 ∷ 1 ∷ 0 ∷ []) }
+          ∷ [];
+      audits = [];
+      tangents =
+          record {
+            table = 4 ∷ 19 ∷ 5 ∷ 0 ∷ 1 ∷ 3 ∷ 2 ∷ 2 ∷ 2 ∷ 3 ∷ 0 ∷ 0 ∷ 0 ∷ 11 ∷ 0 ∷ 0 ∷ 0 ∷ [];
+            starts = 1 ∷ 8 ∷ [];
+            rates = 1 ∷ 0 ∷ [];
+            result = whole (8 ∷ 8 ∷ 8 ∷ 0 ∷ []);
+          }
+          ∷ record {
+            table = 4 ∷ 19 ∷ 5 ∷ 0 ∷ 1 ∷ 3 ∷ 2 ∷ 2 ∷ 2 ∷ 3 ∷ 0 ∷ 0 ∷ 0 ∷ 11 ∷ 0 ∷ 0 ∷ 0 ∷ [];
+            starts = 9 ∷ 8 ∷ [];
+            rates = 1 ∷ 0 ∷ [];
+            result = whole (9 ∷ 8 ∷ 1 ∷ 0 ∷ []);
+          }
+          ∷ [];
+      balances = record { starts = 1 ∷ 8 ∷ []; seeds = 3 ∷ 0 ∷ []; rates = 5 ∷ 9 ∷ []; sum = 120 } ∷ [];
+    }
+    -- P: one inside a repeat, which saves. Roles 3 0, repeat 2 of { while x < y, at most 3: x := x × x; y := y + y }. From 2 and 5 the loop does two turns and then
+    -- none, from 2 and 300 all three and then one
+    ∷ record {
+      words = wordsP;
+      quotientAt = none;
+      sizes = record { longest = 19; rows = 20; values = 6; turns = 2 };
+      recorded = 2 ∷ [];
+      table =
+          (20
+          ∷ 10 ∷ 0 ∷ 2 ∷ 0
+          ∷ 19 ∷ 3 ∷ 0 ∷ 1
+          ∷ 12 ∷ 0 ∷ 0 ∷ 0
+          ∷ 5 ∷ 0 ∷ 0 ∷ 0
+          ∷ 11 ∷ 0 ∷ 0 ∷ 0
+          ∷ 3 ∷ 1 ∷ 1 ∷ 1
+          ∷ 11 ∷ 0 ∷ 0 ∷ 0
+          ∷ 17 ∷ 0 ∷ 0 ∷ 0
+          ∷ 10 ∷ 0 ∷ 2 ∷ 0
+          ∷ 16 ∷ 3 ∷ 0 ∷ 0
+          ∷ 20 ∷ 0 ∷ 0 ∷ 0
+          ∷ 13 ∷ 0 ∷ 0 ∷ 0
+          ∷ 1 ∷ 4 ∷ 2 ∷ 0
+          ∷ 16 ∷ 2 ∷ 0 ∷ 0
+          ∷ 5 ∷ 5 ∷ 0 ∷ 4
+          ∷ 3 ∷ 2 ∷ 2 ∷ 5
+          ∷ 5 ∷ 5 ∷ 0 ∷ 4
+          ∷ 3 ∷ 2 ∷ 2 ∷ 5
+          ∷ 11 ∷ 0 ∷ 0 ∷ 0
+          ∷ 11 ∷ 0 ∷ 0 ∷ 0
+          ∷ [])
+          ∷ [];
+      trials =
+          record { starts = 2 ∷ 5 ∷ []; seeds = 1 ∷ 0 ∷ []; result = whole (16 ∷ 20 ∷ 32 ∷ 0 ∷ []) }
+          ∷ record { starts = 2 ∷ 300 ∷ []; seeds = 1 ∷ 0 ∷ []; result = whole (65536 ∷ 1200 ∷ 524288 ∷ 0 ∷ []) }
+          ∷ [];
+      audits = [];
+      tangents =
+          record {
+            table =
+                10
+                ∷ 10 ∷ 0 ∷ 2 ∷ 0
+                ∷ 19 ∷ 3 ∷ 0 ∷ 1
+                ∷ 5 ∷ 5 ∷ 0 ∷ 2
+                ∷ 5 ∷ 4 ∷ 0 ∷ 2
+                ∷ 3 ∷ 2 ∷ 5 ∷ 4
+                ∷ 5 ∷ 0 ∷ 0 ∷ 0
+                ∷ 11 ∷ 0 ∷ 0 ∷ 0
+                ∷ 16 ∷ 3 ∷ 0 ∷ 0
+                ∷ 3 ∷ 1 ∷ 1 ∷ 1
+                ∷ 11 ∷ 0 ∷ 0 ∷ 0
+                ∷ [];
+            starts = 2 ∷ 5 ∷ [];
+            rates = 1 ∷ 0 ∷ [];
+            result = whole (16 ∷ 20 ∷ 32 ∷ 0 ∷ []);
+          }
+          ∷ [];
+      balances = record { starts = 2 ∷ 5 ∷ []; seeds = 3 ∷ 9 ∷ []; rates = 5 ∷ 9 ∷ []; sum = 480 } ∷ [];
+    }
+    -- Q: one inside an "if". Roles 3 0 1, if x < y { while x < y, at most 4: x := x × z } else { x := x + z }
+    ∷ record {
+      words = 3 ∷ 3 ∷ 0 ∷ 1 ∷ 0 ∷ 7 ∷ 7 ∷ 0 ∷ 0 ∷ 1 ∷ 19 ∷ 4 ∷ 0 ∷ 1 ∷ 5 ∷ 0 ∷ 0 ∷ 2 ∷ 11 ∷ 0 ∷ 0 ∷ 0 ∷ 8 ∷ 0 ∷ 0 ∷ 0 ∷ 3 ∷ 0 ∷ 0 ∷ 2 ∷ 9 ∷ 0 ∷ 0 ∷ 0 ∷ [];
+      quotientAt = none;
+      sizes = record { longest = 10; rows = 27; values = 4; turns = 2 };
+      recorded = 2 ∷ [];
+      table = [];
+      trials =
+          record { starts = 2 ∷ 20 ∷ 3 ∷ []; seeds = 1 ∷ 0 ∷ 0 ∷ []; result = whole (54 ∷ 20 ∷ 3 ∷ 27 ∷ 0 ∷ 54 ∷ []) }
+          ∷ record { starts = 1 ∷ 1000 ∷ 2 ∷ []; seeds = 1 ∷ 0 ∷ 0 ∷ []; result = whole (16 ∷ 1000 ∷ 2 ∷ 16 ∷ 0 ∷ 32 ∷ []) }
+          ∷ record { starts = 9 ∷ 8 ∷ 3 ∷ []; seeds = 1 ∷ 0 ∷ 0 ∷ []; result = whole (12 ∷ 8 ∷ 3 ∷ 1 ∷ 0 ∷ 1 ∷ []) }
+          ∷ [];
+      audits = [];
+      tangents =
+          record {
+            table =
+                11
+                ∷ 7 ∷ 0 ∷ 0 ∷ 1
+                ∷ 19 ∷ 4 ∷ 0 ∷ 1
+                ∷ 5 ∷ 7 ∷ 2 ∷ 3
+                ∷ 5 ∷ 6 ∷ 0 ∷ 5
+                ∷ 3 ∷ 3 ∷ 7 ∷ 6
+                ∷ 5 ∷ 0 ∷ 0 ∷ 2
+                ∷ 11 ∷ 0 ∷ 0 ∷ 0
+                ∷ 8 ∷ 0 ∷ 0 ∷ 0
+                ∷ 3 ∷ 3 ∷ 3 ∷ 5
+                ∷ 3 ∷ 0 ∷ 0 ∷ 2
+                ∷ 9 ∷ 0 ∷ 0 ∷ 0
+                ∷ [];
+            starts = 2 ∷ 20 ∷ 3 ∷ [];
+            rates = 1 ∷ 0 ∷ 1 ∷ [];
+            result = whole (54 ∷ 20 ∷ 3 ∷ 81 ∷ 0 ∷ 0 ∷ []);
+          }
+          ∷ [];
+      balances = record { starts = 2 ∷ 20 ∷ 3 ∷ []; seeds = 5 ∷ 0 ∷ 0 ∷ []; rates = 2 ∷ 0 ∷ 3 ∷ []; sum = 1080 } ∷ [];
+    }
+    -- R: a loop that may do no turn, so that what its body would overwrite is still varied behind it and useful before it. Roles 1 0 2,
+    -- { while x < n, at most 2: x := n }; y := x
+    ∷ record {
+      words = 3 ∷ 1 ∷ 0 ∷ 2 ∷ 0 ∷ 4 ∷ 19 ∷ 2 ∷ 0 ∷ 1 ∷ 1 ∷ 0 ∷ 1 ∷ 0 ∷ 11 ∷ 0 ∷ 0 ∷ 0 ∷ 1 ∷ 2 ∷ 0 ∷ 0 ∷ [];
+      quotientAt = none;
+      sizes = record { longest = 6; rows = 11; values = 0; turns = 1 };
+      recorded = [];
+      table =
+          (11
+          ∷ 19 ∷ 2 ∷ 0 ∷ 1
+          ∷ 1 ∷ 0 ∷ 1 ∷ 0
+          ∷ 11 ∷ 0 ∷ 0 ∷ 0
+          ∷ 1 ∷ 2 ∷ 0 ∷ 0
+          ∷ 17 ∷ 0 ∷ 0 ∷ 0
+          ∷ 1 ∷ 6 ∷ 5 ∷ 0
+          ∷ 16 ∷ 5 ∷ 0 ∷ 0
+          ∷ 3 ∷ 3 ∷ 3 ∷ 6
+          ∷ 20 ∷ 0 ∷ 0 ∷ 0
+          ∷ 16 ∷ 3 ∷ 0 ∷ 0
+          ∷ 11 ∷ 0 ∷ 0 ∷ 0
+          ∷ [])
+          ∷ [];
+      trials =
+          record { starts = 5 ∷ 2 ∷ 0 ∷ []; seeds = 0 ∷ 0 ∷ 1 ∷ []; result = whole (5 ∷ 2 ∷ 5 ∷ 1 ∷ 0 ∷ 0 ∷ []) }
+          ∷ record { starts = 1 ∷ 2 ∷ 0 ∷ []; seeds = 0 ∷ 0 ∷ 1 ∷ []; result = whole (2 ∷ 2 ∷ 2 ∷ 0 ∷ 0 ∷ 0 ∷ []) }
+          ∷ [];
+      audits = [];
+      tangents =
+          record {
+            table = 6 ∷ 19 ∷ 2 ∷ 0 ∷ 1 ∷ 16 ∷ 3 ∷ 0 ∷ 0 ∷ 1 ∷ 0 ∷ 1 ∷ 0 ∷ 11 ∷ 0 ∷ 0 ∷ 0 ∷ 1 ∷ 5 ∷ 3 ∷ 0 ∷ 1 ∷ 2 ∷ 0 ∷ 0 ∷ [];
+            starts = 5 ∷ 2 ∷ 0 ∷ [];
+            rates = 1 ∷ 0 ∷ 0 ∷ [];
+            result = whole (5 ∷ 2 ∷ 5 ∷ 0 ∷ 0 ∷ 1 ∷ []);
+          }
+          ∷ [];
+      balances = record { starts = 5 ∷ 2 ∷ 0 ∷ []; seeds = 0 ∷ 0 ∷ 7 ∷ []; rates = 3 ∷ 0 ∷ 0 ∷ []; sum = 21 } ∷ [];
+    }
     ∷ []
 
 -- ---- what is compared
@@ -533,7 +710,7 @@ recordedRows (one m k) = alsoThis (m .saved) (recordedRows k)
     alsoThis true rest = m .row .index ∷ rest
     alsoThis false rest = rest
 recordedRows (fork f a b k) = recordedRows a ++ recordedRows b ++ recordedRows k
-recordedRows (again n a k) = recordedRows a ++ recordedRows k
+recordedRows (again l a k) = recordedRows a ++ recordedRows k
 
 unfoldable pub recordedFound : Answer Sheet → List ℕ
 unfolding marked recordedRows

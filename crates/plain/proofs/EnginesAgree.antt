@@ -4,16 +4,17 @@ use Prim.Native.Nat.{ℕ, zero, suc, _+_, _<_}
 use mathlib.Core.Path.{_≡_, refl, sym, ap, subst, _∙_}
 use mathlib.Core.Bool.{Bool, true, false, cond}
 use mathlib.Core.List.{List, []}
+use mathlib.Core.Option.{Option, some}
 use lib.ListN.{length, set, length-set}
 use native.Mathlib.Omega.{arith}
 use Rattle.number.specs.Arithmetic.{Arithmetic, divides}
-use Rattle.sheet.specs.Tree.{done, one, fork, again, rows, RowNumber}
+use Rattle.sheet.specs.Tree.{times, while, done, one, fork, again, rows, RowNumber}
 use Rattle.sheet.specs.Rows.{Assignment, _≔_, Source, copy, fixed, sum, difference, product, negation, quotient}
 use Rattle.sheet.specs.Names.{SourcePresent, AssignmentPresent, SourceFeasible, AssignmentFeasible}
 use Rattle.sets.specs.Transfers.{Activity}
 use Rattle.table.specs.TableRows.{t, u, Action, assign, clear, Operation, itself, ratingA, ratingB, rating, ratingOverB, ratingOverBAgain, Origin, ofRow, Table}
 use Rattle.table.specs.Adjoint.{Body, put}
-use Rattle.machine.specs.Actions.{Attempt, through, halted, stuck, _>>=_, fromOutcome, replaced, Memory, Setting, Try, evaluated, withStore, acted, Stop, tested}
+use Rattle.machine.specs.Actions.{Attempt, through, halted, stuck, _>>=_, fromOutcome, turnsThen, whileThen, replaced, Memory, Setting, Try, evaluated, withStore, countKept, acted, Stop, compared, tested}
 use Rattle.machine.proofs.AttemptLaws.{bind-assoc, bind-same, Ready, gives, stops, from-outcome-ready}
 use Rattle.machine.proofs.PlaceLaws.{look-there}
 use Rattle.run.proofs.Originals.{evaluated-originals, compared-originals, replaced-original, replaced-alone}
@@ -105,6 +106,30 @@ module _ (A : Arithmetic) where
     either-agrees : (first : Bool) {a b : ResultAt A} {a′ b′ : CarriedResult} → Agree a a′ → Agree b b′ → Agree (cond first a b) (cond first a′ b′)
     either-agrees true x y = x
     either-agrees false x y = y
+
+    -- loops, of which each turn and what follows agree
+    module _ (turn next : Memory A → ResultAt A) (itsTurn then : Carried A → CarriedResult)
+        (turns : (now : Carried A) (x y : A .Carrier) → Sized A v now → Agree (turn (memoryOf now x y)) (itsTurn now))
+        (follows : (now : Carried A) (x y : A .Carrier) → Sized A v now → Agree (next (memoryOf now x y)) (then now)) where
+      turns-agree : (m : ℕ) (now : Carried A) (x y : A .Carrier) → Sized A v now
+          → Agree (turnsThen m turn next (memoryOf now x y)) (turnsThen m itsTurn then now)
+      unfolding turnsThen
+      turns-agree zero now x y sized = agree-then next then (turns now x y sized) follows
+      turns-agree (suc m) now x y sized = agree-then _ _ (turns now x y sized) (turns-agree m)
+
+      -- where nothing is put away at the end
+      while-agrees : (holds : Memory A → Option Bool) (itsHolds : Carried A → Option Bool) (ends : ℕ → Memory A → ResultAt A)
+          → ((now : Carried A) (x y : A .Carrier) → Sized A v now → (more : Bool) × (holds (memoryOf now x y) ≡ some more) × (itsHolds now ≡ some more))
+          → ((n : ℕ) (memory : Memory A) → ends n memory ≡ through memory)
+          → (n m : ℕ) (now : Carried A) (x y : A .Carrier) → Sized A v now
+          → Agree (whileThen holds turn ends next n m (memoryOf now x y)) (whileThen itsHolds itsTurn (λ n now. through now) then n m now)
+      unfolding whileThen
+      while-agrees holds itsHolds ends asks at-end n zero now x y sized = rw (at-end n (memoryOf now x y)) (follows now x y sized)
+      while-agrees holds itsHolds ends asks at-end n (suc m) now x y sized =
+          let answer = asks now x y sized in
+          rw (answer .1, answer .2)
+          (either-agrees (answer .0) (agree-then _ _ (turns now x y sized) (while-agrees holds itsHolds ends asks at-end (suc n) m))
+          (rw (at-end n (memoryOf now x y)) (follows now x y sized)))
 
   module _ (setting : Setting A) (left : Memory A) where
     abbrev v : ℕ
@@ -386,29 +411,37 @@ module _ (A : Arithmetic) where
         (λ rate x y. value-agrees row rest own (p + rowsOver (d ≔ source) known) d source now rate x y then sized (named .0) (named .1) feasible (omega arith) h)
         p x y source known (named .1) feasible refl)
 
-    -- ---- a body
+    -- ---- a body, where a loop with a test puts nothing away
 
-    pub agrees : (body : Body) (p : ℕ) (now : Carried A) (x y : A .Carrier) → BodyKnown v k body → BodyFeasible (divides A) body → Sized A v now
-        → Agree v left (tableRunAt A setting (tangentTable v body) p (memory now x y)) (plainRun A v (setting .constants) body p now)
-    unfolding tableRunAt tangentTable tangentRow plainRun BodyKnown BodyFeasible tangentRows rows tested
-    agrees done p now x y named feasible sized = bothGo now x y sized refl refl
-    agrees (one m kk) p now x y named feasible sized =
-        assignment-agrees (m .assignment) (m .row) (m .known) (tangentTable v kk) p now x y _ sized (named .0) (feasible .0)
-        (λ next x y still. agrees kk (p + rowsOver (m .assignment) (m .known)) next x y (named .1) (feasible .1) still)
-    agrees (fork f a b kk) p now x y named feasible sized =
-        let way = compared-ready A (setting .constants) v (f .test) (now .values) (sized .values) (named .0) in
-        let split = suc p + rows (tangentTable v a) in
-        rw (compared-originals A v k (now .values) _ (sized .values) (f .test) (named .0), way .1)
-        (agree-then v left _ _
-        (either-agrees v left (way .0) (agrees a (suc p) now x y (named .1) (feasible .0) sized) (agrees b (suc split) now x y (named .2) (feasible .1) sized))
-        (λ next x y still. agrees kk (suc (suc split + rows (tangentTable v b))) next x y (named .3) (feasible .2) still))
-    agrees (again zero a kk) p now x y named feasible sized =
-        agree-then v left _ _ (agrees a (suc p) now x y (named .0) (feasible .0) sized)
-        (λ next x y still. agrees kk _ next x y (named .1) (feasible .1) still)
-    agrees (again (suc m) a kk) p now x y named feasible sized =
-        agree-then v left _ _ (agrees a (suc p) now x y (named .0) (feasible .0) sized)
-        (λ next x y still. agrees (again m a kk) p next x y named feasible still)
+    module _ (keepsNone : setting .keepsCounts ≡ false) where
+      pub agrees : (body : Body) (p : ℕ) (now : Carried A) (x y : A .Carrier) → BodyKnown v k body → BodyFeasible (divides A) body → Sized A v now
+          → Agree v left (tableRunAt A setting (tangentTable v body) p (memory now x y)) (plainRun A v (setting .constants) body p now)
+      unfolding tableRunAt tangentTable tangentRow plainRun BodyKnown BodyFeasible tangentRows rows tested
+      agrees done p now x y named feasible sized = bothGo now x y sized refl refl
+      agrees (one m kk) p now x y named feasible sized =
+          assignment-agrees (m .assignment) (m .row) (m .known) (tangentTable v kk) p now x y _ sized (named .0) (feasible .0)
+          (λ next x y still. agrees kk (p + rowsOver (m .assignment) (m .known)) next x y (named .1) (feasible .1) still)
+      agrees (fork f a b kk) p now x y named feasible sized =
+          let way = compared-ready A (setting .constants) v (f .test) (now .values) (sized .values) (named .0) in
+          let split = suc p + rows (tangentTable v a) in
+          rw (compared-originals A v k (now .values) _ (sized .values) (f .test) (named .0), way .1)
+          (agree-then v left _ _
+          (either-agrees v left (way .0) (agrees a (suc p) now x y (named .1) (feasible .0) sized) (agrees b (suc split) now x y (named .2) (feasible .1) sized))
+          (λ next x y still. agrees kk (suc (suc split + rows (tangentTable v b))) next x y (named .3) (feasible .2) still))
+      agrees (again (times m) a kk) p now x y named feasible sized =
+          let end = suc p + rows (tangentTable v a) in
+          turns-agree v left (tableRunAt A setting (tangentTable v a) (suc p)) (tableRunAt A setting (tangentTable v kk) (suc end)) _ _
+          (λ now x y. agrees a (suc p) now x y (named .0) (feasible .0)) (λ now x y. agrees kk (suc end) now x y (named .1) (feasible .1)) m now x y sized
+      agrees (again (while f m) a kk) p now x y named feasible sized =
+          let end = suc p + rows (tangentTable v a) in
+          while-agrees v left (tableRunAt A setting (tangentTable v a) (suc p)) (tableRunAt A setting (tangentTable v kk) (suc end)) _ _
+          (λ now x y. agrees a (suc p) now x y (named .0) (feasible .0)) (λ now x y. agrees kk (suc end) now x y (named .1) (feasible .1))
+          (λ now. compared A (f .test) (now .store)) (λ now. compared A (f .test) (now .values)) (countKept A setting)
+          (λ now x y still.
+          let way = compared-ready A (setting .constants) v (f .test) (now .values) (still .values) (named .2) in
+          (way .0, compared-originals A v k (now .values) _ (still .values) (f .test) (named .2) ∙ way .1, way .1))
+          (λ n memory. rw keepsNone) 0 (suc m) now x y sized
 
-    pub body-unstuck : (body : Body) (p : ℕ) (now : Carried A) → BodyKnown v k body → BodyFeasible (divides A) body → Sized A v now
-        → plainRun A v (setting .constants) body p now ≡ stuck → ⊥
-    body-unstuck body p now named feasible sized = agree-unstuck v left (agrees body p now (A .zero) (A .zero) named feasible sized)
+      pub body-unstuck : (body : Body) (p : ℕ) (now : Carried A) → BodyKnown v k body → BodyFeasible (divides A) body → Sized A v now
+          → plainRun A v (setting .constants) body p now ≡ stuck → ⊥
+      body-unstuck body p now named feasible sized = agree-unstuck v left (agrees body p now (A .zero) (A .zero) named feasible sized)

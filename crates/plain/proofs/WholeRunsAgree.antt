@@ -2,7 +2,7 @@
 -- stops at the very row that the plain engine's stop names. It never sticks, and never goes on.
 use Prim.Native.Nat.{ℕ, _≤_}
 use mathlib.Core.Path.{_≡_, refl, sym, ap, subst, _∙_}
-use mathlib.Core.Bool.{Bool, cond}
+use mathlib.Core.Bool.{Bool, false, cond}
 use mathlib.Core.List.{List, [], _∷_, _++_, append-assoc}
 use lib.ListN.{length, take}
 use lib.Seq.{take-at, drop-at}
@@ -17,12 +17,13 @@ use Rattle.sets.specs.Marks.{Sets, markBy, markedBy}
 use Rattle.machine.specs.Actions.{through, halted, stuck, Memory, Setting, Stop, counting}
 use Rattle.machine.specs.Machine.{State, Step, goesOn, ended, stops, sticks}
 use Rattle.machine.proofs.RoleLaws.{counting-length}
-use Rattle.run.specs.Runs.{runOf}
+use Rattle.run.specs.Runs.{settingKeeping, runOf}
 use Rattle.run.proofs.RowsInTheLarge.{ResultAt}
 use Rattle.run.proofs.MachineFollows.{atRow, EndsAt, run-follows-at}
 use Rattle.run.proofs.KnownNames.{BodyKnown, body-known}
 use Rattle.tangent.specs.Tangent.{tangentBy}
 use Rattle.tangent.specs.TangentRuns.{startingRates, tangentSetting, tangentStart, tangentResult}
+use Rattle.tangent.proofs.TangentBounds.{tangent-short}
 use Rattle.plain.specs.Plain.{Carried, plainBy, plainResult}
 use Rattle.plain.proofs.FeasibleBodies.{BodyFeasible, body-feasible}
 use Rattle.plain.proofs.CarriedStores.{Sized, storeOf}
@@ -59,6 +60,10 @@ module _ (A : Arithmetic) where
     abbrev setting : Setting A
     setting = tangentSetting A sheet rates
 
+    nothing-kept : setting .keepsCounts ≡ false
+    unfolding tangentSetting settingKeeping
+    nothing-kept = refl
+
     start-is : tangentStart A sheet starts rates ≡ atRow A 0 [] (memoryOf A v begins first (A .zero) (A .zero))
     unfolding tangentStart
     start-is =
@@ -80,11 +85,11 @@ module _ (A : Arithmetic) where
         rw (values-left now x y sized, drop-at (now .values) (now .rates ++ (x ∷ y ∷ [])) v (sized .values))
         (ap (λ l. now .values ++ l) (counting-front A isDependent (sheet .roles) (now .rates) (x ∷ y ∷ []) (omega arith)))
 
-    agree-ends : (out : Step A) {ran : ResultAt A} {carried : CarriedResult A} → Agree A v begins ran carried → EndsAt A ran out
+    agree-ends : (out : Step A) {ran : ResultAt A} {carried : CarriedResult A} → Agree A v begins ran carried → EndsAt A ⊥ ran out
         → SameEnd sheet out carried
     agree-ends out (bothGo now x y sized e f) ends =
-        bothEnd (memoryOf A v begins now x y) now (subst (λ r. EndsAt A r out) e ends) f (values-left now x y sized) (same-result begins now x y sized)
-    agree-ends out (bothStop row stop e f) ends = bothHalt row stop (subst (λ r. EndsAt A r out) e ends) f
+        bothEnd (memoryOf A v begins now x y) now (subst (λ r. EndsAt A ⊥ r out) e ends) f (values-left now x y sized) (same-result begins now x y sized)
+    agree-ends out (bothStop row stop e f) ends = bothHalt row stop (subst (λ r. EndsAt A ⊥ r out) e ends) f
 
     module _ (words : List ℕ) (is : ReadFor (divides A) words sheet) (sets : Sets) (many : length starts ≡ v) where
       body-named : BodyKnown v (length (sheet .constants)) (markedBy sets sheet)
@@ -104,14 +109,14 @@ module _ (A : Arithmetic) where
           let start = memoryOf A v begins first (A .zero) (A .zero) in
           subst (λ s. SameEnd sheet (runOf A (tangentBy sets sheet) setting s) (plainBy A sets sheet starts rates)) (sym start-is)
           (agree-ends (runOf A (tangentBy sets sheet) setting (atRow A 0 [] start))
-          (agrees A setting begins (markedBy sets sheet) 0 first (A .zero) (A .zero) body-named body-done (first-sized many))
-          (run-follows-at A (tangentBy sets sheet) setting start))
+          (agrees A setting begins nothing-kept (markedBy sets sheet) 0 first (A .zero) (A .zero) body-named body-done (first-sized many))
+          (run-follows-at A ⊥ (tangentBy sets sheet) setting start (λ never. absurd never) (tangent-short words sheet (is .isRead) sets)))
 
       -- ---- what that says of each
 
       pub plain-unstuck : plainBy A sets sheet starts rates ≡ stuck → ⊥
       unfolding tangentSetting plainBy
-      plain-unstuck = body-unstuck A setting begins (markedBy sets sheet) 0 first body-named body-done (first-sized many)
+      plain-unstuck = body-unstuck A setting begins nothing-kept (markedBy sets sheet) 0 first body-named body-done (first-sized many)
 
       -- a step that is no end and no stop is not what the run comes to
       only-ends : (out : Step A) → ((memory : Memory A) → out ≡ ended memory → ⊥) → ((row : RowNumber) (stop : Stop A) → out ≡ stops row stop → ⊥)

@@ -28,9 +28,8 @@ use Rattle.table.specs.inner.Plans.{PlanMade}
 use Rattle.table.proofs.PlanLaws.{planned-few}
 use Rattle.table.proofs.TableBounds.{table-deep, marked-deep}
 use Rattle.writer.specs.inner.JumpsNoted.{TableNoted}
-use Rattle.machine.specs.Actions.{through, halted, stuck, Memory}
-use Rattle.machine.specs.Machine.{Step, ended}
-use Rattle.machine.specs.InTheLarge.{tableRun}
+use Rattle.machine.specs.Actions.{Memory}
+use Rattle.machine.specs.Machine.{ended}
 use Rattle.machine.specs.inner.Buffers.{Cells, cellsOf}
 use Rattle.machine.specs.inner.RowsHanded.{Indexed}
 use Rattle.machine.specs.declared.Ended.{Ended}
@@ -40,7 +39,6 @@ use Rattle.run.specs.declared.Counted.the-variants as counted
 use Rattle.run.specs.inner.TableRuns.{RunsTable}
 use Rattle.run.specs.inner.CallSteps.{NoRoom, HasRoom, Answers, ResultFits, halvesOf, answerAt, resultAt}
 use Rattle.run.specs.inner.CallAnswers.{TableInPlace, Ready, RunRoom, AdjointRanTo}
-use Rattle.run.proofs.MachineFollows.{Result, EndsAs, run-follows}
 use Rattle.run.proofs.RunsCopy.{adjoint-copies}
 use Rattle.run.proofs.EnoughSteps.{adjoint-steps}
 use Rattle.run.proofs.TableNames.{adjoint-known}
@@ -123,11 +121,6 @@ module _ (A : Arithmetic) where
 
   -- ---- the end
 
-  ended-in-the-large : (x : Result A) (out : Step A) (memory : Memory A) → EndsAs A x out → out ≡ ended memory → x ≡ through memory
-  ended-in-the-large (through after) out memory ends e = cc
-  ended-in-the-large (halted stop) out memory ends e = let stopped = ends .1 in cc
-  ended-in-the-large stuck out memory ends e = cc
-
   -- whatever the run leaves in its store and of the copies, the result can be read off
   pub result-fits : {roles : List ℕ} {starts seeds before copied result : List (A .Carrier)} → RunRoom A roles starts seeds before copied result
       → (store : List (A .Carrier)) {copies : List (A .Carrier)} → length store ≡ length before → length copies ≡ length copied
@@ -173,8 +166,7 @@ module _ (A : Arithmetic) where
       ended-copies : (memory : Memory A) → runOf A (job .table) (job .setting) (job .start) ≡ ended memory → length (memory .copied) ≡ variablesOf sheet
       unfolding startOf settingOf tableOf
       ended-copies memory e =
-          adjoint-copies A (job .setting) refl (marked sheet) start memory (omega (arith, room .startsFit, roles-counted, start-length sheet starts))
-          (ended-in-the-large (tableRun A (job .setting) (tableOf sheet) start) _ memory (run-follows A (tableOf sheet) (job .setting) start) e)
+          adjoint-copies A (job .setting) refl (marked sheet) start memory (omega (arith, room .startsFit, roles-counted, start-length sheet starts)) e
 
       -- the copies that the machine holds are those in the buffer
       held-is : (held : List (A .Carrier)) → length held ≡ variablesOf sheet → (held ≡ start .copied) ⊎ (held ≡ after .copied) → held ≡ after .copied
@@ -196,7 +188,7 @@ module _ (A : Arithmetic) where
       -- from each step of a call's run to what it comes to
       pub adjoint-comes-to : {store : List (A .Carrier)} {end : Ended} {answer : Reply} {left : List (A .Carrier)}
           → store ≡ overwritten starts before
-          → RunsTable A table rows beyond roles constants seeds (cellsOf A store values turns copied) after end
+          → RunsTable A table rows beyond true roles constants seeds (cellsOf A store values turns copied) after end
           → left
           ≡ resultAt end
           (halvesOf A (after .copied) counted.Independents roles (take (length (after .store) - length roles) (drop (length roles) (after .store))))

@@ -1,6 +1,6 @@
 -- From what the runner leaves to what a call answers and leaves, of any table, start and result.
 use Prim.Native.Nat.{ℕ, suc, _-_, _≤_}
-use mathlib.Core.Path.{_≡_, refl, sym, ap, subst, _∙_}
+use mathlib.Core.Path.{_≡_, refl, sym, ap, _∙_}
 use mathlib.Core.Logic.{_⊎_}
 use mathlib.Core.Bool.{Bool}
 use mathlib.Core.List.{List, []}
@@ -19,13 +19,12 @@ use Rattle.machine.specs.inner.RunsRows.{firstState, Handed, RunsRows}
 use Rattle.machine.specs.declared.Ran.{Ran}
 use Rattle.machine.specs.declared.Ended.{Ended}
 use Rattle.machine.specs.declared.Ended.the-variants as ended-as
-use Rattle.run.specs.Runs.{Lent, Job, settingKeeping, runOf, ranOf}
+use Rattle.run.specs.Runs.{Lent, Job, settingKeeping, enoughSteps, runOf, ranOf}
 use Rattle.run.specs.Calls.{lentAfter, ranTo}
-use Rattle.run.specs.inner.TableRuns.{enoughSteps, EndsLike, cleared, RunsTable}
+use Rattle.run.specs.inner.TableRuns.{EndsLike, cleared, RunsTable}
 use Rattle.run.specs.inner.CallSteps.{answerAt, resultAt}
 use Rattle.run.specs.inner.CallAnswers.{Ready, RunRoom, StacksCleared, RanTo}
 use Rattle.run.proofs.RunEnds.{ends-like}
-use Rattle.run.proofs.EnoughSteps.{enough-steps-same}
 use Rattle.run.proofs.OpenRepeats.{table-shallow}
 
 -- a table that the runner has room for its open repeats and steps enough for
@@ -64,15 +63,15 @@ module _ (A : Arithmetic) where
   -- ---- a table's run
 
   -- from the runner between cleared stacks
-  pub runs-table : {table : List ℕ} {rows : ℕ} {beyond roles constants : List ℕ} {seeds store values copied : List (A .Carrier)} {turns : List ℕ}
+  pub runs-table : {table : List ℕ} {rows : ℕ} {beyond : List ℕ} {keeps : Bool} {roles constants : List ℕ} {seeds store values copied : List (A .Carrier)} {turns : List ℕ}
       {emptied : List (A .Carrier)} {emptiedTurns : List ℕ} (after : Cells A) {bodies toCome : List ℕ} (ran : Ran)
       {valuesAfter : List (A .Carrier)} {turnsAfter : List ℕ}
       → StacksCleared A values turns emptied emptiedTurns
-      → RunsRows A table rows beyond roles constants seeds enoughSteps (cellsOf A store emptied emptiedTurns copied) after bodies toCome ran
+      → RunsRows A table rows beyond keeps roles constants seeds enoughSteps (cellsOf A store emptied emptiedTurns copied) after bodies toCome ran
       → length (after .values) ≡ length emptied
       → length (after .turns) ≡ length emptiedTurns
       → StacksCleared A (after .values) (after .turns) valuesAfter turnsAfter
-      → RunsTable A table rows beyond roles constants seeds (cellsOf A store values turns copied)
+      → RunsTable A table rows beyond keeps roles constants seeds (cellsOf A store values turns copied)
       (cellsOf A (after .store) valuesAfter turnsAfter (after .copied)) (ran .ended)
   runs-table {store = store} {values} {copied} {turns} after {bodies} {toCome} ran {valuesAfter} {turnsAfter} empty runs kept keptTurns empty-again =
       let many = kept ∙ ap length (empty .valuesAre) ∙ length-replicate (length values) (A .zero) in
@@ -112,13 +111,14 @@ module _ (A : Arithmetic) where
 
     -- what the runner is handed
     handed : {start : Memory A} {store : List (A .Carrier)} → Starts start before store
-        → Handed A table rows beyond roles constants seeds (cleared A (cellsOf A store values turns copied)) settingFor (linesOf its) start
+        → Handed A table rows beyond keepsCounts roles constants seeds (cleared A (cellsOf A store values turns copied)) settingFor (linesOf its) start
     unfolding settingKeeping
     handed {start} {store} from =
         record {
           holds = ready .holds;
           rows = ready .counted;
           jumps = ready .jumps;
+          keeping = refl;
           suits =
               record {
                 variables = sym (ap length (ready .rolesAre));
@@ -141,11 +141,10 @@ module _ (A : Arithmetic) where
 
     -- how the table's run ended, by what the code answered
     pub table-ends : {start : Memory A} {store : List (A .Carrier)} → Starts start before store → {after : Cells A} {end : Ended}
-        → RunsTable A table rows beyond roles constants seeds (cellsOf A store values turns copied) after end
+        → RunsTable A table rows beyond keepsCounts roles constants seeds (cellsOf A store values turns copied) after end
         → EndsLike A start after end (runOf A its settingFor (firstState A start))
-    table-ends {start} from {after} {end} runs =
-        subst (EndsLike A start after end) (enough-steps-same A its settingFor start enoughSteps (runnable .short))
-        (runs .ends settingFor (linesOf its) start (handed from))
+    unfolding runOf
+    table-ends {start} from runs = runs .ends settingFor (linesOf its) start (handed from)
 
   -- ---- what a job's call answers and leaves
 

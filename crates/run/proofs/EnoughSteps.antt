@@ -28,7 +28,7 @@ unfolding stepsOf
 row-stepped row rest = refl
 
 -- a loop's, by what bounds each turn's: beside the body's there are at most two steps a turn, and one
-loop-steps : (asks : MarkedTest → TableTest) (l : Loop MarkedTest) (a k : Table) (most long : ℕ) → stepsOf a + 2 ≤ most * long
+pub loop-steps : (asks : MarkedTest → TableTest) (l : Loop MarkedTest) (a k : Table) (most long : ℕ) → stepsOf a + 2 ≤ most * long
     → stepsOf (again (loopBy asks l) a k) ≤ 1 + most * (mostTurns l * long) + stepsOf k
 unfolding stepsOf
 loop-steps asks (times m) a k most long h = omega (arith, mul-le-mul-left (suc m) h, mul-left-comm (suc m) most long)

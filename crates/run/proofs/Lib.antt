@@ -7,9 +7,9 @@ pub mod Originals
 pub mod RowsReady
 -- the machine on a table
 pub mod JumpsRight
-pub mod RunsCopy
 pub mod RowsInTheLarge
 pub mod MachineFollows
+pub mod RunsCopy
 pub mod RunEnds
 pub mod EnoughSteps
 pub mod OpenRepeats

@@ -5,7 +5,7 @@ use mathlib.Core.Bool.{Bool, true, false}
 use mathlib.Core.List.{List}
 use native.Mathlib.Omega.{arith}
 use lib.ListN.{length}
-use Rattle.sheet.specs.Tree.{done, one, fork, again, RowNumber}
+use Rattle.sheet.specs.Tree.{Loop, times, while, loopBy, done, one, fork, again, RowNumber}
 use Rattle.sheet.specs.Rows.{Assignment, _≔_, Source, copy, fixed, sum, difference, product, negation, quotient}
 use Rattle.sheet.specs.Names.{SourcePresent, AssignmentPresent}
 use Rattle.sheet.specs.Judging.{given}
@@ -13,11 +13,11 @@ use Rattle.sheet.specs.Sheets.{Sheet}
 use Rattle.sheet.specs.Reading.{read}
 use Rattle.sets.specs.Transfers.{Activity}
 use Rattle.sets.specs.Rounds.{marked}
-use Rattle.sets.specs.Marks.{Marked}
-use Rattle.table.specs.TableRows.{Table, Action, save, takeBack, saveTurn, Operation, turning}
+use Rattle.sets.specs.Marks.{Marked, MarkedTest}
+use Rattle.table.specs.TableRows.{Table, Action, save, takeBack, saveTurn, onTurn, Operation, turning}
 use Rattle.table.specs.Computed.{tableOf}
 use Rattle.table.specs.Adjoint.{Body, put, putIf, forwardRow, forwardPart, partsOf, derivativeRows, backwardOf, backwardPart, adjointTable}
-use Rattle.run.proofs.KnownNames.{Known, KnownIn, BodyKnown, widened, test-widened, sheet-known}
+use Rattle.run.proofs.KnownNames.{Known, LoopKnown, KnownIn, BodyKnown, widened, test-widened, loop-widened, sheet-known}
 
 module _ (v k : ℕ) where
   put-if : (b : Bool) (row : RowNumber) (operation : Operation) (action : Action) (rest : Table) → Known v k action → KnownIn v k rest
@@ -45,7 +45,7 @@ module _ (v k : ℕ) where
     forward-known b (put (f .row) turning (saveTurn false) done) second (tt, tt),
     forward-known t rest next later,
   )
-  forward-known (again m a t) rest (body, next) later = (forward-known a done body tt, forward-known t rest next later)
+  forward-known (again l a t) rest (body, next, asks) later = (forward-known a done body tt, forward-known t rest next later, loop-widened v k l asks)
 
   parts-known : (source : Source) (row : RowNumber) (known : Activity) (rest : Table) → SourcePresent v k source → KnownIn v k rest
       → KnownIn v k (partsOf v source row known rest)
@@ -85,6 +85,11 @@ module _ (v k : ℕ) where
   backward-row-known (d ≔ source) row known saved rest (target, reads) later =
       put-if saved row _ (takeBack d) _ (omega arith) (derivatives-known (known .active) d source row known rest target reads later)
 
+  -- a loop on a count names nothing
+  on-its-count : (l : Loop MarkedTest) → LoopKnown v k (loopBy (λ f. onTurn) l)
+  on-its-count (times m) = tt
+  on-its-count (while f m) = tt
+
   backward-known : (t : Body) (rest : Table) → BodyKnown v k t → KnownIn v k rest → KnownIn v k (backwardPart v t rest)
   unfolding backwardPart BodyKnown KnownIn
   backward-known done rest known later = later
@@ -93,7 +98,7 @@ module _ (v k : ℕ) where
       (backward-row-known (m .assignment) (m .row) (m .known) (m .saved) rest here later)
   backward-known (fork f a b t) rest (test, first, second, next) later =
       backward-known t _ next (tt, backward-known a done first tt, backward-known b done second tt, later)
-  backward-known (again m a t) rest (body, next) later = backward-known t _ next (backward-known a done body tt, later)
+  backward-known (again l a t) rest (body, next, asks) later = backward-known t _ next (backward-known a done body tt, later, on-its-count l)
 
   table-known : (t : Body) → BodyKnown v k t → KnownIn v k (adjointTable v t)
   unfolding adjointTable KnownIn

@@ -62,6 +62,7 @@ pub fn run_table(
     table: &[u16],
     rows: usize,
     beyond: &[u16; MAX_TABLE_ROWS],
+    keeps: bool,
     seeds: &[u32],
     store: &mut [u32],
     values: &mut [u32],
@@ -69,17 +70,18 @@ pub fn run_table(
     copied: &mut [u32],
 ) -> Ended
     requires { ⌜ Indexed (now table) rows (length (now store)) (length (now constants)) ⌝ }
-    ensures { λ r. ⌜ RunsTable residues (now (table .entry)) rows (now (beyond .entry)) (now (roles .entry)) (now (constants .entry)) (now (seeds .entry))
+    ensures { λ r. ⌜ RunsTable residues (now (table .entry)) rows (now (beyond .entry)) keeps (now (roles .entry)) (now (constants .entry)) (now (seeds .entry))
         (cellsOf residues (now (store .entry)) (now (values .entry)) (now (turns .entry)) (now (copied .entry)))
         (cellsOf residues (now (store .exit)) (now (values .exit)) (now (turns .exit)) (now (copied .exit))) r ⌝ }
 {
     clear_stacks(values, turns);
     let mut bodies = [0usize; MAX_DEPTH];
-    let mut to_come = [0u16; MAX_DEPTH];
+    let mut to_come = [0usize; MAX_DEPTH];
     let ran = residue_rows::run_rows(
         table,
         rows,
         beyond,
+        keeps,
         roles,
         constants,
         seeds,
@@ -123,6 +125,7 @@ fn run_in(
         table,
         rows,
         beyond,
+        true,
         seeds,
         store,
         values,

@@ -63,6 +63,7 @@ pub fn run_table(
     table: &[u16],
     rows: usize,
     beyond: &[u16; MAX_TABLE_ROWS],
+    keeps: bool,
     seeds: &[f64],
     store: &mut [f64],
     values: &mut [f64],
@@ -70,17 +71,18 @@ pub fn run_table(
     copied: &mut [f64],
 ) -> Ended
     requires { ⌜ Indexed (now table) rows (length (now store)) (length (now constants)) ⌝ }
-    ensures { λ r. ⌜ RunsTable doubles (now (table .entry)) rows (now (beyond .entry)) (now (roles .entry)) (now (constants .entry)) (now (seeds .entry))
+    ensures { λ r. ⌜ RunsTable doubles (now (table .entry)) rows (now (beyond .entry)) keeps (now (roles .entry)) (now (constants .entry)) (now (seeds .entry))
         (cellsOf doubles (now (store .entry)) (now (values .entry)) (now (turns .entry)) (now (copied .entry)))
         (cellsOf doubles (now (store .exit)) (now (values .exit)) (now (turns .exit)) (now (copied .exit))) r ⌝ }
 {
     clear_stacks(values, turns);
     let mut bodies = [0usize; MAX_DEPTH];
-    let mut to_come = [0u16; MAX_DEPTH];
+    let mut to_come = [0usize; MAX_DEPTH];
     let ran = double_rows::run_rows(
         table,
         rows,
         beyond,
+        keeps,
         roles,
         constants,
         seeds,
@@ -124,6 +126,7 @@ fn run_in(
         table,
         rows,
         beyond,
+        true,
         seeds,
         store,
         values,

@@ -156,7 +156,7 @@ module _ (A : Arithmetic) where
       -- from each step of a call's run to what it comes to
       pub tangent-comes-to : {store : List (A .Carrier)} {end : Ended} {answer : Reply} {left : List (A .Carrier)}
           → store ≡ overwritten (halvesOf A starts counted.Independents roles rates) before
-          → RunsTable A table rows beyond roles constants rates (cellsOf A store [] [] copied) after end
+          → RunsTable A table rows beyond false roles constants rates (cellsOf A store [] [] copied) after end
           → left ≡ resultAt end (ratesFrom A roles (after .store)) result
           → answer ≡ answerAt end
           → TangentRanTo A sheet buffer starts rates result answer left

@@ -5,7 +5,7 @@ use mathlib.Core.Bool.{true, false, cond}
 use mathlib.Core.List.{[], _∷_, _++_, append-assoc}
 use lib.ListN.{length}
 use native.Mathlib.Omega.{arith}
-use Rattle.sheet.specs.Tree.{done, rows, basic, ifLine, elseLine, endIf, repeat, endRepeat}
+use Rattle.sheet.specs.Tree.{times, while, done, rows, basic, ifLine, elseLine, endIf, repeat, endRepeat}
 use Rattle.sheet.specs.Rows.{_≔_, Assignment, less, Row, SheetLine, rowOf, rowOfAssignment, rowOfTest, sheetRowOf}
 use Rattle.sheet.specs.inner.RowLines.{lineOfRow, sourceOf}
 use Rattle.sheet.specs.inner.Kinds.{partOf, assigns}
@@ -88,7 +88,8 @@ module _ (v mark : ℕ) where
   line-ending (ifLine (less a b)) = last-ending _
   line-ending elseLine = last-ending _
   line-ending endIf = last-ending _
-  line-ending (repeat m) = last-ending _
+  line-ending (repeat (times m)) = last-ending _
+  line-ending (repeat (while (less a b) m)) = last-ending _
   line-ending endRepeat = last-ending _
 
 -- ---- by what the code has found of the row

@@ -17,7 +17,7 @@ use Rattle.sets.specs.Marks.{Marked}
 use Rattle.table.specs.RowBounds.{tableVariables}
 use Rattle.table.specs.TableRows.{Table, t, u, assign, itself}
 use Rattle.table.specs.Adjoint.{Body, put}
-use Rattle.run.proofs.KnownNames.{KnownIn, BodyKnown, widened, test-widened, sheet-known}
+use Rattle.run.proofs.KnownNames.{KnownIn, BodyKnown, widened, test-widened, loop-widened, sheet-known}
 use Rattle.tangent.specs.Tangent.{rateOf, setRate, noRate, bothTerms, secondTerm, bothQuotients, fromVaried, activeRates, rateRows, tangentRow, tangentTable, tangentBy}
 use Rattle.tangent.specs.Calls.{tangentOf}
 
@@ -112,7 +112,7 @@ module _ (v k : ℕ) where
   table-known (one m rest) (here, next) = row-known m (tangentTable v rest) here (table-known rest next)
   table-known (fork f a b rest) (test, first, second, next) =
       (test-widened v k (f .test) test, table-known a first, table-known b second, table-known rest next)
-  table-known (again m a rest) (inside, next) = (table-known a inside, table-known rest next)
+  table-known (again l a rest) (inside, next, asks) = (table-known a inside, table-known rest next, loop-widened v k l asks)
 
 pub tangent-known : (words : List ℕ) (sheet : Sheet) → read words ≡ given sheet
     → KnownIn (length (sheet .roles)) (length (sheet .constants)) (tangentOf sheet)

@@ -5,17 +5,18 @@ use mathlib.Core.Bool.{Bool, true, false, cond}
 use mathlib.Core.List.{List, [], _∷_, _++_, append-assoc, append-nil}
 use lib.ListN.{getD}
 use native.Mathlib.Omega.{arith}
-use Rattle.sheet.specs.Tree.{Tree, done, one, fork, again, basic, ifLine, elseLine, endIf, repeat, endRepeat, flat, rows}
+use Rattle.sheet.specs.Tree.{loopBy, Tree, done, one, fork, again, basic, ifLine, elseLine, endIf, repeat, endRepeat, flat, rows}
 use Rattle.sheet.specs.Rows.{Assignment, Test, Source, copy, fixed, sum, difference, product, negation, quotient, SheetLine, Row, sheetRowOf, rowOf, rowOfTest, treeRows}
 use Rattle.sheet.specs.inner.RowLines.{numberedRow, sourceOf}
 use Rattle.sheet.specs.Sheets.{rowsAt}
 use Rattle.sheet.proofs.RowsByNumber.{StandsAt, tree-stands, stands-after}
 use Rattle.sets.specs.Transfers.{Activity}
-use Rattle.sets.specs.Marks.{Marked, numbered}
+use Rattle.sets.specs.Marks.{Marked, testAt, numbered}
 use Rattle.table.specs.TableRows.{rowOfTableTest, whether}
 use Rattle.table.specs.Adjoint.{Body}
 use Rattle.table.specs.inner.MarkedRows.{rowWith, rowsIn, Noted}
 use Rattle.table.proofs.AssignmentRows.{none-before}
+use Rattle.table.proofs.LineRows.{loop-forward}
 use Rattle.table.proofs.TableBounds.{row-counted}
 use Rattle.writer.specs.inner.RowsWritten.{rowsAlong}
 use Rattle.writer.proofs.TableTree.{fork-before, again-before}
@@ -69,7 +70,7 @@ module _ (v : ℕ) (words : List ℕ) (first : ℕ) (marks came goes : List ℕ)
       ∙ ap (λ rs. rowsIn A ++ rs) splitted in
       step (ifLine f) p (rows a + suc second) c (omega arith) (s .0) ∙ ap (λ rs. rowOfTest f ∷ rs) firstBranch
       ∙ sym (fork-before (whether f) A B K (along e n))
-  tangent-tree (again m a k) ls p n c e hc he s w =
+  tangent-tree (again l a k) ls p n c e hc he s w =
       let end = suc p + rows a in
       let A = tangentTable v (numbered mark a (suc p)) in
       let K = tangentTable v (numbered mark k (suc end)) in
@@ -80,8 +81,9 @@ module _ (v : ℕ) (words : List ℕ) (first : ℕ) (marks came goes : List ℕ)
       let body =
       tangent-tree a (endRepeat ∷ flat k ls) (suc p) (suc (rows k + n)) (rows a + suc (rows k + n)) end refl refl (s .1) (w .1 .0)
       ∙ ap (λ rs. rowsIn A ++ rs) ended in
-      step (repeat m) p (rows a + suc (rows k + n)) c (omega arith) (s .0) ∙ ap (λ rs. rowWith 10 0 (suc m) 0 ∷ rs) body
-      ∙ sym (again-before m A K (along e n))
+      step (repeat l) p (rows a + suc (rows k + n)) c (omega arith) (s .0) ∙ ap (λ rs. sheetRowOf (repeat l) ∷ rs) body
+      ∙ ap (λ r. r ∷ (rowsIn A ++ (rowWith 11 0 0 0 ∷ (rowsIn K ++ along e n)))) (sym (loop-forward p l))
+      ∙ sym (again-before (loopBy (λ f. whether (f .test)) (loopBy (testAt p) l)) A K (along e n))
 
   none-left : (e : ℕ) → along e 0 ≡ []
   unfolding rowsAlong
@@ -130,4 +132,4 @@ tangent-rows-bound v (one m k) =
       tangent-rows-bound v k,
     )
 tangent-rows-bound v (fork f a b k) = omega (arith, tangent-rows-bound v a, tangent-rows-bound v b, tangent-rows-bound v k)
-tangent-rows-bound v (again n a k) = omega (arith, tangent-rows-bound v a, tangent-rows-bound v k)
+tangent-rows-bound v (again l a k) = omega (arith, tangent-rows-bound v a, tangent-rows-bound v k)

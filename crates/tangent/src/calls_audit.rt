@@ -43,7 +43,7 @@ fn write_rates(end: Ended, roles: &[u16], store: &[u32], result: &mut [u32])
 }
 
 // The run of a tangent table, from the start values and rates to the result, in a store of zeros. The table has no stacks and no row 17, so both
-// stacks are empty and nothing is copied.
+// stacks are empty, no count is kept and nothing is copied.
 fn run_in(
     roles: &[u16],
     constants: &[u16],
@@ -70,6 +70,7 @@ fn run_in(
         table,
         rows,
         beyond,
+        false,
         rates,
         store,
         &mut no_values[..0],

@@ -2,6 +2,7 @@
 use Prim.Native.Nat.{ℕ}
 use mathlib.Core.Path.{_≡_}
 use mathlib.Core.Logic.{_⊎_}
+use mathlib.Core.Bool.{Bool}
 use mathlib.Core.List.{List}
 use lib.ListN.{length, replicate}
 use Rattle.number.specs.Arithmetic.{Arithmetic}
@@ -37,10 +38,10 @@ module _ (A : Arithmetic) where
   abbrev pub cleared : Cells A → Cells A
   cleared cells = cellsOf A (cells .store) (replicate (length (cells .values)) (A .zero)) (replicate (length (cells .turns)) 0) (cells .copied)
 
-  pub record RunsTable (table : List ℕ) (rows : ℕ) (beyond roles constants : List ℕ) (seeds : List (A .Carrier)) (before after : Cells A)
+  pub record RunsTable (table : List ℕ) (rows : ℕ) (beyond : List ℕ) (keeps : Bool) (roles constants : List ℕ) (seeds : List (A .Carrier)) (before after : Cells A)
       (end : Ended) : Type 0 where
     pub valuesCleared : after .values ≡ replicate (length (before .values)) (A .zero)
     pub turnsCleared : after .turns ≡ replicate (length (before .turns)) 0
     pub ends : (setting : Setting A) (lines : List TableLine) (start : Memory A)
-        → Handed A table rows beyond roles constants seeds (cleared before) setting lines start
+        → Handed A table rows beyond keeps roles constants seeds (cleared before) setting lines start
         → EndsLike start after end (stateAfter A enoughSteps setting lines (firstState A start))

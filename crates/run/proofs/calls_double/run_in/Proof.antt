@@ -34,22 +34,22 @@ write-result-requires : tie.Need-write-result-requires
 write-result-requires c κs =
     let ran = c .before .before .before .before .before .before .before .before .before .before .before .before in
     let laid = ran .before .before .before .before .before .before .before in
-    let kept = ran .run-table .kept .1 .1 .1 .1 .1 .1 in
-    result-fits doubles (laid .before .before .before .before .before .before .before .before .before .before .before .before .pre .1) (ran .run-table .last .1 .1 .1 .1 .1 .1 .0) (kept .0 ∙ laid .copy-doubles .kept .1 .0) (kept .1 .1 .1 .0)
+    let kept = ran .run-table .kept .1 .1 .1 .1 .1 .1 .1 in
+    result-fits doubles (laid .before .before .before .before .before .before .before .before .before .before .before .before .pre .1) (ran .run-table .last .1 .1 .1 .1 .1 .1 .1 .0) (kept .0 ∙ laid .copy-doubles .kept .1 .0) (kept .1 .1 .1 .0)
 
 answer-end-requires : tie.Need-answer-end-requires
 answer-end-requires c κs = search needs
 
 same-length : tie.Need-same-length
-same-length c = c .before .before .before .before .before .before .before .before .before .before .before .before .before .before .before .before .run-table .kept .1 .1 .1 .1 .1 .1 .1 .0
+same-length c = c .before .before .before .before .before .before .before .before .before .before .before .before .before .before .before .before .run-table .kept .1 .1 .1 .1 .1 .1 .1 .1 .0
 
 same-length-2 : tie.Need-same-length-2
-same-length-2 c = c .before .before .before .before .before .before .before .before .before .before .before .before .before .before .before .before .run-table .kept .1 .1 .1 .1 .1 .1 .1 .1 .0
+same-length-2 c = c .before .before .before .before .before .before .before .before .before .before .before .before .before .before .before .before .run-table .kept .1 .1 .1 .1 .1 .1 .1 .1 .1 .0
 
 same-length-3 : tie.Need-same-length-3
 same-length-3 c =
     let ran = c .before .before .before .before .before .before .before .before .before .before .before .before .before .before .before .before in
-    ran .run-table .kept .1 .1 .1 .1 .1 .1 .0 ∙ ran .before .before .before .before .before .before .before .copy-doubles .kept .1 .0
+    ran .run-table .kept .1 .1 .1 .1 .1 .1 .1 .0 ∙ ran .before .before .before .before .before .before .before .copy-doubles .kept .1 .0
 
 same-length-4 : tie.Need-same-length-4
 same-length-4 c = search needs

@@ -33,7 +33,7 @@ write-rates-requires c κs =
     let ran = c .before .before .before .before .before .before .before .before in
     let laid = ran .before .before .before .before .before .before .before in
     let room = laid .before .before .before .before .before .before .before .before .before .before .pre .1 in
-    (omega (arith, ran .run-table .kept .1 .1 .1 .1 .1 .1 .0, laid .lay-residues .kept .1 .1 .1 .1 .0, room .storeFits), room .resultFits)
+    (omega (arith, ran .run-table .kept .1 .1 .1 .1 .1 .1 .1 .0, laid .lay-residues .kept .1 .1 .1 .1 .0, room .storeFits), room .resultFits)
 
 answer-end-requires : tie.Need-answer-end-requires
 answer-end-requires c κs = search needs
@@ -41,7 +41,7 @@ answer-end-requires c κs = search needs
 same-length : tie.Need-same-length
 same-length c =
     let ran = c .before .before .before .before .before .before .before .before .before .before .before .before in
-    ran .run-table .kept .1 .1 .1 .1 .1 .1 .0 ∙ ran .before .before .before .before .before .before .before .lay-residues .kept .1 .1 .1 .1 .0
+    ran .run-table .kept .1 .1 .1 .1 .1 .1 .1 .0 ∙ ran .before .before .before .before .before .before .before .lay-residues .kept .1 .1 .1 .1 .0
 
 same-length-2 : tie.Need-same-length-2
 same-length-2 c = search needs
