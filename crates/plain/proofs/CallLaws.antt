@@ -148,4 +148,5 @@ found-by {words} {shape} before after shaped marked =
       shapeIs = some .lies .shapeIs;
       came = after .came;
       noted = sheet-noted words before after marked (some .sheet) (some .lies .is);
+      goesTo = subst (λ answer. MarksSaid answer before after) (some .lies .is) marked .goesTo;
     }

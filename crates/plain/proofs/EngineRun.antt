@@ -14,7 +14,7 @@ use Rattle.sheet.specs.Names.{SourcePresent, AssignmentPresent}
 use Rattle.sheet.specs.Sheets.{Sheet, variablesOf}
 use Rattle.sheet.specs.Reading.{read}
 use Rattle.sheet.specs.inner.RowLines.{lineOfRow, SaysLine, numberedRow}
-use Rattle.sheet.specs.inner.Kinds.{partOf, partFor, assigns}
+use Rattle.sheet.specs.inner.Kinds.{partOf, partFor, assigns, turnsIn}
 use Rattle.sheet.specs.declared.Shape.{Shape}
 use Rattle.sheet.specs.declared.kinds.Part.{Part}
 use Rattle.sheet.specs.declared.kinds.Part.the-variants as part
@@ -36,11 +36,11 @@ use Rattle.plain.specs.declared.rates.Worked.{Worked}
 use Rattle.plain.specs.declared.rates.Worked.the-variants as worked
 use Rattle.plain.specs.declared.blocks.At.{At}
 use Rattle.plain.specs.inner.Working.{operandOn, workedOn, workedSaid}
-use Rattle.plain.specs.inner.Crossing.{Crossed, atRow, crossing, Crossable}
+use Rattle.plain.specs.inner.Crossing.{Crossed, atRow, askedRow, crossing, Crossable}
 use Rattle.plain.specs.declared.engine.Ran.{Ran}
 use Rattle.plain.specs.inner.Engine.{carriedIn, Ready, stopAt, endSaid, stoppedRow, RunsTo}
 use Rattle.plain.proofs.CarriedOver.{stoppingFrom, carried-over}
-use Rattle.plain.proofs.EngineLaws.{lineHere, runAt, resume, Going, going-starts, going-line, going-left, going-ends, AtAssignment, at-assignment, test-holds, at-block}
+use Rattle.plain.proofs.EngineLaws.{lineHere, lineAsked, runAt, resume, Going, going-starts, going-line, going-asked, going-left, going-ends, AtAssignment, at-assignment, test-holds, at-block}
 use Rattle.plain.proofs.ReadyLaws.{ready-lies, ready-sections, ready-rows, ready-constants, constant-there, ready-placed}
 
 -- ---- the loop's state
@@ -114,40 +114,54 @@ module _ {words : List ℕ} {shape : Shape} {marks goes : List ℕ} {start cells
     part-is : p ≡ partOf line
     part-is = found ∙ sym (row-part says) ∙ ap partOf (line-said said-line)
 
-    -- the pairs that the row's words name
-    module _ (x y z : Rated) (at-a : r .a < limit .variables → x ≡ getD cells (r .a) z) (at-b : r .b < limit .variables → y ≡ getD cells (r .b) z) where
-      -- ---- a block's row
+    -- ---- a block's row
 
-      module _ (block : assigns p ≡ false) {holds : Bool} (test : holds ≡ doubles .less (x .value) (y .value)) where
-        both : Crossable (partOf line) (r .a) depth (length toCome)
-            × Going words (shape .«first_row») marks goes (its mine) (vars mine) constants (shape .rows) (wholeFrom mine start) cells
-            (crossing (partOf line) (r .a) holds goes toCome (atRow row depth) .toCome)
-            (crossing (partOf line) (r .a) holds goes toCome (atRow row depth) .at .row .0)
-            (crossing (partOf line) (r .a) holds goes toCome (atRow row depth) .at .depth) (left - 1)
-        both =
-            at-block words (shape .«first_row») marks goes (its mine) (vars mine) constants now below (r .a) holds (ap assigns (sym part-is) ∙ block)
-            (ap (λ (s : Row). s .a) said-line)
-            (test-holds words (shape .«first_row») marks goes (its mine) (vars mine) constants now few x y z test
-            (subst (λ (s : Row). s .a < limit .variables → x ≡ getD cells (s .a) z) said-line at-a)
-            (subst (λ (s : Row). s .b < limit .variables → y ≡ getD cells (s .b) z) said-line at-b))
+    abbrev GoesAsked : Part → Type 0
+    GoesAsked q =
+        (askedRow q goes row < shape .rows) × (numberedRow words (shape .«first_row») (askedRow q goes row) ≡ sheetRowOf (lineAsked (now .tree) (now .frames)))
 
-        pub crosses : Crossable p (r .a) depth (length toCome)
-        crosses = subst (λ q. Crossable q (r .a) depth (length toCome)) (sym part-is) (both .0)
+    goes-asked : GoesAsked p
+    goes-asked =
+        subst GoesAsked (sym part-is) (going-asked words (shape .«first_row») marks goes (its mine) (vars mine) constants now below)
 
-        pub goes-across : (next : At) (toCome′ : List ℕ)
-            → _≡_ {A = Crossed} (record { at = next; toCome = toCome′ }) (crossing p (r .a) holds goes toCome (atRow row depth))
-            → RunningAt cells toCome′ (next .row .0) (next .depth)
-        goes-across next toCome′ e =
-            let is : _≡_ {A = Crossed} (record { at = next; toCome = toCome′ }) (crossing (partOf line) (r .a) holds goes toCome (atRow row depth)) =
-            e ∙ ap (λ q. crossing q (r .a) holds goes toCome (atRow row depth)) part-is in
-            record {
-              ready = mine;
-              going =
-                  subst
-                  (λ (c : Crossed). Going words (shape .«first_row») marks goes (its mine) (vars mine) constants (shape .rows) (wholeFrom mine start) cells (c .toCome)
-                  (c .at .row .0) (c .at .depth) (left - 1))
-                  (sym is) (both .1);
-            }
+    pub asked-below : askedRow p goes row < shape .rows
+    asked-below = goes-asked .0
+
+    -- the row that is asked, and the pairs that its words name
+    module _ (block : assigns p ≡ false) {asked : Row} (asked-read : asked ≡ numberedRow words (shape .«first_row») (askedRow p goes row)) (x y z : Rated)
+        (at-a : asked .a < limit .variables → x ≡ getD cells (asked .a) z) (at-b : asked .b < limit .variables → y ≡ getD cells (asked .b) z) {holds : Bool}
+        (test : holds ≡ doubles .less (x .value) (y .value)) where
+      asked-line : asked ≡ sheetRowOf (lineAsked (now .tree) (now .frames))
+      asked-line = asked-read ∙ goes-asked .1
+
+      both : Crossable (partOf line) (turnsIn asked) depth (length toCome)
+          × Going words (shape .«first_row») marks goes (its mine) (vars mine) constants (shape .rows) (wholeFrom mine start) cells
+          (crossing (partOf line) asked holds goes toCome (atRow row depth) .toCome)
+          (crossing (partOf line) asked holds goes toCome (atRow row depth) .at .row .0)
+          (crossing (partOf line) asked holds goes toCome (atRow row depth) .at .depth) (left - 1)
+      both =
+          at-block words (shape .«first_row») marks goes (its mine) (vars mine) constants now below asked holds (ap assigns (sym part-is) ∙ block) asked-line
+          (test-holds words (shape .«first_row») marks goes (its mine) (vars mine) constants now few x y z test
+          (subst (λ (s : Row). s .a < limit .variables → x ≡ getD cells (s .a) z) asked-line at-a)
+          (subst (λ (s : Row). s .b < limit .variables → y ≡ getD cells (s .b) z) asked-line at-b))
+
+      pub crosses : Crossable p (turnsIn asked) depth (length toCome)
+      crosses = subst (λ q. Crossable q (turnsIn asked) depth (length toCome)) (sym part-is) (both .0)
+
+      pub goes-across : (next : At) (toCome′ : List ℕ)
+          → _≡_ {A = Crossed} (record { at = next; toCome = toCome′ }) (crossing p asked holds goes toCome (atRow row depth))
+          → RunningAt cells toCome′ (next .row .0) (next .depth)
+      goes-across next toCome′ e =
+          let is : _≡_ {A = Crossed} (record { at = next; toCome = toCome′ }) (crossing (partOf line) asked holds goes toCome (atRow row depth)) =
+          e ∙ ap (λ q. crossing q asked holds goes toCome (atRow row depth)) part-is in
+          record {
+            ready = mine;
+            going =
+                subst
+                (λ (c : Crossed). Going words (shape .«first_row») marks goes (its mine) (vars mine) constants (shape .rows) (wholeFrom mine start) cells (c .toCome)
+                (c .at .row .0) (c .at .depth) (left - 1))
+                (sym is) (both .1);
+          }
 
     -- ---- an assignment
 

@@ -1,4 +1,4 @@
--- A sheet's tree as the engine finds it, from a row on: each row's words, marks and partners, that what they name is there and that repeats have
+-- A sheet's tree as the engine finds it, from a row on: each row's words, marks and partners, that what they name is there and that loops have
 -- room; and how many rows the tangent table has before each.
 use Prim.Native.Nat.{ℕ, suc, _+_, _≤_, _<_}
 use mathlib.Core.Path.{_≡_, refl, ap}
@@ -6,13 +6,15 @@ use mathlib.Core.List.{List, _∷_}
 use native.Mathlib.Omega.{arith}
 use lib.ListN.{getD}
 use Rattle.sheet.specs.Bounds.{limit}
-use Rattle.sheet.specs.Tree.{Tree, done, one, fork, again, basic, ifLine, elseLine, endIf, repeat, endRepeat, flat, rows}
+use Rattle.sheet.specs.Tree.{Loop, Tree, done, one, fork, again, basic, ifLine, elseLine, endIf, repeat, endRepeat, flat, rows}
 use Rattle.sheet.specs.Rows.{Assignment, Test, SheetLine, sheetRowOf, _≔_}
-use Rattle.sheet.specs.Names.{AssignmentPresent, TestPresent, Present}
+use Rattle.sheet.specs.Names.{AssignmentPresent, TestPresent, LoopPresent, Present}
 use Rattle.sheet.specs.inner.RowLines.{numberedRow}
 use Rattle.sheet.proofs.Depth.{deep}
 use Rattle.sheet.proofs.RowsByNumber.{StandsAt, stands-after, line-said}
+use Rattle.sets.specs.Equations.{leftFrom}
 use Rattle.sets.specs.Marks.{Marked, numbered}
+use Rattle.sets.specs.Partners.{GoesTo}
 use Rattle.table.specs.TableRows.{Table}
 use Rattle.table.specs.inner.MarkedRows.{knownBy, MarkSays, Noted}
 use Rattle.table.proofs.TableBounds.{row-counted}
@@ -44,10 +46,12 @@ module _ (words : List ℕ) (first : ℕ) (marks goes : List ℕ) (mark : ℕ �
     pub splitGoes : getD goes split 0 ≡ end
     pub present : TestPresent v f
 
-  pub record RepeatAt (m p end level : ℕ) : Type 0 where
-    pub opens : numberedRow words first p ≡ sheetRowOf (repeat m)
+  pub record LoopAt (loop : Loop Test) (p end level : ℕ) : Type 0 where
+    pub opens : numberedRow words first p ≡ sheetRowOf (repeat loop)
     pub ends : numberedRow words first end ≡ sheetRowOf endRepeat
+    pub openGoes : getD goes p 0 ≡ leftFrom loop end (suc p)
     pub endGoes : getD goes end 0 ≡ p
+    pub present : LoopPresent v loop
     pub shallow : level < limit .depth
 
   -- of a tree from row p on, inside so many blocks
@@ -59,18 +63,18 @@ module _ (words : List ℕ) (first : ℕ) (marks goes : List ℕ) (mark : ℕ �
       let split = suc p + rows a in
       let end = suc split + rows b in
       BranchesAt f p split end × (Placed a (suc p) (suc l) × (Placed b (suc split) (suc l) × Placed rest (suc end) l))
-  Placed (again m a rest) p l =
+  Placed (again loop a rest) p l =
       let end = suc p + rows a in
-      RepeatAt m p end l × (Placed a (suc p) (suc l) × Placed rest (suc end) l)
+      LoopAt loop p end l × (Placed a (suc p) (suc l) × Placed rest (suc end) l)
 
   module _ (came : List ℕ) where
     pub tree-placed : (t : Tree Assignment Test) (rest : List SheetLine) (p l : ℕ) → StandsAt words first (flat t rest) p
-        → Noted marks came goes mark t p → Present v k t → deep t + l ≤ limit .depth → Placed t p l
-    unfolding StandsAt flat Noted Present deep Placed
-    tree-placed done rest p l s w n h = tt
-    tree-placed (one b t) rest p l s w n h =
-        (record { stands = s .0; says = w .0; present = n .0 }, tree-placed t rest (suc p) l (s .1) (w .1) (n .1) (omega arith))
-    tree-placed (fork f a b t) rest p l s w n h =
+        → Noted marks came goes mark t p → GoesTo goes t p → Present v k t → deep t + l ≤ limit .depth → Placed t p l
+    unfolding StandsAt flat Noted GoesTo Present deep Placed
+    tree-placed done rest p l s w g n h = tt
+    tree-placed (one b t) rest p l s w g n h =
+        (record { stands = s .0; says = w .0; present = n .0 }, tree-placed t rest (suc p) l (s .1) (w .1) g (n .1) (omega arith))
+    tree-placed (fork f a b t) rest p l s w g n h =
         let split = suc p + rows a in
         let end = suc split + rows b in
         let at-split = stands-after words first a (elseLine ∷ flat b (endIf ∷ flat t rest)) (suc p) refl (s .1) in
@@ -79,25 +83,25 @@ module _ (words : List ℕ) (first : ℕ) (marks goes : List ℕ) (mark : ℕ �
             opens = s .0;
             splits = at-split .0;
             ends = at-end .0;
-            openGoes = w .0 .ifGoes;
-            splitGoes = w .0 .elseGoes;
+            openGoes = g .0;
+            splitGoes = g .2;
             present = n .0;
           },
           (
-            tree-placed a (elseLine ∷ flat b (endIf ∷ flat t rest)) (suc p) (suc l) (s .1) (w .1 .0) (n .1) (omega arith),
+            tree-placed a (elseLine ∷ flat b (endIf ∷ flat t rest)) (suc p) (suc l) (s .1) (w .1 .0) (g .1) (n .1) (omega arith),
             (
-              tree-placed b (endIf ∷ flat t rest) (suc split) (suc l) (at-split .1) (w .1 .1 .0) (n .2) (omega arith),
-              tree-placed t rest (suc end) l (at-end .1) (w .1 .1 .1) (n .3) (omega arith),
+              tree-placed b (endIf ∷ flat t rest) (suc split) (suc l) (at-split .1) (w .1 .1 .0) (g .3) (n .2) (omega arith),
+              tree-placed t rest (suc end) l (at-end .1) (w .1 .1 .1) (g .4) (n .3) (omega arith),
             ),
           ),
         )
-    tree-placed (again m a t) rest p l s w n h =
+    tree-placed (again loop a t) rest p l s w g n h =
         let end = suc p + rows a in
         let at-end = stands-after words first a (endRepeat ∷ flat t rest) (suc p) refl (s .1) in (
-          record { opens = s .0; ends = at-end .0; endGoes = w .0 .endGoes; shallow = omega arith },
+          record { opens = s .0; ends = at-end .0; openGoes = g .3; endGoes = g .1; present = n .2; shallow = omega arith },
           (
-            tree-placed a (endRepeat ∷ flat t rest) (suc p) (suc l) (s .1) (w .1 .0) (n .0) (omega arith),
-            tree-placed t rest (suc end) l (at-end .1) (w .1 .1) (n .1) (omega arith),
+            tree-placed a (endRepeat ∷ flat t rest) (suc p) (suc l) (s .1) (w .1 .0) (g .0) (n .0) (omega arith),
+            tree-placed t rest (suc end) l (at-end .1) (w .1 .1) (g .2) (n .1) (omega arith),
           ),
         )
 
@@ -135,12 +139,12 @@ module _ (words : List ℕ) (first : ℕ) (marks goes : List ℕ) (mark : ℕ �
         before-next endIf end (at .ends),
         before-after t (suc end) l q (omega arith) (w .1 .1 .1),
       )
-  before-after (again m a t) p l q e w =
+  before-after (again loop a t) p l q e w =
       let end = suc p + rows a in
       let at = w .0 in
       omega (
         arith,
-        before-next (repeat m) p (at .opens),
+        before-next (repeat loop) p (at .opens),
         before-after a (suc p) (suc l) end refl (w .1 .0),
         before-next endRepeat end (at .ends),
         before-after t (suc end) l q (omega arith) (w .1 .1),

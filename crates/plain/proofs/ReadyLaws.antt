@@ -62,5 +62,5 @@ module _ {words : List ℕ} {shape : Shape} {marks goes : List ℕ} (ready : Rea
   pub ready-placed : Placed words (shape .«first_row») marks goes (markBy (setsOf sheet)) (variablesOf sheet) (length (sheet .constants)) (sheet .body) 0 0
   ready-placed =
       tree-placed words (shape .«first_row») marks goes (markBy (setsOf sheet)) (variablesOf sheet) (length (sheet .constants)) (ready .found .came)
-      (sheet .body) [] 0 0 (tree-stands words (shape .«first_row») (shape .rows) (sheet .body) (ready-lies .says)) (ready .found .noted)
+      (sheet .body) [] 0 0 (tree-stands words (shape .«first_row») (shape .rows) (sheet .body) (ready-lies .says)) (ready .found .noted) (ready .found .goesTo)
       (names-present words sheet (ready .found .accepted)) (omega (arith, sheet-deep words sheet (ready .found .accepted)))

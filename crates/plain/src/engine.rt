@@ -76,8 +76,11 @@ pub fn run_rows(
             }
             number += 1;
         } else {
-            let holds = double::less(a.value, b.value);
-            let next = blocks::cross(part, said.a, holds, goes, &mut to_come, At { row, depth });
+            let asked = sheet::row_of(words, shape.first_row, blocks::asked_row(part, goes, row));
+            let x = cells[cell_of(asked.a)];
+            let y = cells[cell_of(asked.b)];
+            let holds = double::less(x.value, y.value);
+            let next = blocks::cross(part, asked, holds, goes, &mut to_come, At { row, depth });
             let to = next.row;
             number = to.0;
             depth = next.depth;

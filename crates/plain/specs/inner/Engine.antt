@@ -14,6 +14,7 @@ use Rattle.sheet.specs.Answers.{shapeOf}
 use Rattle.sheet.specs.declared.Shape.{Shape}
 use Rattle.sets.specs.Marks.{markedBy}
 use Rattle.sets.specs.Rounds.{setsOf}
+use Rattle.sets.specs.Partners.{GoesTo}
 use Rattle.table.specs.inner.Plans.{SheetNoted}
 use Rattle.machine.specs.Actions.{Attempt, through, halted, counting}
 use Rattle.tangent.specs.inner.TangentPlans.{tableRowsBefore}
@@ -37,13 +38,14 @@ carriedIn v cells = record { values = map valueIn (take v cells); rates = map ra
 
 -- ---- a sheet that is ready to run
 
--- the words are this sheet's, and its marks and partners are noted; where its rows came from is noted too, in some list
+-- the words are this sheet's, and its marks and partners are noted, a loop's row among them; where its rows came from is noted too, in some list
 pub record Found (words : List ℕ) (shape : Shape) (marks goes : List ℕ) : Type 0 where
   pub sheet : Sheet
   pub accepted : read words ≡ given sheet
   pub shapeIs : shape ≡ shapeOf sheet
   pub came : List ℕ
   pub noted : SheetNoted sheet marks came goes
+  pub goesTo : GoesTo goes (sheet .body) 0
 
 -- and there are a mark and a partner for each row
 pub record Ready (words : List ℕ) (shape : Shape) (marks goes : List ℕ) : Type 0 where

@@ -1,28 +1,21 @@
 -- `plain::blocks::cross` meets its contract, by what the row is to the blocks.
 use borrow.Author.Needs.{needs}
-use native.Mathlib.Omega.{arith}
-use Prim.Native.Nat.{_≤_, _<_}
 use mathlib.Core.Path.{subst}
 use lib.ListN.{length}
+use Rattle.sheet.specs.Answers.{rowSaid}
+use Rattle.sheet.specs.inner.Kinds.{turnsIn}
 use Rattle.plain.specs.inner.Crossing.{Crossable}
 use Rattle.plain.proofs.blocks.cross.Statement.{statement}
 use Rattle.plain.proofs.blocks.cross.Tie as tie
 
--- a repeat that opens has turns and room
-module _ (c : tie.After-enum-told5) where
-  abbrev start : tie.Start
-  start = c .before .before .before .before .before
-
-  opens : (1 ≤ start .args .turns) × (start .args .at .depth < length (start .args .to-come .now))
-  opens =
-      subst (λ part. Crossable part (start .args .turns) (start .args .at .depth) (length (start .args .to-come .now)))
-      (c .enum-told5 .given .1) (start .pre .1)
+turns-on-requires : tie.Need-turns-on-requires
+turns-on-requires c κs = search needs
 
 enum-told : tie.Need-enum-told
 enum-told c = search needs
 
-add-t11 : tie.Need-add-t11
-add-t11 c = search needs
+add-t12 : tie.Need-add-t12
+add-t12 c = search needs
 
 enum-told-2 : tie.Need-enum-told-2
 enum-told-2 c = search needs
@@ -39,37 +32,33 @@ beyond-requires c κs = search needs
 enum-told-4 : tie.Need-enum-told-4
 enum-told-4 c = search needs
 
-add-t15 : tie.Need-add-t15
-add-t15 c = search needs
+add-t16 : tie.Need-add-t16
+add-t16 c = search needs
 
 enum-told-5 : tie.Need-enum-told-5
 enum-told-5 c = search needs
 
-sub-to-come : tie.Need-sub-to-come
-sub-to-come c = omega (arith, opens c .0)
+turns-of-requires : tie.Need-turns-of-requires
+turns-of-requires c κs = search needs
 
-mul-to-come : tie.Need-mul-to-come
-mul-to-come c = omega (arith, opens c .1)
-
-slice-write-to-come : tie.Need-slice-write-to-come
-slice-write-to-come c = omega (arith, opens c .1)
-
-add-t18 : tie.Need-add-t18
-add-t18 c = search needs
-
-add-t21 : tie.Need-add-t21
-add-t21 c = omega (arith, opens c .1)
+opened-requires : tie.Need-opened-requires
+opened-requires c κs =
+    let start = c .before .before .before .before .before .before .before .before in
+    let opens =
+    subst (λ part. Crossable part (turnsIn (rowSaid (start .args .asked))) (start .args .at .depth) (length (start .args .to-come .now)))
+    (c .before .before .enum-told5 .given .1) (start .pre .1) in
+    (start .pre .0, rw (c .before .turns-of .ensures) (opens .0), opens .1)
 
 enum-told-6 : tie.Need-enum-told-6
 enum-told-6 c = search needs
 
 turn-ended-requires : tie.Need-turn-ended-requires
 turn-ended-requires c κs =
-    let start = c .before .before .before .before .before .before in
-    let opened =
-    subst (λ part. Crossable part (start .args .turns) (start .args .at .depth) (length (start .args .to-come .now)))
+    let start = c .before .before .before .before .before .before .before in
+    let ends =
+    subst (λ part. Crossable part (turnsIn (rowSaid (start .args .asked))) (start .args .at .depth) (length (start .args .to-come .now)))
     (c .before .enum-told6 .given .1) (start .pre .1) in
-    (start .pre .0, opened .0, opened .1)
+    (start .pre .0, ends .0, ends .1)
 
 returns : tie.Need-returns
 returns c = rw (c .enum-told .given .1)
@@ -87,32 +76,38 @@ same-length : tie.Need-same-length
 same-length c = search needs
 
 returns-5 : tie.Need-returns-5
-returns-5 c = rw (c .enum-told5 .given .1)
+returns-5 c =
+    rw (
+      c .before .before .before .before .before .enum-told5 .given .1,
+      ← c .before .before .before .before .turns-of .ensures,
+      ← c .before .before .before .before .before .before .before .turns-on .ensures,
+    )
+    (c .before .before .opened .ensures)
 
 same-length-2 : tie.Need-same-length-2
 same-length-2 c = search needs
 
 returns-6 : tie.Need-returns-6
-returns-6 c = rw (c .before .before .before .before .enum-told6 .given .1) (c .before .before .turn-ended .ensures)
+returns-6 c =
+    rw (c .before .before .before .before .enum-told6 .given .1, ← c .before .before .before .before .before .before .turns-on .ensures)
+    (c .before .before .turn-ended .ensures)
 
 pub cross-spec : {M : Type 1} → statement M
 cross-spec =
     tie.close
     (tie.spec
+    turns-on-requires
     enum-told
-    add-t11
+    add-t12
     enum-told-2
     branch-requires
     enum-told-3
     beyond-requires
     enum-told-4
-    add-t15
+    add-t16
     enum-told-5
-    sub-to-come
-    mul-to-come
-    slice-write-to-come
-    add-t18
-    add-t21
+    turns-of-requires
+    opened-requires
     enum-told-6
     turn-ended-requires
     returns

@@ -1,6 +1,7 @@
 -- `plain::engine::run_rows` meets its contract. The invariant: what is left to do, from the row at hand, gives the whole run.
 use Prim.Native.Nat.{_≤_, _<_}
 use mathlib.Core.Path.{_≡_, refl, sym, ap, subst, _∙_}
+use mathlib.Core.Bool.{false}
 use lib.ListN.{length, getD}
 use borrow.Author.Needs.{needs}
 use native.Mathlib.Omega.{arith}
@@ -8,14 +9,15 @@ use Rattle.sheet.specs.Bounds.{limit}
 use Rattle.sheet.specs.Answers.{rowSaid}
 use Rattle.sheet.specs.Rows.{Row, kinds}
 use Rattle.sheet.specs.inner.RowLines.{SaysLine, numberedRow}
-use Rattle.sheet.specs.inner.Kinds.{partFor}
+use Rattle.sheet.specs.inner.Kinds.{partFor, assigns}
 use Rattle.sheet.specs.declared.kinds.Part.{Part}
 use Rattle.sheet.proofs.PartsRead.{formIn, part-there}
 use Rattle.sheet.proofs.RowsByKind.{row-kind}
 use lib.Ieee.{nan}
 use Rattle.plain.specs.declared.Rated.{Rated}
+use Rattle.plain.specs.inner.Crossing.{askedRow}
 use Rattle.plain.proofs.ReadyLaws.{ready-readable}
-use Rattle.plain.proofs.EngineRun.{Running, running-starts, running-left, running-room, running-ends, crosses, goes-across, says-assignment, constant-within, goes-assigned, stops-assigned, runs-to}
+use Rattle.plain.proofs.EngineRun.{Running, running-starts, running-left, running-room, running-ends, asked-below, crosses, goes-across, says-assignment, constant-within, goes-assigned, stops-assigned, runs-to}
 use Rattle.plain.proofs.engine.run_rows.Statement.{statement}
 use Rattle.plain.proofs.engine.run_rows.Tie as tie
 
@@ -82,6 +84,53 @@ module _ (c : tie.After-b Inv-loop μ-loop) where
 
   at-b : rowRead read-at .b < limit .variables → y ≡ getD (at .loop .cells) (rowRead read-at .b) none
   at-b h = ap (λ i. getD (at .loop .cells) i none) (c .before .cell-of2 .ensures .1 h)
+
+-- at a block's row, the row that is asked
+module _ (c : tie.After-asked-row Inv-loop μ-loop) where
+  abbrev asked-from : tie.After-b Inv-loop μ-loop
+  asked-from = c .before .before .before
+
+  block : assigns (part (read-at asked-from)) ≡ false
+  block = sym (c .before .before .assigns .ensures) ∙ c .before .if2 .left
+
+  asked-there : c .asked-row .result .0 < start (read-at asked-from) .args .shape .rows
+  asked-there =
+      omega (
+        arith,
+        c .asked-row .ensures,
+        asked-below (running asked-from) (below asked-from) (read asked-from) (says (read-at asked-from)) (part-found (read-at asked-from)),
+      )
+
+-- and the pairs that its words name
+module _ (c : tie.After-y Inv-loop μ-loop) where
+  abbrev asked-at : tie.After-row-of2 Inv-loop μ-loop
+  asked-at = c .before .before .before .before
+
+  abbrev block-at : tie.After-b Inv-loop μ-loop
+  block-at = asked-from (asked-at .before)
+
+  abbrev rowAsked : Row
+  rowAsked = rowSaid (asked-at .row-of2 .result)
+
+  abbrev row-asked : rowAsked
+      ≡ numberedRow (start (read-at block-at) .args .words .now) (start (read-at block-at) .args .shape .«first_row»)
+      (askedRow (part (read-at block-at)) (start (read-at block-at) .args .goes .now) (at block-at .loop .number))
+  row-asked =
+      asked-at .row-of2 .ensures
+      ∙ ap (λ row. numberedRow (start (read-at block-at) .args .words .now) (start (read-at block-at) .args .shape .«first_row») row)
+      (asked-at .before .asked-row .ensures)
+
+  abbrev x-asked : Rated
+  x-asked = getD (at block-at .loop .cells) (c .before .before .before .cell-of4 .result) none
+
+  abbrev y-asked : Rated
+  y-asked = getD (at block-at .loop .cells) (c .before .cell-of5 .result) none
+
+  a-asked : rowAsked .a < limit .variables → x-asked ≡ getD (at block-at .loop .cells) (rowAsked .a) none
+  a-asked h = ap (λ i. getD (at block-at .loop .cells) i none) (c .before .before .before .cell-of4 .ensures .1 h)
+
+  b-asked : rowAsked .b < limit .variables → y-asked ≡ getD (at block-at .loop .cells) (rowAsked .b) none
+  b-asked h = ap (λ i. getD (at block-at .loop .cells) i none) (c .before .cell-of5 .ensures .1 h)
 
 forms-requires : tie.Need-forms-requires Inv-loop μ-loop
 forms-requires c κs = search needs
@@ -184,6 +233,32 @@ loop-again c =
     goes-assigned (running at) (below at) (read at) (says (read-at at)) (part-found (read-at at)) assigning (x at) (y at) none (at-a at) (at-b at)
     (worked .assigned .result) (worked .assigned .ensures) (c .before .before .x .given .1) (c .cell-of3 .result) (c .cell-of3 .ensures .1)
 
+asked-row-requires : tie.Need-asked-row-requires Inv-loop μ-loop
+asked-row-requires c κs =
+    let at = c .before .before in
+    omega (arith, running at .ready .goesThere, below at)
+
+row-of-requires-2 : tie.Need-row-of-requires-2 Inv-loop μ-loop
+row-of-requires-2 c κs = omega (arith, ready-readable (running (asked-from c) .ready) .there, asked-there c)
+
+cell-of-requires-4 : tie.Need-cell-of-requires-4 Inv-loop μ-loop
+cell-of-requires-4 c κs = search needs
+
+mul-x : tie.Need-mul-x Inv-loop μ-loop
+mul-x c = omega (arith, c .cell-of4 .ensures .0)
+
+array-copy-out-x : tie.Need-array-copy-out-x Inv-loop μ-loop
+array-copy-out-x c = omega (arith, c .cell-of4 .ensures .0, running-room (running (asked-from (c .before .before))))
+
+cell-of-requires-5 : tie.Need-cell-of-requires-5 Inv-loop μ-loop
+cell-of-requires-5 c κs = search needs
+
+mul-y : tie.Need-mul-y Inv-loop μ-loop
+mul-y c = omega (arith, c .cell-of5 .ensures .0)
+
+array-copy-out-y : tie.Need-array-copy-out-y Inv-loop μ-loop
+array-copy-out-y c = omega (arith, c .cell-of5 .ensures .0, running-room (running (asked-from (c .before .before .before .before))))
+
 less-requires : tie.Need-less-requires Inv-loop μ-loop
 less-requires c κs = search needs
 
@@ -192,25 +267,26 @@ slice-aggregate-cross c = search needs
 
 cross-requires : tie.Need-cross-requires Inv-loop μ-loop
 cross-requires c κs =
-    let at = c .before .before .before .before in
-    let block = sym (c .before .before .before .assigns .ensures) ∙ c .before .before .if2 .left in (
+    let asked = c .before .before in
+    let at = block-at asked in (
       omega (arith, running at .ready .goesThere, below at),
-      crosses (running at) (below at) (read at) (says (read-at at)) (part-found (read-at at)) (x at) (y at) none (at-a at) (at-b at) block
-          (c .before .less .ensures),
+      crosses (running at) (below at) (read at) (says (read-at at)) (part-found (read-at at)) (block (asked-at asked .before)) (row-asked asked)
+          (x-asked asked) (y-asked asked) none (a-asked asked) (b-asked asked) (c .before .less .ensures),
     )
 
 loop-less-2 : tie.Need-loop-less-2 Inv-loop μ-loop
 loop-less-2 c =
-    let at = c .before .before .before .before .before .before .before in
+    let at = block-at (c .before .before .before .before .before) in
     omega (arith, running-left (running at) (below at))
 
 loop-again-2 : tie.Need-loop-again-2 Inv-loop μ-loop
 loop-again-2 c =
     let crossed = c .before .before in
-    let at = crossed .before .before .before .before .before in
-    let block = sym (crossed .before .before .before .before .assigns .ensures) ∙ crossed .before .before .before .if2 .left in
-    goes-across (running at) (below at) (read at) (says (read-at at)) (part-found (read-at at)) (x at) (y at) none (at-a at) (at-b at) block
-    (crossed .before .before .less .ensures) (crossed .cross .result) _ (crossed .cross .ensures)
+    let asked = crossed .before .before .before in
+    let at = block-at asked in
+    goes-across (running at) (below at) (read at) (says (read-at at)) (part-found (read-at at)) (block (asked-at asked .before)) (row-asked asked)
+    (x-asked asked) (y-asked asked) none (a-asked asked) (b-asked asked) (crossed .before .before .less .ensures) (crossed .cross .result) _
+    (crossed .cross .ensures)
 
 returns-2 : tie.Need-returns-2 Inv-loop μ-loop
 returns-2 c =
@@ -248,6 +324,14 @@ run-rows-spec =
     add-number
     loop-less
     loop-again
+    asked-row-requires
+    row-of-requires-2
+    cell-of-requires-4
+    mul-x
+    array-copy-out-x
+    cell-of-requires-5
+    mul-y
+    array-copy-out-y
     less-requires
     slice-aggregate-cross
     cross-requires
