@@ -17,7 +17,7 @@ use Rattle.sheet.specs.Reading.{read, undivided, readIn}
 use Rattle.sheet.proofs.NamesPresent.{section-length}
 use Rattle.sheet.proofs.RowsCounted.{rows-counted}
 use Rattle.table.proofs.QuotientLaws as quotient-laws
-use Rattle.claims.specs.ExactlyWhen.{First, variables, constants, rows, variableCount, constantCount, rowCount, firstItem, rowPlace, rowNo, Read, QuotientAt, Calculable}
+use Rattle.claims.specs.ExactlyWhen.{First, constants, rows, variableCount, constantCount, rowCount, firstItem, rowPlace, rowNo, Read, QuotientAt, Calculable}
 use Rattle.claims.proofs.FirstFailing.{eachJudged, Fails, all-pass, first-refused, all-or-first}
 
 -- ---- rows in turn

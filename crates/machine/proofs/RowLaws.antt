@@ -2,7 +2,7 @@
 use Prim.Native.Nat.{ℕ, suc, _+_, _≤_, _<_}
 use mathlib.Core.Path.{_≡_, refl, sym}
 use mathlib.Core.Bool.{Bool, true, false}
-use mathlib.Core.List.{List, []}
+use mathlib.Core.List.{List}
 use mathlib.Core.Option.{none, some}
 use native.Mathlib.Decide.{decLt}
 use native.Mathlib.Omega.{arith}
@@ -15,7 +15,7 @@ use Rattle.number.specs.Doubles.{doubles}
 use Rattle.number.specs.Residues.{residues}
 use Rattle.sheet.specs.Rows.{_≔_}
 use Rattle.table.specs.TableRows.{Action, save, takeBack, saveTurn, clear, assign, turnWord}
-use Rattle.machine.specs.Actions.{through, halted, stuck, _>>=_, pushed, Setting, acted, tested, compared}
+use Rattle.machine.specs.Actions.{through, halted, stuck, pushed, Setting, acted, tested, compared}
 use Rattle.machine.specs.inner.RowAnswers.{branchOf, turnOf, heightBranched}
 use Rattle.machine.specs.inner.Buffers.{Buffers, memoryOf, Sound, Does, InBoth, Assigns, Clears, MovesValues, SavesTurn, Compares, TakesTurn, stackOf}
 use Rattle.machine.specs.declared.Went.the-variants as went

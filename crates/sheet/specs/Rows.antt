@@ -5,7 +5,7 @@ use mathlib.Core.List.{List, [], _∷_, map}
 use mathlib.Core.Option.{Option, none, some}
 use lib.ListN.{getD}
 use lib.Dec.{eqb}
-use Rattle.sheet.specs.Tree.{Loop, times, while, Tree, flat, Line, basic, ifLine, elseLine, endIf, repeat, endRepeat}
+use Rattle.sheet.specs.Tree.{times, while, Tree, flat, Line, basic, ifLine, elseLine, endIf, repeat, endRepeat}
 
 -- "0 parameter, 1 independent, 2 dependent, 3 both"
 abbrev pub isIndependent : ℕ → Bool

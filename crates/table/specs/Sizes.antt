@@ -1,5 +1,5 @@
 -- R, S and T, and what the calls check and write answer. When each is answered is said in the claims; how it is computed stands in Calls.antt.
-use Prim.Native.Nat.{ℕ, suc, _+_, _*_, max}
+use Prim.Native.Nat.{ℕ, _+_, _*_, max}
 use mathlib.Core.Bool.{cond}
 use mathlib.Core.List.{List}
 use Rattle.sheet.specs.Tree.{Loop, mostTurns, hasTest, done, one, fork, again, rows, longestRun}

@@ -1,5 +1,4 @@
 -- `machine::blocks::ask_loop` meets its contract, in either arithmetic: into the loop's body, or past it.
-use native.Mathlib.Omega.{arith}
 use Rattle.machine.proofs.RowLaws.{in-both, in-both-by}
 use Rattle.machine.proofs.CrossLaws.{asks-in, asks-out}
 use borrow.Author.Needs.{needs}

@@ -1,7 +1,6 @@
 -- `writer::rows::loop_kind` meets its contract.
 use Prim.Native.Nat.{ℕ, zero, suc}
 use mathlib.Core.Path.{_≡_, refl}
-use native.Mathlib.Omega.{arith}
 use Rattle.table.specs.inner.MarkedRows.{rowWith, loopBack}
 use Rattle.writer.proofs.rows.loop_kind.Statement.{statement}
 use Rattle.writer.proofs.rows.loop_kind.Tie as tie
