@@ -28,8 +28,7 @@ use machine::Moved;
 use machine::Place;
 use machine::Ran;
 use machine::Went;
-use machine::blocks::ask_loop;
-use machine::blocks::branch_to;
+use machine::blocks::ask_row;
 use machine::blocks::cross;
 use machine::places::did_to;
 use machine::places::first_place;
@@ -360,21 +359,10 @@ fn block_row(
     let at = place.at;
     match block_at(table, rows, place) {
         Met::Out(ended) => Crossed::Out(ended),
-        Met::Compare(a, b, next) => branch_to(test(store, a, b), beyond, at, next),
         Met::Other(row, next) => cross(row, beyond, at, next, turns, bodies, to_come),
         Met::Ask(row, next) => {
             let branch = test(store, Variable(row.a as usize), Variable(row.b as usize));
-            ask_loop(
-                branch,
-                row.d,
-                keeps,
-                beyond,
-                at,
-                next,
-                turns,
-                bodies,
-                to_come,
-            )
+            ask_row(branch, row, keeps, beyond, at, next, turns, bodies, to_come)
         }
     }
 }

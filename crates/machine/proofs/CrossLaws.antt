@@ -23,9 +23,9 @@ use Rattle.machine.specs.Actions.{through, stuck, Memory, Setting, count
 use Rattle.machine.specs.Machine.{itsElse, itsEnd, oneMore, seek, seekClose, Repeat, backTo, State, Step, step, stepAt, goTo, jump, afterTest, afterTurn, pending, loopEnds, asked, onCount}
 use Rattle.machine.specs.inner.RowAnswers.{heightAfter, branchOf, turnOf, heightBranched}
 use Rattle.machine.specs.inner.Buffers.{stackOf, Stack, Buffers, memoryOf, Sound, Tests, Compares, TakesTurn}
-use Rattle.machine.specs.inner.RowsHanded.{Indexes, Arrives, Jumps}
+use Rattle.machine.specs.inner.RowsHanded.{Compared, Indexes, Arrives, Jumps}
 use Rattle.machine.specs.inner.RowSteps.{stuckThere, noteOf, Opened, Pushes, Opens, Closes, isUnderWay, turnsLeft, loopsAround, Pends, KeptAs, KeepsCount, JumpsTo, BranchesTo, TurnsTo, CrossedLeft, CrossedSays, BlockRow, CrossesBy, StepsTo, EndsLoop, AsksLoop, OnCount}
-use Rattle.machine.specs.inner.RowSteps.{buffersAt, stateAt, raised, within, moved, following, preceding, MeetsRow, MeetsCompare, Meets, Stays, Blocked}
+use Rattle.machine.specs.inner.RowSteps.{buffersAt, stateAt, raised, within, moved, following, preceding, MeetsRow, AsksLess, AsksRow, Meets, Stays, Blocked}
 use Rattle.machine.specs.inner.Buffers.{Cells, cellsOf}
 use Rattle.machine.specs.declared.Place.{Place}
 use Rattle.machine.specs.declared.Branch.{Branch}
@@ -86,36 +86,24 @@ module _ {table : List ℕ} {rows : ℕ} {place next : Place} {row : Row} {left 
   pub meets-row : MeetsRow table rows place row next
   meets-row = record { follows = record { left = left; is = follows; spends = spends }; within = within; said = said }
 
-  pub meets-compare : row .kind ≡ 7 → MeetsCompare table rows place (row .a) (row .b) next
-  meets-compare kind = record { row = row; meets = meets-row; kind = kind; first = refl; second = refl }
-
--- the operands of a comparison that stands at a place are there
-module _ {table : List ℕ} {rows variables : ℕ} (place : Place) {next : Place} {met : Met} {a b : Variable} (meets : Meets table rows place met)
-    (is : met ≡ met-as.Compare a b next)
-    (indexes : Indexes table rows variables) where
-  pub first-there : a .0 < variables
-  first-there =
-      let there = rw is at meets in
-      rw (sym (there .first)) (rw (sym (there .meets .said)) at (indexes .indexed .compared (place .at .0) (there .meets .within)) .first (there .kind))
-
-  pub second-there : b .0 < variables
-  second-there =
-      let there = rw is at meets in
-      rw (sym (there .second)) (rw (sym (there .meets .said)) at (indexes .indexed .compared (place .at .0) (there .meets .within)) .second (there .kind))
-
--- and those of a loop's test
+-- the operands of what a row at a place asks are there
 module _ {table : List ℕ} {rows variables : ℕ} (place : Place) {next : Place} {met : Met} {row : RowWords} (meets : Meets table rows place met)
     (is : met ≡ met-as.Ask row next)
     (indexes : Indexes table rows variables) where
-  pub first-asked : row .a < variables
-  first-asked =
+  operands-there : (row .a < variables) × (row .b < variables)
+  operands-there =
       let (there, kind) = rw is at meets in
-      rw (sym (there .said)) at (indexes .indexed .compared (place .at .0) (there .within)) .firstAsked kind
+      by-kind (rw (sym (there .said)) at (indexes .indexed .compared (place .at .0) (there .within))) kind
+    where
+      by-kind : Compared variables (rowSaid row) → AsksLess (row .kind) → (row .a < variables) × (row .b < variables)
+      by-kind compared (inl if-kind) = (compared .first if-kind, compared .second if-kind)
+      by-kind compared (inr loop-kind) = (compared .firstAsked loop-kind, compared .secondAsked loop-kind)
 
-  pub second-asked : row .b < variables
-  second-asked =
-      let (there, kind) = rw is at meets in
-      rw (sym (there .said)) at (indexes .indexed .compared (place .at .0) (there .within)) .secondAsked kind
+  pub first-there : row .a < variables
+  first-there = operands-there .0
+
+  pub second-there : row .b < variables
+  second-there = operands-there .1
 
 -- ---- where a jump's code goes
 
@@ -715,8 +703,8 @@ module _ {A : Arithmetic} where
       by (some x) branch-as.First e = sym (ap firstIn e)
       by (some x) branch-as.Second e = sym (ap firstIn e)
 
-  module _ {table : List ℕ} {rows : ℕ} {beyond : List ℕ} {keeps : Bool} {place : Place} {store : List (A .Carrier)} {turns bodies toCome : List ℕ} {met : Met} where
-    pub block-leaves : {how : Ended} → Meets table rows place met → met ≡ met-as.Out how
+  module _ {table : List ℕ} {rows : ℕ} {beyond : List ℕ} {keeps : Bool} {place : Place} {store : List (A .Carrier)} {turns bodies toCome : List ℕ} where
+    pub block-leaves : {how : Ended} {met : Met} → Meets table rows place met → met ≡ met-as.Out how
         → BlockRow A table rows beyond keeps place store turns bodies toCome turns bodies toCome (crossed.Out how)
     unfolding step stepAt
     block-leaves {how} meets is = by-end how (rw is at meets)
@@ -739,7 +727,7 @@ module _ {A : Arithmetic} where
                   (spent, record { opened = opened; stays = refl });
             }
 
-    pub block-crosses : {row : RowWords} {next : Place} {turnsAfter bodiesAfter toComeAfter : List ℕ} {answer : Crossed} → Meets table rows place met
+    pub block-crosses : {row : RowWords} {next : Place} {turnsAfter bodiesAfter toComeAfter : List ℕ} {answer : Crossed} {met : Met} → Meets table rows place met
         → met ≡ met-as.Other row next
         → CrossesBy A (rowSaid row) beyond (place .at .0) next turns bodies toCome turnsAfter bodiesAfter toComeAfter answer
         → BlockRow A table rows beyond keeps place store turns bodies toCome turnsAfter bodiesAfter toComeAfter answer
@@ -761,48 +749,46 @@ module _ {A : Arithmetic} where
               });
         }
 
-    pub block-compares : {a b : Variable} {next : Place} {picked : Branch} {answer : Crossed} → Meets table rows place met
-        → met ≡ met-as.Compare a b next
-        → Compares A (a .0) (b .0) store picked
+    block-compares : {row : RowWords} {next : Place} {picked : Branch} {answer : Crossed} → MeetsRow table rows place (rowSaid row) next
+        → row .kind ≡ 7
+        → Compares A (row .a) (row .b) store picked
         → BranchesTo beyond (place .at .0) next picked answer
         → BlockRow A table rows beyond keeps place store turns bodies toCome turns bodies toCome answer
     unfolding blockOf
-    block-compares {a} {b} {next} {picked} {answer} meets is compares to =
-        let there = rw is at meets in
-        let row = there .row in
-        let left = there .meets .follows .left in
-        let spends = there .meets .follows .spends in
-        let goes = rw (there .meets .follows .is) at to in
+    block-compares {row} {next} {picked} {answer} there kind compares to =
+        let left = there .follows .left in
+        let spends = there .follows .spends in
+        let goes = rw (there .follows .is) at to in
         let follow = following place (place .at .0 + 1) left in
         let picks = branch-picks beyond (place .at .0) follow picked answer goes in
         record {
           left = rw spends (picks-left beyond (place .at .0) follow (place .turns) (branchOf picked) answer picks);
           steps = λ setting lines repeats values copied held holds count jumps none-due keeping opened shallow sound.
-              let line = stands-there lines (place .at .0) (rw count (there .meets .within)) in
-              let words = words-there table lines (line .rest) (line .line) (place .at .0) row holds (there .meets .said) (line .is) in
-              let is-if : blockOf row ≡ some (ifLine (whether (less (a .0) (b .0)))) = rw (there .kind, there .first, there .second) in
-              let told : some (ifLine (whether (less (a .0) (b .0)))) ≡ some (saidOf (line .line)) =
+              let line = stands-there lines (place .at .0) (rw count (there .within)) in
+              let words = words-there table lines (line .rest) (line .line) (place .at .0) (rowSaid row) holds (there .said) (line .is) in
+              let f : TableTest = whether (less (row .a) (row .b)) in
+              let is-if : blockOf (rowSaid row) ≡ some (ifLine f) = rw kind in
+              let told : some (ifLine f) ≡ some (saidOf (line .line)) =
               sym is-if
               ∙ ap blockOf (sym words)
               ∙ block-said (line .line)
               (λ basic-row is. none-due (omega arith) basic-row (line .rest) (line .is ∙ ap (λ (l : TableLine). l ∷ line .rest) is)) in
-              let same : ifLine (whether (less (a .0) (b .0))) ≡ line .line = said-all _ (line .line) tt cc in
+              let same : ifLine f ≡ line .line = said-all _ (line .line) tt cc in
               let here = line .is ∙ ap (λ (l : TableLine). l ∷ line .rest) (sym same) in
               let cells = cellsOf A store values turns copied in
               found-there place lines setting repeats cells cells held bodies toCome answer spends here
-              (test-crosses (whether (less (a .0) (b .0))) (place .turns) (add-one (place .at .0)) here jumps opened (branchOf picked)
+              (test-crosses f (place .turns) (add-one (place .at .0)) here jumps opened (branchOf picked)
               (compares .tests setting values (place .values) turns (place .turns) held sound) picks);
         }
 
-    pub block-asks : {row : RowWords} {next : Place} {picked : Branch} {turnsAfter bodiesAfter toComeAfter : List ℕ} {answer : Crossed}
-        → Meets table rows place met
-        → met ≡ met-as.Ask row next
+    block-loops : {row : RowWords} {next : Place} {picked : Branch} {turnsAfter bodiesAfter toComeAfter : List ℕ} {answer : Crossed}
+        → MeetsRow table rows place (rowSaid row) next
+        → row .kind ≡ whileKind
         → Compares A (row .a) (row .b) store picked
         → AsksLoop A picked (row .d) keeps beyond (place .at .0) next turns bodies toCome turnsAfter bodiesAfter toComeAfter answer
         → BlockRow A table rows beyond keeps place store turns bodies toCome turnsAfter bodiesAfter toComeAfter answer
     unfolding blockOf tableRowOf rowOfTableWhile
-    block-asks {row} {next} {picked} {turnsAfter} {bodiesAfter} {toComeAfter} {answer} meets is compares loop =
-        let (there, kind) = rw is at meets in
+    block-loops {row} {next} {picked} {turnsAfter} {bodiesAfter} {toComeAfter} {answer} there kind compares loop =
         let left = there .follows .left in
         let spends = there .follows .spends in
         let done = rw (there .follows .is) at loop in
@@ -830,3 +816,20 @@ module _ {A : Arithmetic} where
                     sound;
               });
         }
+
+    pub block-asks : {row : RowWords} {next : Place} {picked : Branch} {turnsAfter bodiesAfter toComeAfter : List ℕ} {answer : Crossed} {met : Met}
+        → Meets table rows place met
+        → met ≡ met-as.Ask row next
+        → Compares A (row .a) (row .b) store picked
+        → AsksRow A picked (rowSaid row) keeps beyond (place .at .0) next turns bodies toCome turnsAfter bodiesAfter toComeAfter answer
+        → BlockRow A table rows beyond keeps place store turns bodies toCome turnsAfter bodiesAfter toComeAfter answer
+    block-asks {row} {next} {picked} {turnsAfter} {bodiesAfter} {toComeAfter} {answer} meets is compares row-asks =
+        let (there, kind) = rw is at meets in
+        by-kind there kind
+      where
+        by-kind : MeetsRow table rows place (rowSaid row) next → AsksLess (row .kind)
+            → BlockRow A table rows beyond keeps place store turns bodies toCome turnsAfter bodiesAfter toComeAfter answer
+        by-kind there (inl if-kind) =
+            let (to, same-turns, same-bodies, same-to-come) = row-asks .picks if-kind in
+            rw (same-turns, same-bodies, same-to-come) (block-compares there if-kind compares to)
+        by-kind there (inr loop-kind) = block-loops there loop-kind compares (row-asks .asks (λ if-kind. omega arith))

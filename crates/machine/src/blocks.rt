@@ -3,7 +3,7 @@ ghost use mathlib.Core.Path.{_≡_};
 ghost use Prim.Native.Nat.{_-_};
 ghost use Rattle.sheet.specs.Answers.{rowSaid};
 ghost use Rattle.machine.specs.inner.Buffers.{InBoth};
-ghost use Rattle.machine.specs.inner.RowSteps.{JumpsTo, BranchesTo, TurnsTo, Pushes, Opens, Closes, Pends, EndsLoop, AsksLoop, OnCount, CrossesBy};
+ghost use Rattle.machine.specs.inner.RowSteps.{JumpsTo, BranchesTo, TurnsTo, Pushes, Opens, Closes, Pends, EndsLoop, AsksLoop, AsksRow, OnCount, CrossesBy};
 use super::Branch;
 use super::Branched;
 use super::Counted;
@@ -37,7 +37,7 @@ fn jump(beyond: &[u16], at: RowNumber, next: Place) -> Crossed
 }
 
 // Kind 7, from the branch that the comparison picks.
-pub fn branch_to(branch: Branch, beyond: &[u16], at: RowNumber, next: Place) -> Crossed
+fn branch_to(branch: Branch, beyond: &[u16], at: RowNumber, next: Place) -> Crossed
     ensures { λ r. ⌜ BranchesTo (now (beyond .entry)) (at .0) next branch r ⌝ }
 {
     match branch {
@@ -185,7 +185,7 @@ fn end_loop(
 }
 
 // Kind 19, from what its test says: "after d turns the loop ends without a further test".
-pub fn ask_loop(
+fn ask_loop(
     branch: Branch,
     most: u16,
     keeps: bool,
@@ -210,6 +210,38 @@ pub fn ask_loop(
         Branch::First => push_loop(at.0, now.note, around, bodies, to_come),
         Branch::Second => end_loop(done, keeps, beyond, at, around, turns),
     }
+}
+
+// A row that asks whether a < b, from what it is told: kind 7 or kind 19. One function for both, so that the runner compares in one place.
+pub fn ask_row(
+    branch: Branch,
+    row: RowWords,
+    keeps: bool,
+    beyond: &[u16],
+    at: RowNumber,
+    next: Place,
+    turns: &mut [u16],
+    bodies: &mut [usize; MAX_DEPTH],
+    to_come: &mut [usize; MAX_DEPTH],
+) -> Crossed
+    ensures { λ r. ⌜ InBoth (λ A. AsksRow A branch (rowSaid row) keeps (now (beyond .entry)) (at .0) next (now (turns .entry)) (now (bodies .entry))
+        (now («to_come» .entry)) (now (turns .exit)) (now (bodies .exit)) (now («to_come» .exit)) r) ⌝ }
+{
+    let most = row.d;
+    if row.kind == kinds::IF {
+        return branch_to(branch, beyond, at, next);
+    }
+    ask_loop(
+        branch,
+        most,
+        keeps,
+        beyond,
+        at,
+        next,
+        turns,
+        bodies,
+        to_come,
+    )
 }
 
 // Kind 20. A ninth loop leaves all as it stands, so the count is looked at before it is taken; the place that is taken back is cleared.

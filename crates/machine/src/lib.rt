@@ -50,10 +50,9 @@ pub struct Place {
     pub left: usize,
 }
 
-// What the outer loop meets at a place: the run's end, a comparison, a loop with a test, or another row, each row with the place after it.
+// What the outer loop meets at a place: the run's end, a row that asks whether a < b, an "if" or a loop with a test, or another row, each row with the place after it.
 pub enum Met {
     Out(Ended),
-    Compare(Variable, Variable, Place),
     Ask(RowWords, Place),
     Other(RowWords, Place),
 }

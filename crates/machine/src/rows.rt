@@ -14,7 +14,6 @@ use super::Place;
 use super::places::following;
 use sheet::RowNumber;
 use sheet::RowWords;
-use sheet::Variable;
 use sheet::kinds;
 
 // The words of one of a table's rows: they start after the row count.
@@ -43,9 +42,7 @@ pub fn block_at(table: &[u16], rows: usize, place: Place) -> Met
     let after = RowNumber(number + 1);
     let next = following(place, after, left - 1);
     if row.kind == kinds::IF {
-        let a = row.a as usize;
-        let b = row.b as usize;
-        return Met::Compare(Variable(a), Variable(b), next);
+        return Met::Ask(row, next);
     }
     if row.kind == kinds::WHILE {
         return Met::Ask(row, next);

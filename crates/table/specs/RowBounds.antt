@@ -1,4 +1,4 @@
--- How large R can be, and how many variables a table has. No demand speaks of it: the code's arrays and the count of its steps do.
+-- How large R can be, and how many variables a table has: by it go the steps that a run takes at most, and the code's arrays.
 use Prim.Native.Nat.{ℕ, _+_, _*_}
 use Rattle.sheet.specs.Bounds.{limit}
 

@@ -163,20 +163,16 @@ pub record MeetsRow (table : List ℕ) (rows : ℕ) (place : Place) (row : Row) 
   pub within : place .at .0 < rows
   pub said : row ≡ rowAt table (1 + place .at .0 * limit .rowWords)
 
-pub record MeetsCompare (table : List ℕ) (rows : ℕ) (place : Place) (a b : ℕ) (next : Place) : Type 0 where
-  pub row : Row
-  pub meets : MeetsRow table rows place row next
-  pub kind : row .kind ≡ 7
-  pub first : row .a ≡ a
-  pub second : row .b ≡ b
+-- a row that asks whether a < b: an "if", or a loop with a test
+abbrev pub AsksLess : (kind : ℕ) → Type 0
+AsksLess kind = (kind ≡ 7) ⊎ (kind ≡ whileKind)
 
 abbrev pub Meets : (table : List ℕ) → (rows : ℕ) → Place → Met → Type 0
 Meets table rows place (met-as.Out ended-as.Finished) = (0 < place .left) × (rows ≤ place .at .0)
 Meets table rows place (met-as.Out (ended-as.Stopped row)) = ⊥
 Meets table rows place (met-as.Out ended-as.Stuck) = ⊥
 Meets table rows place (met-as.Out ended-as.Unfinished) = place .left ≡ 0
-Meets table rows place (met-as.Compare a b next) = MeetsCompare table rows place (a .0) (b .0) next
-Meets table rows place (met-as.Ask row next) = MeetsRow table rows place (rowSaid row) next × (row .kind ≡ whileKind)
+Meets table rows place (met-as.Ask row next) = MeetsRow table rows place (rowSaid row) next × AsksLess (row .kind)
 Meets table rows place (met-as.Other row next) = MeetsRow table rows place (rowSaid row) next × (row .kind ≢ 7) × (row .kind ≢ whileKind)
 
 -- a row of the kind that is expected there
@@ -482,6 +478,12 @@ module _ (A : Arithmetic) where
         → Sound A setting (buffersAt next (cellsOf A store values turns copied) held)
         → StepsTo setting (repeat (while (whether f) m)) rest at next repeats (cellsOf A store values turns copied) (cellsOf A store values turnsAfter copied)
         held bodiesAfter toComeAfter answer
+
+  -- a row that asks, whichever it is; an "if" leaves the loops and the turns alone
+  pub record AsksRow (branch : Branch) (row : Row) (keeps : Bool) (beyond : List ℕ) (at : ℕ) (next : Place)
+      (turns bodies toCome turnsAfter bodiesAfter toComeAfter : List ℕ) (answer : Crossed) : Type 0 where
+    pub picks : row .kind ≡ 7 → BranchesTo beyond at next branch answer × (turnsAfter ≡ turns) × (bodiesAfter ≡ bodies) × (toComeAfter ≡ toCome)
+    pub asks : row .kind ≢ 7 → AsksLoop branch (row .d) keeps beyond at next turns bodies toCome turnsAfter bodiesAfter toComeAfter answer
 
   -- kind 20, whatever number of turns its loop does at most
   pub record OnCount (beyond : List ℕ) (at : ℕ) (next : Place) (turns bodies toCome turnsAfter bodiesAfter toComeAfter : List ℕ) (answer : Crossed) : Type 0 where

@@ -1,6 +1,6 @@
 -- `residue_rows::block_row` meets its contract.
 use borrow.Author.Needs.{needs}
-use Rattle.machine.proofs.CrossLaws.{first-there, second-there, first-asked, second-asked, block-leaves, block-compares, block-crosses, block-asks}
+use Rattle.machine.proofs.CrossLaws.{first-there, second-there, block-leaves, block-crosses, block-asks}
 use Rattle.residue_rows.proofs.block_row.Statement.{statement}
 use Rattle.residue_rows.proofs.block_row.Tie as tie
 
@@ -12,21 +12,6 @@ block-at-requires c κs =
 enum-known-ended : tie.Need-enum-known-ended
 enum-known-ended c = search needs
 
-enum-known-a : tie.Need-enum-known-a
-enum-known-a c = search needs
-
-test-requires : tie.Need-test-requires
-test-requires c κs =
-    let start : tie.Start = search in
-    let met : tie.After-block-at = search in
-    let matched : tie.After-a = search in (
-      first-there (start .args .place) (met .block-at .ensures) (matched .a .given .1) (start .pre),
-      second-there (start .args .place) (met .block-at .ensures) (matched .a .given .1) (start .pre),
-    )
-
-branch-to-requires : tie.Need-branch-to-requires
-branch-to-requires c κs = search needs
-
 enum-known-row : tie.Need-enum-known-row
 enum-known-row c = search needs
 
@@ -36,23 +21,23 @@ cross-requires c κs = search needs
 enum-known-row-2 : tie.Need-enum-known-row-2
 enum-known-row-2 c = search needs
 
-cast-t27 : tie.Need-cast-t27
-cast-t27 c = search needs
+cast-t23 : tie.Need-cast-t23
+cast-t23 c = search needs
 
-cast-t29 : tie.Need-cast-t29
-cast-t29 c = search needs
+cast-t25 : tie.Need-cast-t25
+cast-t25 c = search needs
 
-test-requires-2 : tie.Need-test-requires-2
-test-requires-2 c κs =
+test-requires : tie.Need-test-requires
+test-requires c κs =
     let start : tie.Start = search in
     let met : tie.After-block-at = search in
     let matched : tie.After-row2 = search in (
-      first-asked (start .args .place) (met .block-at .ensures) (matched .row2 .given .1) (start .pre),
-      second-asked (start .args .place) (met .block-at .ensures) (matched .row2 .given .1) (start .pre),
+      first-there (start .args .place) (met .block-at .ensures) (matched .row2 .given .1) (start .pre),
+      second-there (start .args .place) (met .block-at .ensures) (matched .row2 .given .1) (start .pre),
     )
 
-ask-loop-requires : tie.Need-ask-loop-requires
-ask-loop-requires c κs = search needs
+ask-row-requires : tie.Need-ask-row-requires
+ask-row-requires c κs = search needs
 
 returns : tie.Need-returns
 returns c =
@@ -60,18 +45,11 @@ returns c =
     let matched : tie.After-ended = search in
     block-leaves (met .block-at .ensures) (matched .ended .given .1)
 
-returns-2 : tie.Need-returns-2
-returns-2 c =
-    let met : tie.After-block-at = search in
-    let matched : tie.After-a = search in
-    let tested : tie.After-test = search in
-    block-compares (met .block-at .ensures) (matched .a .given .1) (tested .test .ensures) (c .branch-to .ensures)
-
 same-length : tie.Need-same-length
 same-length c = search needs
 
-returns-3 : tie.Need-returns-3
-returns-3 c =
+returns-2 : tie.Need-returns-2
+returns-2 c =
     let met : tie.After-block-at = search in
     let matched : tie.After-row = search in
     let crossed : tie.After-cross = search in
@@ -80,13 +58,13 @@ returns-3 c =
 same-length-2 : tie.Need-same-length-2
 same-length-2 c = search needs
 
-returns-4 : tie.Need-returns-4
-returns-4 c =
+returns-3 : tie.Need-returns-3
+returns-3 c =
     let met : tie.After-block-at = search in
     let matched : tie.After-row2 = search in
-    let tested : tie.After-test2 = search in
-    let asked : tie.After-ask-loop = search in
-    block-asks (met .block-at .ensures) (matched .row2 .given .1) (tested .test2 .ensures) (asked .ask-loop .ensures .residues)
+    let tested : tie.After-test = search in
+    let asked : tie.After-ask-row = search in
+    block-asks (met .block-at .ensures) (matched .row2 .given .1) (tested .test .ensures) (asked .ask-row .ensures .residues)
 
 pub block-row-spec : {M : Type 1} → statement M
 block-row-spec =
@@ -94,19 +72,15 @@ block-row-spec =
     (tie.spec
     block-at-requires
     enum-known-ended
-    enum-known-a
-    test-requires
-    branch-to-requires
     enum-known-row
     cross-requires
     enum-known-row-2
-    cast-t27
-    cast-t29
-    test-requires-2
-    ask-loop-requires
+    cast-t23
+    cast-t25
+    test-requires
+    ask-row-requires
     returns
-    returns-2
     same-length
-    returns-3
+    returns-2
     same-length-2
-    returns-4)
+    returns-3)

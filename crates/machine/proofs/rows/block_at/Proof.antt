@@ -1,7 +1,8 @@
 -- `machine::rows::block_at` meets its contract.
+use mathlib.Core.Logic.{inl, inr}
 use native.Mathlib.Omega.{arith}
 use borrow.Author.Needs.{needs}
-use Rattle.machine.proofs.CrossLaws.{meets-row, meets-compare}
+use Rattle.machine.proofs.CrossLaws.{meets-row}
 use Rattle.machine.proofs.rows.block_at.Statement.{statement}
 use Rattle.machine.proofs.rows.block_at.Tie as tie
 
@@ -23,23 +24,17 @@ sub-following c = search needs
 following-requires : tie.Need-following-requires
 following-requires c κs = search needs
 
-cast-a : tie.Need-cast-a
-cast-a c = search needs
-
-cast-b : tie.Need-cast-b
-cast-b c = search needs
-
 returns-3 : tie.Need-returns-3
 returns-3 c =
-    meets-compare (c .before .before .before .before .before .row-of .ensures) (omega arith) (omega arith)
-    (c .before .before .before .before .following .ensures)
-    (c .before .before .if3 .taken)
+    let read : tie.After-row-of = search in
+    let next : tie.After-following = search in
+    (meets-row (read .row-of .ensures) (omega arith) (omega arith) (next .following .ensures), inl (c .if3 .taken))
 
 returns-4 : tie.Need-returns-4
 returns-4 c =
     let read : tie.After-row-of = search in
     let next : tie.After-following = search in
-    (meets-row (read .row-of .ensures) (omega arith) (omega arith) (next .following .ensures), c .if4 .taken)
+    (meets-row (read .row-of .ensures) (omega arith) (omega arith) (next .following .ensures), inr (c .if4 .taken))
 
 returns-5 : tie.Need-returns-5
 returns-5 c =
@@ -57,8 +52,6 @@ block-at-spec =
     add-following
     sub-following
     following-requires
-    cast-a
-    cast-b
     returns-3
     returns-4
     returns-5)
