@@ -261,7 +261,7 @@ fn on_count(
     };
     if count == 0 {
         turns[top] = 0;
-        return jump(beyond, at, raised(next, next.values, top));
+        return branch_to(Branch::Second, beyond, at, raised(next, next.values, top));
     }
     if MAX_DEPTH <= next.depth {
         return Crossed::Out(Ended::Stuck);

@@ -42,8 +42,8 @@ slice-write-turns c =
 raised-requires : tie.Need-raised-requires
 raised-requires c κs = search needs
 
-jump-requires : tie.Need-jump-requires
-jump-requires c κs = search needs
+branch-to-requires : tie.Need-branch-to-requires
+branch-to-requires c κs = search needs
 
 same-length-2 : tie.Need-same-length-2
 same-length-2 c = search needs
@@ -55,7 +55,7 @@ returns-2 c =
     let top = rw (matched .count .given .1) at (counted .count-there .ensures) in
     let lower : tie.After-raised = search in
     let none : tie.Then1 = search in
-    in-both (λ A. counts-past _ (top .0) (top .1) (sym (top .2) ∙ none .if1 .taken) (rw (lower .raised .ensures) at (c .jump .ensures)))
+    in-both (λ A. counts-past _ (top .0) (top .1) (sym (top .2) ∙ none .if1 .taken) (rw (lower .raised .ensures) at (c .branch-to .ensures)))
 
 same-length-3 : tie.Need-same-length-3
 same-length-3 c = search needs
@@ -114,7 +114,7 @@ on-count-spec =
     mul-turns
     slice-write-turns
     raised-requires
-    jump-requires
+    branch-to-requires
     same-length-2
     returns-2
     same-length-3
