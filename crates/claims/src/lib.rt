@@ -1,5 +1,7 @@
 // Each public call once more, with the demands as its contract: that they follow from what the call itself promises is proved here of the code.
 // And `balance`, which runs both directions. The statements are in specs/, the theorems in proofs/.
+#![tactic(auto)]
+
 ghost use Rattle.std.specs.Prelude.{◌≡◌, ◌≤◌, length};
 ghost use Rattle.number.specs.Doubles.{doubles};
 ghost use Rattle.number.specs.Residues.{residues};
@@ -13,7 +15,7 @@ ghost use Rattle.claims.specs.Balance.{weighed_of, BalanceMeets};
 ghost use Rattle.claims.specs.Inner.Summing.{dot_of, HalvesLong, sums_of, sums_if_done};
 
 // What both runs answer, and 02 §5's two sums.
-#[derive(Drop)]
+#[derive(Clone, Copy)]
 struct Sums {
     adjoint: table::Reply,
     tangent: table::Reply,

@@ -1,4 +1,6 @@
 // The row machine in doubles: its single rows, and a run of a table's rows. An assignment's result that isn't finite stops the row.
+#![tactic(auto)]
+
 ghost use Rattle.std.specs.Prelude.{cond, ◌≡◌, ◌+◌, ◌<◌, ◌≤◌, length};
 ghost use Rattle.number.specs.Answers.{outcome_of};
 ghost use Rattle.number.specs.Doubles.{doubles};
@@ -41,8 +43,8 @@ fn fixed(constants: &[u16], c: usize) -> Outcome
 
 // Kind 3.
 fn added(store: &[f64], a: Variable, b: Variable) -> Outcome
-    requires fact_1 { a.0 < length store.now }
-    requires fact_2 { b.0 < length store.now }
+    requires a_in { a.0 < length store.now }
+    requires b_in { b.0 < length store.now }
     ensures { Evaluates doubles (sum a.0 b.0) store.now (from_outcome (outcome_of result)) }
 {
     let first = a.0;
@@ -52,8 +54,8 @@ fn added(store: &[f64], a: Variable, b: Variable) -> Outcome
 
 // Kind 4.
 fn subtracted(store: &[f64], a: Variable, b: Variable) -> Outcome
-    requires fact_1 { a.0 < length store.now }
-    requires fact_2 { b.0 < length store.now }
+    requires a_in { a.0 < length store.now }
+    requires b_in { b.0 < length store.now }
     ensures { Evaluates doubles (difference a.0 b.0) store.now (from_outcome (outcome_of result)) }
 {
     let first = a.0;
@@ -63,8 +65,8 @@ fn subtracted(store: &[f64], a: Variable, b: Variable) -> Outcome
 
 // Kind 5.
 fn multiplied(store: &[f64], a: Variable, b: Variable) -> Outcome
-    requires fact_1 { a.0 < length store.now }
-    requires fact_2 { b.0 < length store.now }
+    requires a_in { a.0 < length store.now }
+    requires b_in { b.0 < length store.now }
     ensures { Evaluates doubles (product a.0 b.0) store.now (from_outcome (outcome_of result)) }
 {
     let first = a.0;
@@ -83,8 +85,8 @@ fn negated(store: &[f64], a: Variable) -> Outcome
 
 // Kind 18.
 fn divided(store: &[f64], a: Variable, b: Variable) -> Outcome
-    requires fact_1 { a.0 < length store.now }
-    requires fact_2 { b.0 < length store.now }
+    requires a_in { a.0 < length store.now }
+    requires b_in { b.0 < length store.now }
     ensures { Evaluates doubles (quotient a.0 b.0) store.now (from_outcome (outcome_of result)) }
 {
     let first = a.0;
@@ -153,8 +155,8 @@ fn take_back(store: &mut [f64], d: Variable, values: &mut [f64], height: usize) 
 
 // Kind 7.
 fn test(store: &[f64], a: Variable, b: Variable) -> Branch
-    requires fact_1 { a.0 < length store.now }
-    requires fact_2 { b.0 < length store.now }
+    requires a_in { a.0 < length store.now }
+    requires b_in { b.0 < length store.now }
     ensures { Compares doubles a.0 b.0 store.now result }
 {
     let first = a.0;
@@ -282,8 +284,8 @@ fn straight_row(
     copied: &mut [f64],
     place: Place,
 ) -> Acted
-    requires fact_1 { Indexed table.now until (length store.old) (length constants.now) }
-    requires fact_2 { until ≤ place.at.0 + place.left }
+    requires indexed { Indexed table.now until (length store.old) (length constants.now) }
+    requires until_in { until ≤ place.at.0 + place.left }
     ensures { StraightRow doubles table.now until roles.now constants.now seeds.now place
         (cells_of doubles store.old values.old turns.old copied.old)
         (cells_of doubles store.new values.new turns.new copied.new) result }
@@ -336,8 +338,8 @@ fn block_row(
 
 // A clear, if one stands at this place before `until`; otherwise nothing.
 fn clear_ahead(table: &[u16], until: usize, store: &mut [f64], place: Place) -> Place
-    requires fact_1 { Indexes table.now until (length store.old) }
-    requires fact_2 { until ≤ place.at.0 + place.left }
+    requires indexed { Indexes table.now until (length store.old) }
+    requires until_in { until ≤ place.at.0 + place.left }
     ensures { Peeks doubles table.now until place store.old store.new result }
 {
     match kind_at(table, until, place, table::kinds::CLEAR) {
@@ -354,8 +356,8 @@ fn clear_ahead(table: &[u16], until: usize, store: &mut [f64], place: Place) -> 
 
 // The same of a copy.
 fn copy_ahead(table: &[u16], until: usize, store: &mut [f64], place: Place) -> Place
-    requires fact_1 { Indexes table.now until (length store.old) }
-    requires fact_2 { until ≤ place.at.0 + place.left }
+    requires indexed { Indexes table.now until (length store.old) }
+    requires until_in { until ≤ place.at.0 + place.left }
     ensures { Peeks doubles table.now until place store.old store.new result }
 {
     let Expected::Met(row, next) = kind_at(table, until, place, kinds::COPY) else {
@@ -376,8 +378,8 @@ fn copy_ahead(table: &[u16], until: usize, store: &mut [f64], place: Place) -> P
 
 // And of a sum. One whose result isn't finite is left for the runner to stop at.
 fn sum_ahead(table: &[u16], until: usize, store: &mut [f64], place: Place) -> Place
-    requires fact_1 { Indexes table.now until (length store.old) }
-    requires fact_2 { until ≤ place.at.0 + place.left }
+    requires indexed { Indexes table.now until (length store.old) }
+    requires until_in { until ≤ place.at.0 + place.left }
     ensures { Peeks doubles table.now until place store.old store.new result }
 {
     let Expected::Met(row, next) = kind_at(table, until, place, kinds::SUM) else {
@@ -400,8 +402,8 @@ fn sum_ahead(table: &[u16], until: usize, store: &mut [f64], place: Place) -> Pl
 // The row that is expected at a place, if it stands there: none is chosen among all kinds for it. What isn't done here the runner's next turn meets in
 // the ordinary way, so that peeking never stops, sticks or runs out of steps.
 fn peek(table: &[u16], until: usize, store: &mut [f64], ahead: Ahead, place: Place) -> Place
-    requires fact_1 { Indexes table.now until (length store.old) }
-    requires fact_2 { until ≤ place.at.0 + place.left }
+    requires indexed { Indexes table.now until (length store.old) }
+    requires until_in { until ≤ place.at.0 + place.left }
     ensures { PeeksOn doubles table.now until place store.old store.new result }
 {
     match ahead {
@@ -433,9 +435,9 @@ pub fn run_rows(
     to_come: &mut [usize; MAX_DEPTH],
     steps: usize,
 ) -> Ran
-    requires fact_1 { Indexed table.now rows (length store.old) (length constants.now) }
-    requires fact_2 { limit.depth ≤ length bodies.old }
-    requires fact_3 { limit.depth ≤ length to_come.old }
+    requires indexed { Indexed table.now rows (length store.old) (length constants.now) }
+    requires bodies_fit { limit.depth ≤ length bodies.old }
+    requires to_come_fit { limit.depth ≤ length to_come.old }
     ensures { RunsRows doubles table.now rows beyond.now keeps roles.now constants.now seeds.now steps
         (cells_of doubles store.old values.old turns.old copied.old)
         (cells_of doubles store.new values.new turns.new copied.new)

@@ -7,20 +7,20 @@ pub const READ_AT_ONCE: usize = 65_536;
 const NEWLINE: u8 = b'\n';
 
 // Which bytes of the buffer are still to be taken: those from `at` up to `end`.
-#[derive(Drop)]
+#[derive(Clone, Copy)]
 pub struct Waiting {
     pub at: usize,
     pub end: usize,
 }
 
-#[derive(Drop)]
+#[derive(Clone, Copy)]
 enum Byte {
     Is(u8, Waiting),
     End,
 }
 
 // A line's length, above MAX_LINE for every longer line, and what waits after it.
-#[derive(Drop)]
+#[derive(Clone, Copy)]
 pub enum Line {
     Is(usize, Waiting),
     End,

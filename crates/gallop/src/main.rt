@@ -1,4 +1,6 @@
 // The program: one request a line on standard input, one answer a line on standard output.
+#![tactic(auto)]
+
 mod answers;
 mod doubles;
 mod kept;

@@ -4,27 +4,27 @@ use text::heads::Lends;
 use text::{pattern, widths};
 
 // A sheet has two tables.
-#[derive(Drop)]
+#[derive(Clone, Copy)]
 pub enum Direction {
     Adjoint,
     Tangent,
 }
 
 // In doubles a table's rows are run, or the plain engine goes straight through the sheet.
-#[derive(Drop)]
+#[derive(Clone, Copy)]
 pub enum Engine {
     Table(Direction),
     Plain,
 }
 
 // A run, by its arithmetic.
-#[derive(Drop)]
+#[derive(Clone, Copy)]
 pub enum Task {
     Residues(Direction),
     Doubles(Engine),
 }
 
-#[derive(Drop)]
+#[derive(Clone, Copy)]
 pub enum Verb {
     Check,
     Write(Direction),

@@ -1,6 +1,8 @@
 // The row machine's code in which no arithmetic has a part: places, what stands at a place of a table, the rows of blocks, the turn stack; and what
 // rows answer in either arithmetic. Each row's code is held against its written meaning (specs/Actions.antt), a run of rows, in `double_rows` and
 // `residue_rows`, against the machine's steps (specs/Machine.antt). Where a stack ends, a ninth repeat would open or no jump is noted, the answer is Stuck.
+#![tactic(auto)]
+
 pub mod blocks;
 pub mod places;
 pub mod rows;
@@ -9,35 +11,35 @@ pub mod turns;
 use sheet::{RowNumber, RowWords, Variable};
 
 // What a row comes to that no arithmetic can stop.
-#[derive(Drop)]
+#[derive(Clone, Copy)]
 pub enum Went {
     On,
     Stuck,
 }
 
 // What an assignment in doubles comes to.
-#[derive(Drop)]
+#[derive(Clone, Copy)]
 pub enum Did {
     On,
     Stopped,
 }
 
 // What a row comes to that moves a stack: its new height.
-#[derive(Drop)]
+#[derive(Clone, Copy)]
 pub enum Moved {
     To(usize),
     Stuck,
 }
 
 // The branch that a comparison picks.
-#[derive(Drop)]
+#[derive(Clone, Copy)]
 pub enum Branch {
     First,
     Second,
 }
 
 // The branch that a turn taken back picks, with the turn stack's new height.
-#[derive(Drop)]
+#[derive(Clone, Copy)]
 pub enum Branched {
     First(usize),
     Second(usize),
@@ -45,7 +47,7 @@ pub enum Branched {
 }
 
 // Where a run is: its row, how many loops are open, the heights of both stacks, and how many steps are left.
-#[derive(Drop)]
+#[derive(Clone, Copy)]
 pub struct Place {
     pub at: RowNumber,
     pub depth: usize,
@@ -55,7 +57,7 @@ pub struct Place {
 }
 
 // What the outer loop meets at a place: the run's end, a row that asks whether a < b, an "if" or a loop with a test, or another row, each row with the place after it.
-#[derive(Drop)]
+#[derive(Clone, Copy)]
 pub enum Met {
     Out(Ended),
     Ask(RowWords, Place),
@@ -63,14 +65,14 @@ pub enum Met {
 }
 
 // The count on top of the turn stack, and the height below it.
-#[derive(Drop)]
+#[derive(Clone, Copy)]
 pub enum Counted {
     Is(u16, usize),
     Stuck,
 }
 
 // A loop with a test at its own row: the turns that it may still do, what is noted of it in another turn, and how many loops are open around it.
-#[derive(Drop)]
+#[derive(Clone, Copy)]
 pub struct Pending {
     pub left: usize,
     pub note: usize,
@@ -79,7 +81,7 @@ pub struct Pending {
 
 // The row that is expected after one that was done: a clear after a copy, a sum after a product, a copy and its clear after a value was taken back. A runner may
 // look there for it first: this spares it the choice among all kinds. The expectation says nothing of the row that stands there.
-#[derive(Drop)]
+#[derive(Clone, Copy)]
 pub enum Ahead {
     Any,
     Clear,
@@ -88,7 +90,7 @@ pub enum Ahead {
 }
 
 // What stands where a row of one kind is expected: it, with the place after it, or that it isn't there or has no step left.
-#[derive(Drop)]
+#[derive(Clone, Copy)]
 pub enum Expected {
     Met(RowWords, Place),
     Missed,
@@ -96,7 +98,7 @@ pub enum Expected {
 
 // What a straight row comes to: the place after it, with what is expected there. `Block` is the answer where no straight row stands or no step is left
 // for it.
-#[derive(Drop)]
+#[derive(Clone, Copy)]
 pub enum Acted {
     On(Place, Ahead),
     Block,
@@ -105,14 +107,14 @@ pub enum Acted {
 }
 
 // What a row of a block comes to: the place after it, or the end of the run.
-#[derive(Drop)]
+#[derive(Clone, Copy)]
 pub enum Crossed {
     On(Place),
     Out(Ended),
 }
 
 // Why a run is left: at its end, at a row whose result isn't finite, where the machine is stuck, or because the steps have run out.
-#[derive(Drop)]
+#[derive(Clone, Copy)]
 pub enum Ended {
     Finished,
     Stopped(RowNumber),
@@ -121,7 +123,7 @@ pub enum Ended {
 }
 
 // Where a run is left, and why.
-#[derive(Drop)]
+#[derive(Clone, Copy)]
 pub struct Ran {
     pub place: Place,
     pub ended: Ended,

@@ -62,8 +62,8 @@ pub fn reach(rows: usize, place: Place) -> usize
 
 // The row at a place if it is of this kind and stands before `until`, as far as steps are left.
 pub fn kind_at(table: &[u16], until: usize, place: Place, kind: u16) -> Expected
-    requires fact_1 { place_of_row until ≤ length table.now }
-    requires fact_2 { until ≤ place.at.0 + place.left }
+    requires rows_in { place_of_row until ≤ length table.now }
+    requires until_in { until ≤ place.at.0 + place.left }
     ensures { MeetsKind table.now until place kind result }
 {
     let at = place.at;

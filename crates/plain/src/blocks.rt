@@ -8,7 +8,7 @@ use sheet::kinds::Part;
 use sheet::{RowNumber, RowWords, kinds};
 
 // The sheet's row at hand, and how many loops are open around it.
-#[derive(Drop)]
+#[derive(Clone, Copy)]
 pub struct At {
     pub row: RowNumber,
     pub depth: usize,

@@ -12,9 +12,9 @@ use sheet::{MAX_VARIABLES, is_dependent, is_independent};
 
 // "Starting rates are read at independents only and are 0 elsewhere"
 pub fn laid(roles: &[u16], starts: &[f64], rates: &[f64]) -> [Rated; MAX_VARIABLES]
-    requires fact_1 { length roles.now ≤ limit.variables }
-    requires fact_2 { length starts.now ≡ length roles.now }
-    requires fact_3 { length rates.now ≡ length roles.now }
+    requires roles_few { length roles.now ≤ limit.variables }
+    requires starts_fit { length starts.now ≡ length roles.now }
+    requires rates_fit { length rates.now ≡ length roles.now }
     ensures { (carried_in (length roles.now) result
         ≡ record { values = starts.now; rates = starting_rates doubles roles.now rates.now }) × (length result ≡ limit.variables) }
 {
@@ -36,8 +36,8 @@ pub fn laid(roles: &[u16], starts: &[f64], rates: &[f64]) -> [Rated; MAX_VARIABL
 
 // "the result is the V values and then each dependent's rate, 0 at others"
 pub fn write_out(cells: [Rated; MAX_VARIABLES], roles: &[u16], res: &mut [f64])
-    requires fact_1 { length roles.now ≤ length cells }
-    requires fact_2 { length res.old ≡ 2 * length roles.now }
+    requires cells_fit { length roles.now ≤ length cells }
+    requires result_fits { length res.old ≡ 2 * length roles.now }
     ensures { res.new ≡ result_of roles.now (carried_in (length roles.now) cells) }
 {
     let variables = roles.len();

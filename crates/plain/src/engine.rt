@@ -10,13 +10,13 @@ use number::double;
 use sheet::{MAX_VARIABLES, RowNumber, Shape, kinds};
 
 // How a run ends: it is through, or it stops at a sheet's row, after so many of that row's table rows.
-#[derive(Drop)]
+#[derive(Clone, Copy)]
 pub enum End {
     Finished,
     Stopped(RowNumber, u8),
 }
 
-#[derive(Drop)]
+#[derive(Clone, Copy)]
 pub struct Ran {
     pub cells: [Rated; MAX_VARIABLES],
     pub end: End,
@@ -44,8 +44,8 @@ pub fn run_rows(
     goes: &[u16],
     start: [Rated; MAX_VARIABLES],
 ) -> Ran
-    requires fact_1 { Ready words.now shape marks.now goes.now }
-    requires fact_2 { length start ≡ limit.variables }
+    requires ready { Ready words.now shape marks.now goes.now }
+    requires start_fits { length start ≡ limit.variables }
     ensures { RunsTo words.now shape marks.now start result }
 {
     let forms = kinds::forms();

@@ -1,5 +1,7 @@
 // The plain tangent engine (02 §1): straight from the sheet's words, each number with its rate, under the sheet's own sets. It makes no table.
 // In reading order: rates, blocks, engine, cells.
+#![tactic(auto)]
+
 ghost use Rattle.std.specs.Prelude.{◌≡◌};
 ghost use Rattle.number.specs.Doubles.{doubles};
 ghost use Rattle.sheet.specs.Judging.{given};
@@ -23,7 +25,7 @@ mod engine;
 mod rates;
 
 // A number and its rate.
-#[derive(Drop)]
+#[derive(Clone, Copy)]
 pub struct Rated {
     pub value: f64,
     pub rate: f64,
@@ -39,8 +41,8 @@ fn carry(
     rates: &[f64],
     res: &mut [f64],
 ) -> Reply
-    requires fact_1 { Found words.now shape marks.now goes.now }
-    requires fact_2 { CarryRoom shape.variables starts.now rates.now res.old }
+    requires found { Found words.now shape marks.now goes.now }
+    requires room { CarryRoom shape.variables starts.now rates.now res.old }
     ensures { (sheet : Sheet) → read words.now ≡ given sheet → carry_of doubles result res.new
         ≡ carried_to doubles sheet res.old (plain_by doubles (sets_of sheet) sheet starts.now rates.now) }
 {

@@ -16,14 +16,14 @@ use table::marks;
 use tangent::count;
 
 // A rate, or after how many of its row's table rows it stops.
-#[derive(Drop)]
+#[derive(Clone, Copy)]
 pub enum Rate {
     Is(f64),
     Stopped(u8),
 }
 
 // A number with its rate, or the same of either.
-#[derive(Drop)]
+#[derive(Clone, Copy)]
 pub enum Worked {
     Is(Rated),
     Stopped(u8),
@@ -218,8 +218,8 @@ pub fn assigned(
     a: Rated,
     b: Rated,
 ) -> Worked
-    requires fact_1 { (row.kind ≡ 2 → first_constant + row.a < length words.now) }
-    requires fact_2 { SaysPart (row_said row) Assignment }
+    requires constant_in { (row.kind ≡ 2 → first_constant + row.a < length words.now) }
+    requires part_said { SaysPart (row_said row) Assignment }
     ensures { worked_said result ≡ worked_on row.kind (known_by mark) (line_count (known_by mark) (line_of_row (row_said row)) - 1)
         (operand_on words.now first_constant row.kind row.a a) b }
 {

@@ -1,4 +1,6 @@
 // The row machine in residues: its single rows, and a run of a table's rows.
+#![tactic(auto)]
+
 ghost use Rattle.std.specs.Prelude.{cond, ◌≡◌, ◌+◌, ◌<◌, ◌≤◌, length};
 ghost use Rattle.number.specs.Residues.{residues};
 ghost use Rattle.sheet.specs.Bounds.{limit};
@@ -40,8 +42,8 @@ fn fixed(constants: &[u16], c: usize) -> u32
 
 // Kind 3.
 fn added(store: &[u32], a: Variable, b: Variable) -> u32
-    requires fact_1 { a.0 < length store.now }
-    requires fact_2 { b.0 < length store.now }
+    requires a_in { a.0 < length store.now }
+    requires b_in { b.0 < length store.now }
     ensures { Evaluates residues (sum a.0 b.0) store.now (through result) }
 {
     let first = a.0;
@@ -51,8 +53,8 @@ fn added(store: &[u32], a: Variable, b: Variable) -> u32
 
 // Kind 4.
 fn subtracted(store: &[u32], a: Variable, b: Variable) -> u32
-    requires fact_1 { a.0 < length store.now }
-    requires fact_2 { b.0 < length store.now }
+    requires a_in { a.0 < length store.now }
+    requires b_in { b.0 < length store.now }
     ensures { Evaluates residues (difference a.0 b.0) store.now (through result) }
 {
     let first = a.0;
@@ -62,8 +64,8 @@ fn subtracted(store: &[u32], a: Variable, b: Variable) -> u32
 
 // Kind 5.
 fn multiplied(store: &[u32], a: Variable, b: Variable) -> u32
-    requires fact_1 { a.0 < length store.now }
-    requires fact_2 { b.0 < length store.now }
+    requires a_in { a.0 < length store.now }
+    requires b_in { b.0 < length store.now }
     ensures { Evaluates residues (product a.0 b.0) store.now (through result) }
 {
     let first = a.0;
@@ -134,8 +136,8 @@ fn take_back(store: &mut [u32], d: Variable, values: &mut [u32], height: usize) 
 
 // Kind 7.
 fn test(store: &[u32], a: Variable, b: Variable) -> Branch
-    requires fact_1 { a.0 < length store.now }
-    requires fact_2 { b.0 < length store.now }
+    requires a_in { a.0 < length store.now }
+    requires b_in { b.0 < length store.now }
     ensures { Compares residues a.0 b.0 store.now result }
 {
     let first = a.0;
@@ -235,8 +237,8 @@ fn straight_row(
     copied: &mut [u32],
     place: Place,
 ) -> Acted
-    requires fact_1 { Indexed table.now until (length store.old) (length constants.now) }
-    requires fact_2 { until ≤ place.at.0 + place.left }
+    requires indexed { Indexed table.now until (length store.old) (length constants.now) }
+    requires until_in { until ≤ place.at.0 + place.left }
     ensures { StraightRow residues table.now until roles.now constants.now seeds.now place
         (cells_of residues store.old values.old turns.old copied.old)
         (cells_of residues store.new values.new turns.new copied.new) result }
@@ -300,9 +302,9 @@ pub fn run_rows(
     to_come: &mut [usize; MAX_DEPTH],
     steps: usize,
 ) -> Ran
-    requires fact_1 { Indexed table.now rows (length store.old) (length constants.now) }
-    requires fact_2 { limit.depth ≤ length bodies.old }
-    requires fact_3 { limit.depth ≤ length to_come.old }
+    requires indexed { Indexed table.now rows (length store.old) (length constants.now) }
+    requires bodies_fit { limit.depth ≤ length bodies.old }
+    requires to_come_fit { limit.depth ≤ length to_come.old }
     ensures { RunsRows residues table.now rows beyond.now keeps roles.now constants.now seeds.now steps
         (cells_of residues store.old values.old turns.old copied.old)
         (cells_of residues store.new values.new turns.new copied.new)

@@ -91,8 +91,8 @@ fn residue_or_zero(counts: bool, number: u32) -> u32
 
 // The numbers where the role counts, zeros elsewhere.
 pub fn put_doubles(counted: Counted, roles: &[u16], numbers: &[f64], into: &mut [f64])
-    requires fact_1 { length roles.now ≤ length numbers.now }
-    requires fact_2 { length roles.now ≤ length into.old }
+    requires numbers_fit { length roles.now ≤ length numbers.now }
+    requires room_fits { length roles.now ≤ length into.old }
     ensures { into.new ≡ overwritten (counting doubles (counts_of counted) roles.now numbers.now) into.old }
 {
     let mut i: usize = 0;
@@ -103,8 +103,8 @@ pub fn put_doubles(counted: Counted, roles: &[u16], numbers: &[f64], into: &mut 
 }
 
 pub fn put_residues(counted: Counted, roles: &[u16], numbers: &[u32], into: &mut [u32])
-    requires fact_1 { length roles.now ≤ length numbers.now }
-    requires fact_2 { length roles.now ≤ length into.old }
+    requires numbers_fit { length roles.now ≤ length numbers.now }
+    requires room_fits { length roles.now ≤ length into.old }
     ensures { into.new ≡ overwritten (counting residues (counts_of counted) roles.now numbers.now) into.old }
 {
     let mut i: usize = 0;

@@ -102,8 +102,8 @@ fn run_in(
     copied: &mut [u32],
     res: &mut [u32],
 ) -> Reply
-    requires fact_1 { Indexed table.now rows (length store.old) (length constants.now) }
-    requires fact_2 { RunRoom residues roles.now starts.now seeds.now store.old copied.old res.old }
+    requires indexed { Indexed table.now rows (length store.old) (length constants.now) }
+    requires room { RunRoom residues roles.now starts.now seeds.now store.old copied.old res.old }
     ensures { (sheet : Sheet) (buffer : List ℕ)
         → Ready (table_of sheet) sheet roles.now constants.now table.now rows beyond.now
         → AdjointRanTo residues sheet buffer starts.now seeds.now values.old turns.old res.old
@@ -137,8 +137,8 @@ fn run_written(
     seeds: &[u32],
     res: &mut [u32],
 ) -> Reply
-    requires fact_1 { Indexed table.now plan.rows (table_variables plan.shape.variables) plan.shape.constants }
-    requires fact_2 { SheetRoom words.now plan starts.now seeds.now res.old }
+    requires indexed { Indexed table.now plan.rows (table_variables plan.shape.variables) plan.shape.constants }
+    requires room { SheetRoom words.now plan starts.now seeds.now res.old }
     ensures { (sheet : Sheet) (buffer : List ℕ) → TableInPlace (table_of sheet) words.now plan table.now beyond.now sheet buffer
         → AdjointRanTo residues sheet buffer starts.now seeds.now values.old turns.old res.old
         result values.new turns.new res.new }

@@ -1,5 +1,7 @@
 // The calls that run a sheet's adjoint table, in both arithmetics, held against `run` (specs/Calls.antt): refusals first, then the table, the
 // machine's run of it (the crate machine), and the result. What is no part of the adjoint alone is there for the runs of other tables.
+#![tactic(auto)]
+
 pub mod buffers;
 pub mod calls_audit;
 pub mod calls_double;
@@ -11,7 +13,7 @@ pub use refusals::NOT_FINITE_RESULT;
 use table::{Plan, Reply};
 
 // The lengths of what a run is lent.
-#[derive(Drop)]
+#[derive(Clone, Copy)]
 pub struct Rooms {
     pub table: usize,
     pub values: usize,
@@ -22,7 +24,7 @@ pub struct Rooms {
 }
 
 // What refuses a planned sheet's run, refusals 8 to 11. A start value or seed that isn't finite has its place.
-#[derive(Drop)]
+#[derive(Clone, Copy)]
 pub enum Unfit {
     SmallTable,
     SmallValueStack,
@@ -33,21 +35,21 @@ pub enum Unfit {
     NotFinite(usize),
 }
 
-#[derive(Drop)]
+#[derive(Clone, Copy)]
 pub enum Fit {
     No(Unfit),
     Fits,
 }
 
 // What refusals 1 to 10 come to: the first one's answer, or the plan of a sheet that has room.
-#[derive(Drop)]
+#[derive(Clone, Copy)]
 pub enum Judged {
     No(Reply),
     HasRoom(Plan),
 }
 
 // The roles at which numbers are read or put; the others' are 0.
-#[derive(Drop)]
+#[derive(Clone, Copy)]
 pub enum Counted {
     Independents,
     Dependents,

@@ -1,5 +1,7 @@
 // The sets: any words in; `mark` reads them, finds an accepted sheet's three least sets at every point, marks every row and hands up two of the sets.
 // In reading order: masks, rows, transfers, partners, equations, walk, marks.
+#![tactic(auto)]
+
 ghost use Rattle.std.specs.Prelude.{◌≡◌, ◌<◌, length};
 ghost use Rattle.sheet.specs.Judging.{given};
 ghost use Rattle.sheet.specs.Sheets.{Sheet};
@@ -28,7 +30,7 @@ pub const ACTIVE: u8 = 4;
 pub const SAVED: u8 = 8;
 
 // Which of the three sets is found: the useful variables from the last row to the first, the others from the first row on.
-#[derive(Drop)]
+#[derive(Clone, Copy)]
 enum Which {
     Varied,
     Useful,
@@ -36,7 +38,7 @@ enum Which {
 }
 
 // Where a sheet's rows start among its words, how many there are, and over how many variables.
-#[derive(Drop)]
+#[derive(Clone, Copy)]
 struct Extent {
     pub first: usize,
     pub rows: usize,
@@ -44,13 +46,13 @@ struct Extent {
 }
 
 // The variables useful before the first row, and those varied after the last.
-#[derive(Drop)]
+#[derive(Clone, Copy)]
 pub struct Ends {
     pub useful_first: u64,
     pub varied_last: u64,
 }
 
-#[derive(Drop)]
+#[derive(Clone, Copy)]
 pub enum Marking {
     Refused(sheet::No),
     Marked(sheet::Shape, Ends),

@@ -10,7 +10,7 @@ use sheet::kinds::{Form, Slot};
 use sheet::{RowNumber, Variable, kinds};
 
 // An assignment's kind, its target, and the variables that its words a and b name, as sets: the empty one for a word that names none.
-#[derive(Drop)]
+#[derive(Clone, Copy)]
 pub struct MaskedAssignment {
     pub kind: u16,
     pub target: Variable,
@@ -19,7 +19,7 @@ pub struct MaskedAssignment {
 }
 
 // What is known of an assignment: whether a is varied before it, whether b is, and whether it is active.
-#[derive(Drop)]
+#[derive(Clone, Copy)]
 pub struct KnownActivity {
     pub varied_a: bool,
     pub varied_b: bool,

@@ -17,7 +17,7 @@ use sheet::{RowNumber, kinds};
 
 // How far a walk has come: the turn of the next row, and the set at its own point. The set goes from row to row in hand: the row before has only just
 // stored it, and to load it again would wait for that.
-#[derive(Drop)]
+#[derive(Clone, Copy)]
 struct WalkedTo {
     pub turn: usize,
     pub own: u64,

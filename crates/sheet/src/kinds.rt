@@ -36,7 +36,7 @@ pub const WHILE: u16 = 19;
 pub const LAST: usize = 19;
 
 // What a word of a row may be.
-#[derive(Drop)]
+#[derive(Clone, Copy)]
 pub enum Slot {
     Variable,
     Constant,
@@ -46,7 +46,7 @@ pub enum Slot {
 }
 
 // What a row is to the blocks. Every loop is a repeat to them: which one, its kind tells.
-#[derive(Drop)]
+#[derive(Clone, Copy)]
 pub enum Part {
     Assignment,
     If,
@@ -57,7 +57,7 @@ pub enum Part {
 }
 
 // What the three words after the kind are, d, a and b, and what the row is to the blocks.
-#[derive(Drop)]
+#[derive(Clone, Copy)]
 pub struct Form(pub Slot, pub Slot, pub Slot, pub Part);
 
 // What a number that is no kind's is taken for: no word fits it, its words name nothing, and it opens and closes no block.

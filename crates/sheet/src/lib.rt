@@ -1,5 +1,7 @@
 // The reader: any words in; out comes a checked sheet's shape, or the first refusal with its place.
 // In reading order: sections, rows, blocks.
+#![tactic(auto)]
+
 ghost use Rattle.std.specs.Prelude.{◌≡◌, ◌+◌, ◌*◌, ◌≤◌, ◌<◌, length, get_or};
 ghost use Rattle.sheet.specs.Inner.Words.{word_values};
 ghost use Rattle.sheet.specs.Bounds.{limit};
@@ -34,14 +36,14 @@ pub const MAX_DEPTH: usize = 8;
 pub const MAX_LONGEST: usize = 4096;
 
 // A variable's number and a row's number, both from 0: neither can stand for the other.
-#[derive(Drop)]
+#[derive(Clone, Copy)]
 pub struct Variable(pub usize);
 
-#[derive(Drop)]
+#[derive(Clone, Copy)]
 pub struct RowNumber(pub usize);
 
 // Refusals 1 to 7 with their places, 7 at place 0; and 13, which the reader itself never gives.
-#[derive(Drop)]
+#[derive(Clone, Copy)]
 pub enum No {
     WordsEnd(usize),
     WordsLeft(usize),
@@ -54,7 +56,7 @@ pub enum No {
 }
 
 // An accepted sheet: V, K, N, where the constants and the rows start (the roles start at word 1), and W.
-#[derive(Drop)]
+#[derive(Clone, Copy)]
 pub struct Shape {
     pub variables: usize,
     pub constants: usize,
@@ -64,7 +66,7 @@ pub struct Shape {
     pub longest: usize,
 }
 
-#[derive(Drop)]
+#[derive(Clone, Copy)]
 pub enum Reading {
     Refused(No),
     Accepted(Shape),
@@ -89,7 +91,7 @@ pub fn is_dependent(role: u16) -> bool
     (role == DEPENDENT) | (role == BOTH)
 }
 
-#[derive(Drop)]
+#[derive(Clone, Copy)]
 pub struct RowWords {
     pub kind: u16,
     pub d: u16,
@@ -98,32 +100,32 @@ pub struct RowWords {
 }
 
 // What a judged count, the roles, all counts and the rows come to.
-#[derive(Drop)]
+#[derive(Clone, Copy)]
 enum Count {
     Refused(No),
     Is(usize),
 }
 
-#[derive(Drop)]
+#[derive(Clone, Copy)]
 enum Roles {
     Refused(No),
     Fit,
 }
 
-#[derive(Drop)]
+#[derive(Clone, Copy)]
 struct Counts {
     pub variables: usize,
     pub constants: usize,
     pub rows: usize,
 }
 
-#[derive(Drop)]
+#[derive(Clone, Copy)]
 enum Counting {
     Refused(No),
     Done(Counts),
 }
 
-#[derive(Drop)]
+#[derive(Clone, Copy)]
 enum Body {
     Refused(No),
     Longest(u16),
@@ -131,7 +133,7 @@ enum Body {
 
 // What a row of a kind must be, in a sheet with so many variables and constants: each word from the least that it may be to below what it may not
 // be, and what the row is to the blocks.
-#[derive(Drop)]
+#[derive(Clone, Copy)]
 struct Rule {
     pub least_d: u16,
     pub d: u16,
@@ -142,7 +144,7 @@ struct Rule {
 }
 
 // The block that is being read: the second branch knows the first one's W, a loop its turns.
-#[derive(Drop)]
+#[derive(Clone, Copy)]
 enum Open {
     Outermost,
     First,
@@ -151,14 +153,14 @@ enum Open {
 }
 
 // A block and the W of what was read in it so far, kept at one above the bound once it is beyond it.
-#[derive(Drop)]
+#[derive(Clone, Copy)]
 struct Level {
     pub block: Open,
     pub longest: u16,
 }
 
 // What a row that fits does to the blocks.
-#[derive(Drop)]
+#[derive(Clone, Copy)]
 enum Step {
     BadBlock,
     Stay(Level),

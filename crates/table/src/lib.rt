@@ -1,5 +1,7 @@
 // The adjoint table: what it is (specs/) and how large it gets. Any words in; out come a sheet's sizes, or the first refusal. The plan is for
 // the layers above: the writer, and the runs.
+#![tactic(auto)]
+
 ghost use Rattle.std.specs.Prelude.{◌≡◌};
 ghost use Rattle.sheet.specs.Judging.{given};
 ghost use Rattle.sheet.specs.Sheets.{Sheet};
@@ -36,14 +38,14 @@ pub const DONE: u16 = 0;
 pub const SMALL_TABLE: u16 = 8;
 
 // A refusal's number and place, or 0 and 0.
-#[derive(Drop)]
+#[derive(Clone, Copy)]
 pub struct Reply {
     pub number: u16,
     pub place: usize,
 }
 
 // The same with W, R, S and T, all 0 when refused.
-#[derive(Drop)]
+#[derive(Clone, Copy)]
 pub struct Checked {
     pub number: u16,
     pub place: usize,
@@ -54,7 +56,7 @@ pub struct Checked {
 }
 
 // R, S and T besides the sheet's shape.
-#[derive(Drop)]
+#[derive(Clone, Copy)]
 pub struct Plan {
     pub shape: sheet::Shape,
     pub rows: usize,
@@ -62,7 +64,7 @@ pub struct Plan {
     pub turns: usize,
 }
 
-#[derive(Drop)]
+#[derive(Clone, Copy)]
 pub enum Planned {
     Refused(sheet::No),
     Made(Plan),
@@ -76,8 +78,8 @@ fn plan_of(
     came: &[u16; sheet::MAX_ROWS],
     goes: &[u16; sheet::MAX_ROWS],
 ) -> Plan
-    requires fact_1 { shape_read words.now ≡ given shape }
-    requires fact_2 { ((sheet : Sheet) → read words.now ≡ given sheet → SheetNoted sheet marks.now came.now goes.now) }
+    requires accepted { shape_read words.now ≡ given shape }
+    requires noted { ((sheet : Sheet) → read words.now ≡ given sheet → SheetNoted sheet marks.now came.now goes.now) }
     ensures { PlanMade words.now result marks.now came.now goes.now }
 {
     let sizes = sizes::sizes_of(words, shape, marks);

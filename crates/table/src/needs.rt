@@ -10,7 +10,7 @@ use super::{count, marks};
 use sheet::{RowWords, kinds};
 
 // Of the value stack and of the turn stack: S and T of the rows.
-#[derive(Drop)]
+#[derive(Clone, Copy)]
 pub struct Need {
     pub values: usize,
     pub turns: usize,
@@ -22,7 +22,7 @@ pub const NOTHING: Need = Need {
 };
 
 // A block that is open: what the rows before it need, what its first branch needs once that is known, and how often a repeat's body is run.
-#[derive(Drop)]
+#[derive(Clone, Copy)]
 pub struct Level {
     pub before: Need,
     pub first: Need,

@@ -9,7 +9,7 @@ ghost use Rattle.table.specs.Inner.Plans.{PlanSaysFor, PlanSaysIn, RowsWithin, q
 use super::Planned;
 use sheet::{No, ROW_WORDS, kinds};
 
-#[derive(Drop)]
+#[derive(Clone, Copy)]
 enum Quotients {
     Nowhere,
     At(usize),

@@ -7,7 +7,7 @@ use super::{count, needs};
 use sheet::kinds::Part;
 use sheet::{RowNumber, kinds};
 
-#[derive(Drop)]
+#[derive(Clone, Copy)]
 pub struct Sizes {
     pub rows: usize,
     pub need: Need,
@@ -15,8 +15,8 @@ pub struct Sizes {
 
 // Entry n of the levels, from 1 on, is what is kept of the block n deep.
 pub fn sizes_of(words: &[u16], shape: sheet::Shape, marks: &[u8]) -> Sizes
-    requires fact_1 { RowsReadable words.now shape marks.now }
-    requires fact_2 { Sized words.now shape.first_row shape.rows marks.now }
+    requires readable { RowsReadable words.now shape marks.now }
+    requires sized { Sized words.now shape.first_row shape.rows marks.now }
     ensures { SizesFound words.now shape marks.now result }
 {
     let mut levels = [needs::NO_LEVEL; sheet::MAX_DEPTH + 1];

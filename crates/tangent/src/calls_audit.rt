@@ -18,8 +18,8 @@ use table::{MAX_TABLE_ROWS, Plan, Reply};
 
 // The result out of a run's store: the values, and the rates at dependents.
 fn write_rates(end: Ended, roles: &[u16], store: &[u32], res: &mut [u32])
-    requires fact_1 { 2 * length roles.now ≤ length store.now }
-    requires fact_2 { length res.old ≡ 2 * length roles.now }
+    requires store_fits { 2 * length roles.now ≤ length store.now }
+    requires result_fits { length res.old ≡ 2 * length roles.now }
     ensures { res.new ≡ result_at end (rates_from residues roles.now store.now) res.old }
 {
     let variables = roles.len();
@@ -47,8 +47,8 @@ fn run_in(
     copied: &mut [u32],
     res: &mut [u32],
 ) -> Reply
-    requires fact_1 { Indexed table.now rows (length store.old) (length constants.now) }
-    requires fact_2 { RunRoom residues roles.now starts.now rates.now store.old copied.old res.old }
+    requires indexed { Indexed table.now rows (length store.old) (length constants.now) }
+    requires room { RunRoom residues roles.now starts.now rates.now store.old copied.old res.old }
     ensures { (sheet : Sheet) (buffer : List ℕ)
         → Ready (tangent_of sheet) sheet roles.now constants.now table.now rows beyond.now
         → TangentRanTo residues sheet buffer starts.now rates.now res.old result res.new }
@@ -83,8 +83,8 @@ fn run_written(
     rates: &[u32],
     res: &mut [u32],
 ) -> Reply
-    requires fact_1 { Indexed table.now plan.rows (table_variables plan.shape.variables) plan.shape.constants }
-    requires fact_2 { SheetRoom words.now plan starts.now rates.now res.old }
+    requires indexed { Indexed table.now plan.rows (table_variables plan.shape.variables) plan.shape.constants }
+    requires room { SheetRoom words.now plan starts.now rates.now res.old }
     ensures { (sheet : Sheet) (buffer : List ℕ) → TableInPlace (tangent_of sheet) words.now plan table.now beyond.now sheet buffer
         → TangentRanTo residues sheet buffer starts.now rates.now res.old result res.new }
 {

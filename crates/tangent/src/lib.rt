@@ -1,5 +1,7 @@
 // Tangents (02 §1): any words and a buffer in; out comes the tangent table at the buffer's start, or the first refusal. A run takes a sheet, writes
 // its tangent table and runs it, in both arithmetics.
+#![tactic(auto)]
+
 ghost use Rattle.std.specs.Prelude.{◌≡◌, ◌≤◌, length};
 ghost use Rattle.sheet.specs.Judging.{given};
 ghost use Rattle.sheet.specs.Sheets.{Sheet};
@@ -32,8 +34,8 @@ fn plan_of(
     came: &[u16; sheet::MAX_ROWS],
     goes: &[u16; sheet::MAX_ROWS],
 ) -> Plan
-    requires fact_1 { shape_read words.now ≡ given shape }
-    requires fact_2 { ((sheet : Sheet) → read words.now ≡ given sheet → SheetNoted sheet marks.now came.now goes.now) }
+    requires accepted { shape_read words.now ≡ given shape }
+    requires noted { ((sheet : Sheet) → read words.now ≡ given sheet → SheetNoted sheet marks.now came.now goes.now) }
     ensures { PlanMadeFor tangent_needs_of words.now result marks.now came.now goes.now }
 {
     let rows = sweep::rows_before(words, shape, marks, RowNumber(shape.rows));
@@ -68,8 +70,8 @@ pub fn write_planned(
     table: &mut [u16],
     beyond: &mut [u16; MAX_TABLE_ROWS],
 )
-    requires fact_1 { TangentPlanned words.now plan marks.now }
-    requires fact_2 { table_room plan.rows ≤ length table.old }
+    requires planned { TangentPlanned words.now plan marks.now }
+    requires table_fits { table_room plan.rows ≤ length table.old }
     ensures { (sheet : Sheet) → read words.now ≡ given sheet
         → TableNoted (tangent_of sheet) table.old table.new beyond.old beyond.new }
 {

@@ -21,8 +21,8 @@ fn combined_rate(
     second: bool,
     alone: u16,
 ) -> usize
-    requires fact_1 { RowRoom table.old place (combined_rate variables (row_said row) first second alone ∷ []) }
-    requires fact_2 { SmallWords variables (row_said row) }
+    requires room { RowRoom table.old place (combined_rate variables (row_said row) first second alone ∷ []) }
+    requires small { SmallWords variables (row_said row) }
     ensures { Wrote table.old place (combined_rate variables (row_said row) first second alone ∷ []) table.new result }
 {
     let d_rate = variables + row.d;
@@ -46,8 +46,8 @@ fn term_rates(
     first: bool,
     second: bool,
 ) -> usize
-    requires fact_1 { RowRoom table.old place (term_rates variables (row_said row) first second) }
-    requires fact_2 { SmallWords variables (row_said row) }
+    requires room { RowRoom table.old place (term_rates variables (row_said row) first second) }
+    requires small { SmallWords variables (row_said row) }
     ensures { Wrote table.old place (term_rates variables (row_said row) first second) table.new result }
 {
     let t = 2 * variables;
@@ -68,8 +68,8 @@ fn term_rates(
 
 // The second term of a quotient's rate: t := a × ḃ, t := t / b, and once more.
 fn second_rates(table: &mut [u16], place: usize, variables: u16, row: RowWords) -> usize
-    requires fact_1 { RowRoom table.old place (second_rates variables (row_said row)) }
-    requires fact_2 { SmallWords variables (row_said row) }
+    requires room { RowRoom table.old place (second_rates variables (row_said row)) }
+    requires small { SmallWords variables (row_said row) }
     ensures { Wrote table.old place (second_rates variables (row_said row)) table.new result }
 {
     let t = 2 * variables;
@@ -88,8 +88,8 @@ fn quotient_rates(
     first: bool,
     second: bool,
 ) -> usize
-    requires fact_1 { RowRoom table.old place (quotient_rates variables (row_said row) first second) }
-    requires fact_2 { SmallWords variables (row_said row) }
+    requires room { RowRoom table.old place (quotient_rates variables (row_said row) first second) }
+    requires small { SmallWords variables (row_said row) }
     ensures { Wrote table.old place (quotient_rates variables (row_said row) first second) table.new result }
 {
     let t = 2 * variables;
@@ -110,9 +110,9 @@ fn quotient_rates(
 
 // An active assignment's rate rows: ḋ from the operands that are varied before it.
 fn active_rates(table: &mut [u16], place: usize, variables: u16, row: RowWords, mark: u8) -> usize
-    requires fact_1 { RowRoom table.old place (active_rates_of variables (row_said row) mark) }
-    requires fact_2 { SmallWords variables (row_said row) }
-    requires fact_3 { Assigns row.kind }
+    requires room { RowRoom table.old place (active_rates_of variables (row_said row) mark) }
+    requires small { SmallWords variables (row_said row) }
+    requires assigns { Assigns row.kind }
     ensures { Wrote table.old place (active_rates_of variables (row_said row) mark) table.new result }
 {
     let first = bit(mark, sets::VARIED_A);
@@ -145,9 +145,9 @@ fn active_rates(table: &mut [u16], place: usize, variables: u16, row: RowWords, 
 
 // An assignment's rate rows: where it is inactive, ḋ := 0.
 fn rates(table: &mut [u16], place: usize, variables: u16, row: RowWords, mark: u8) -> usize
-    requires fact_1 { RowRoom table.old place (rates_of variables (row_said row) mark) }
-    requires fact_2 { SmallWords variables (row_said row) }
-    requires fact_3 { Assigns row.kind }
+    requires room { RowRoom table.old place (rates_of variables (row_said row) mark) }
+    requires small { SmallWords variables (row_said row) }
+    requires assigns { Assigns row.kind }
     ensures { Wrote table.old place (rates_of variables (row_said row) mark) table.new result }
 {
     if bit(mark, sets::ACTIVE) {
@@ -166,9 +166,9 @@ pub fn tangent_row(
     part: Part,
     mark: u8,
 ) -> usize
-    requires fact_1 { RowRoom table.old place (tangent_of_line variables mark (line_of_row (row_said row))) }
-    requires fact_2 { SaysPart (row_said row) part }
-    requires fact_3 { SmallWords variables (row_said row) }
+    requires room { RowRoom table.old place (tangent_of_line variables mark (line_of_row (row_said row))) }
+    requires part_said { SaysPart (row_said row) part }
+    requires small { SmallWords variables (row_said row) }
     ensures { Wrote table.old place (tangent_of_line variables mark (line_of_row (row_said row))) table.new result }
 {
     if kinds::assigns(part) {

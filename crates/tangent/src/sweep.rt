@@ -15,8 +15,8 @@ use writer::jumps;
 
 // How many rows the tangent table has before those of a sheet's row: the number of that row's first one.
 pub fn rows_before(words: &[u16], shape: Shape, marks: &[u8], row: RowNumber) -> usize
-    requires fact_1 { RowsReadable words.now shape marks.now }
-    requires fact_2 { row.0 ≤ shape.rows }
+    requires readable { RowsReadable words.now shape marks.now }
+    requires row_in { row.0 ≤ shape.rows }
     ensures { (result ≡ table_rows_before words.now shape.first_row marks.now row.0) × (result ≤ most_line_count * limit.rows) }
 {
     let forms = sheet::kinds::forms();
@@ -41,11 +41,11 @@ pub fn write_table(
     table: &mut [u16],
     beyond: &mut [u16; MAX_TABLE_ROWS],
 )
-    requires fact_1 { RowRoom table.old 1 (tangent_all words.now plan.shape marks.now) }
-    requires fact_2 { Numbered 1 (tangent_all words.now plan.shape marks.now) }
-    requires fact_3 { RowsReadable words.now plan.shape marks.now }
-    requires fact_4 { WordsSmall words.now plan.shape }
-    requires fact_5 { plan.rows ≤ most_table_rows }
+    requires room { RowRoom table.old 1 (tangent_all words.now plan.shape marks.now) }
+    requires numbered { Numbered 1 (tangent_all words.now plan.shape marks.now) }
+    requires readable { RowsReadable words.now plan.shape marks.now }
+    requires small { WordsSmall words.now plan.shape }
+    requires rows_few { plan.rows ≤ most_table_rows }
     ensures { AllNoted (set table.old 0 plan.rows) (tangent_all words.now plan.shape marks.now)
         table.new beyond.old beyond.new }
 {

@@ -12,20 +12,20 @@ pub const MAX_LINE: usize = 65_535;
 pub const MAX_FIELDS: usize = (MAX_LINE + 1) / 2;
 
 // How a field is written: in decimal up to a largest number, or as the 16 digits of a double's bits.
-#[derive(Drop)]
+#[derive(Clone, Copy)]
 pub enum Form {
     Decimal(u64),
     Bits,
 }
 
-#[derive(Drop)]
+#[derive(Clone, Copy)]
 enum Field {
     Number(u64),
     Bad,
 }
 
 // The numbers of a group: how many, and where the group after the slash begins, or that the line ended.
-#[derive(Drop)]
+#[derive(Clone, Copy)]
 pub enum Group {
     Then(usize, usize),
     Last(usize),

@@ -6,7 +6,7 @@ use super::lend::SHEET_WORDS;
 use super::{fields, lend, widths};
 
 // Which buffers a verb lends. Its line gives their lengths in this order: the table's, both stacks', the result's.
-#[derive(Drop)]
+#[derive(Clone, Copy)]
 pub enum Lends {
     Nothing,
     Table,
@@ -16,7 +16,7 @@ pub enum Lends {
 }
 
 // How much of each buffer is to be lent, 0 of one that the verb doesn't lend.
-#[derive(Drop)]
+#[derive(Clone, Copy)]
 pub struct Asked {
     pub room: u64,
     pub values: u64,
@@ -25,7 +25,7 @@ pub struct Asked {
 }
 
 // The lengths, and where the sheet's words begin.
-#[derive(Drop)]
+#[derive(Clone, Copy)]
 pub enum Lengths {
     Then(Asked, usize),
     Bad,

@@ -6,7 +6,7 @@ use sheet::kinds::Part;
 use table::MAX_TABLE_ROWS;
 
 // What a row of the table is to the blocks around it.
-#[derive(Drop)]
+#[derive(Clone, Copy)]
 pub enum Branching {
     Opens,
     Splits,

@@ -1,5 +1,7 @@
 // The table writer: any words and a buffer in; out comes the adjoint table at the buffer's start, or the first refusal. A run has its table
 // written by the plan that it has made.
+#![tactic(auto)]
+
 ghost use Rattle.std.specs.Prelude.{◌≡◌, ◌≤◌, length, leb};
 ghost use Rattle.sheet.specs.Judging.{given};
 ghost use Rattle.sheet.specs.Sheets.{Sheet};
@@ -27,8 +29,8 @@ pub fn write_planned(
     table: &mut [u16],
     beyond: &mut [u16; MAX_TABLE_ROWS],
 )
-    requires fact_1 { PlanSays words.now marks.now came.now goes.now (Planned.Made plan) }
-    requires fact_2 { table_room plan.rows ≤ length table.old }
+    requires planned { PlanSays words.now marks.now came.now goes.now (Planned.Made plan) }
+    requires table_fits { table_room plan.rows ≤ length table.old }
     ensures { (sheet : Sheet) → read words.now ≡ given sheet
         → TableNoted (table_of sheet) table.old table.new beyond.old beyond.new }
 {

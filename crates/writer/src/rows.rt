@@ -59,8 +59,8 @@ fn scaled(
     operand: u16,
     other: u16,
 ) -> usize
-    requires fact_1 { RowRoom table.old place (scaled_rows variables given operand other) }
-    requires fact_2 { (variables ≤ limit.variables) × (other ≤ limit.turns) }
+    requires room { RowRoom table.old place (scaled_rows variables given operand other) }
+    requires small { (variables ≤ limit.variables) × (other ≤ limit.turns) }
     ensures { Wrote table.old place (scaled_rows variables given operand other) table.new result }
 {
     let t = t_of(variables);
@@ -79,8 +79,8 @@ fn over_divisor(
     a: u16,
     b: u16,
 ) -> usize
-    requires fact_1 { RowRoom table.old place (divisor_rows variables given a b) }
-    requires fact_2 { (variables ≤ limit.variables) × (b ≤ limit.turns) }
+    requires room { RowRoom table.old place (divisor_rows variables given a b) }
+    requires small { (variables ≤ limit.variables) × (b ≤ limit.turns) }
     ensures { Wrote table.old place (divisor_rows variables given a b) table.new result }
 {
     let t = t_of(variables);
@@ -109,8 +109,8 @@ fn divided(
     a: u16,
     b: u16,
 ) -> usize
-    requires fact_1 { RowRoom table.old place (divided_rows variables first second a b) }
-    requires fact_2 { (variables ≤ limit.variables) × ((a ≤ limit.turns) × (b ≤ limit.turns)) }
+    requires room { RowRoom table.old place (divided_rows variables first second a b) }
+    requires small { (variables ≤ limit.variables) × ((a ≤ limit.turns) × (b ≤ limit.turns)) }
     ensures { Wrote table.old place (divided_rows variables first second a b) table.new result }
 {
     let t = t_of(variables);
@@ -123,9 +123,9 @@ fn divided(
 
 // An assignment's parts, for a first and b second, each only if it is varied: t or u into the adjoint of what it reads.
 fn parts(table: &mut [u16], place: usize, variables: u16, row: RowWords, mark: u8) -> usize
-    requires fact_1 { RowRoom table.old place (part_rows variables (row_said row) mark) }
-    requires fact_2 { SmallWords variables (row_said row) }
-    requires fact_3 { Assigns row.kind }
+    requires room { RowRoom table.old place (part_rows variables (row_said row) mark) }
+    requires small { SmallWords variables (row_said row) }
+    requires assigns { Assigns row.kind }
     ensures { Wrote table.old place (part_rows variables (row_said row) mark) table.new result }
 {
     let t = t_of(variables);
@@ -156,9 +156,9 @@ fn parts(table: &mut [u16], place: usize, variables: u16, row: RowWords, mark: u
 
 // An assignment's derivative rows: d̄ := 0, and where the row is active t := d̄ before it and the parts after it.
 fn derivatives(table: &mut [u16], place: usize, variables: u16, row: RowWords, mark: u8) -> usize
-    requires fact_1 { RowRoom table.old place (derivatives_of variables (row_said row) mark) }
-    requires fact_2 { SmallWords variables (row_said row) }
-    requires fact_3 { Assigns row.kind }
+    requires room { RowRoom table.old place (derivatives_of variables (row_said row) mark) }
+    requires small { SmallWords variables (row_said row) }
+    requires assigns { Assigns row.kind }
     ensures { Wrote table.old place (derivatives_of variables (row_said row) mark) table.new result }
 {
     let adjoint = variables + row.d;
@@ -181,9 +181,9 @@ fn assignment_back(
     row: RowWords,
     mark: u8,
 ) -> usize
-    requires fact_1 { RowRoom table.old place (assignment_back variables (row_said row) mark) }
-    requires fact_2 { SmallWords variables (row_said row) }
-    requires fact_3 { Assigns row.kind }
+    requires room { RowRoom table.old place (assignment_back variables (row_said row) mark) }
+    requires small { SmallWords variables (row_said row) }
+    requires assigns { Assigns row.kind }
     ensures { Wrote table.old place (assignment_back variables (row_said row) mark) table.new result }
 {
     let saved = bit(mark, sets::SAVED);
@@ -193,8 +193,8 @@ fn assignment_back(
 
 // A sheet row's rows in the forward part: the row itself, after a save of d or, at a branch's end, of the turn.
 pub fn forward_row(table: &mut [u16], place: usize, row: RowWords, part: Part, mark: u8) -> usize
-    requires fact_1 { RowRoom table.old place (forward_of_line mark (line_of_row (row_said row))) }
-    requires fact_2 { SaysPart (row_said row) part }
+    requires room { RowRoom table.old place (forward_of_line mark (line_of_row (row_said row))) }
+    requires part_said { SaysPart (row_said row) part }
     ensures { Wrote table.old place (forward_of_line mark (line_of_row (row_said row))) table.new result }
 {
     match part {
@@ -237,9 +237,9 @@ pub fn backward_row(
     mark: u8,
     turns: u16,
 ) -> usize
-    requires fact_1 { RowRoom table.old place (backward_of_line variables mark turns (line_of_row (row_said row))) }
-    requires fact_2 { SaysPart (row_said row) part }
-    requires fact_3 { SmallWords variables (row_said row) }
+    requires room { RowRoom table.old place (backward_of_line variables mark turns (line_of_row (row_said row))) }
+    requires part_said { SaysPart (row_said row) part }
+    requires small { SmallWords variables (row_said row) }
     ensures { Wrote table.old place (backward_of_line variables mark turns (line_of_row (row_said row))) table.new result }
 {
     match part {

@@ -13,7 +13,7 @@ use sheet::{RowNumber, RowWords, Shape};
 use table::{MAX_TABLE_ROWS, Plan, kinds};
 
 // Where the writer is: the place after the last row, and the innermost open branch's or loop's row.
-#[derive(Drop)]
+#[derive(Clone, Copy)]
 pub struct SweptTo {
     pub place: usize,
     pub top: u16,
@@ -28,9 +28,9 @@ fn forward_part(
     from: SweptTo,
     beyond: &mut [u16; MAX_TABLE_ROWS],
 ) -> SweptTo
-    requires fact_1 { RowRoom table.old from.place (forward_all words.now shape marks.now) }
-    requires fact_2 { Numbered from.place (forward_all words.now shape marks.now) }
-    requires fact_3 { RowsReadable words.now shape marks.now }
+    requires room { RowRoom table.old from.place (forward_all words.now shape marks.now) }
+    requires numbered { Numbered from.place (forward_all words.now shape marks.now) }
+    requires readable { RowsReadable words.now shape marks.now }
     ensures { WroteNoted table.old from.place (forward_all words.now shape marks.now)
         table.new result.place (noting from.top beyond.old) (noting result.top beyond.new) }
 {
@@ -113,10 +113,10 @@ fn backward_part(
     from: SweptTo,
     beyond: &mut [u16; MAX_TABLE_ROWS],
 ) -> SweptTo
-    requires fact_1 { RowRoom table.old from.place (backward_all (handed words.now shape marks.now came.now goes.now)) }
-    requires fact_2 { Numbered from.place (backward_all (handed words.now shape marks.now came.now goes.now)) }
-    requires fact_3 { RowsReadable words.now shape marks.now }
-    requires fact_4 { Walkable (handed words.now shape marks.now came.now goes.now) }
+    requires room { RowRoom table.old from.place (backward_all (handed words.now shape marks.now came.now goes.now)) }
+    requires numbered { Numbered from.place (backward_all (handed words.now shape marks.now came.now goes.now)) }
+    requires readable { RowsReadable words.now shape marks.now }
+    requires walkable { Walkable (handed words.now shape marks.now came.now goes.now) }
     ensures { WroteNoted table.old from.place
         (backward_all (handed words.now shape marks.now came.now goes.now))
         table.new result.place (noting from.top beyond.old) (noting result.top beyond.new) }
@@ -153,11 +153,11 @@ pub fn write_table(
     table: &mut [u16],
     beyond: &mut [u16; MAX_TABLE_ROWS],
 ) -> SweptTo
-    requires fact_1 { RowRoom table.old 1 (whole_rows (handed words.now plan.shape marks.now came.now goes.now)) }
-    requires fact_2 { Numbered 1 (whole_rows (handed words.now plan.shape marks.now came.now goes.now)) }
-    requires fact_3 { RowsReadable words.now plan.shape marks.now }
-    requires fact_4 { Walkable (handed words.now plan.shape marks.now came.now goes.now) }
-    requires fact_5 { plan.rows ≤ most_table_rows }
+    requires room { RowRoom table.old 1 (whole_rows (handed words.now plan.shape marks.now came.now goes.now)) }
+    requires numbered { Numbered 1 (whole_rows (handed words.now plan.shape marks.now came.now goes.now)) }
+    requires readable { RowsReadable words.now plan.shape marks.now }
+    requires walkable { Walkable (handed words.now plan.shape marks.now came.now goes.now) }
+    requires rows_few { plan.rows ≤ most_table_rows }
     ensures { WroteNoted (set table.old 0 plan.rows) 1
         (whole_rows (handed words.now plan.shape marks.now came.now goes.now))
         table.new result.place (noting 0 beyond.old) (noting result.top beyond.new) }
