@@ -15,7 +15,7 @@ use Rattle.sheet.specs.Refusals.{bad_row, bad_block}
 use Rattle.sheet.specs.Tree.{basic, if_line, else_line, end_if, repeat, end_repeat}
 use Rattle.sheet.specs.Reading.{fits, words_fit, Item, Block, in_first, in_second, in_repeat, RowsTaken, line_by, line_of, entered, split_at, if_ended_at, repeat_ended_at, taken}
 use Rattle.sheet.specs.Rows.{SheetLine, Row, Slot, variable, constant, turns, unused, Kind, kind_of}
-use Rattle.sheet.proofs.Judgements.{Tells, leb_tells, eqb_tells, both_tell, judged, ◌andThen◌, passes, refuses, after_given, after_refused}
+use Rattle.sheet.proofs.Judgements.{Tells, leb_tells, eqb_tells, both_tell, judged, ◌and_then◌, passes, refuses, after_given, after_refused}
 use Rattle.claims.specs.ExactlyWhen.{Fits, Says, Opening, first_branch, second_branch, repeat_body, Takes, assigns, opens_if, splits_if, closes_if, opens_repeat, closes_repeat}
 
 -- ---- a row's line

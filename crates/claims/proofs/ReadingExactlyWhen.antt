@@ -13,7 +13,7 @@ use Rattle.sheet.specs.Tree.{Tree, longest_run}
 use Rattle.sheet.specs.Rows.{Assignment, Test, tree_rows}
 use Rattle.sheet.specs.Sheets.{Sheet}
 use Rattle.sheet.specs.Reading.{roles_fit, read}
-use Rattle.sheet.proofs.Judgements.{Tells, leb_tells, unmet, judged, ◌andThen◌, after_given, after_refused}
+use Rattle.sheet.proofs.Judgements.{Tells, leb_tells, unmet, judged, ◌and_then◌, after_given, after_refused}
 use Rattle.sheet.proofs.Settled.{Settled}
 use Rattle.sheet.proofs.TreeOfRows.{body_rows, only_body}
 use Rattle.claims.specs.ExactlyWhen.{Section, variables, constants, rows, constant_count, first_item, sheet_rows, after_rows, InOrder, Reached, RowsReached, NothingLeft, ReadingRefuses, count_missing, items_missing, words_after_rows, count_out_of_range, role_too_great, row_says_nothing, block_wrong, never_closed, run_too_long, Read}

@@ -11,7 +11,7 @@ use Rattle.sheet.specs.Tree.{Tree, done}
 use Rattle.sheet.specs.Rows.{Assignment, Test, SheetLine}
 use Rattle.sheet.specs.Sheets.{rows_at}
 use Rattle.sheet.specs.Reading.{Item, Block, closed, RowsTaken, taken, body_of}
-use Rattle.sheet.proofs.Judgements.{◌andThen◌}
+use Rattle.sheet.proofs.Judgements.{◌and_then◌}
 use Rattle.claims.specs.ExactlyWhen.{rows, Opening, Takes, variable_count, constant_count, row_count, row_place, row_no, sheet_rows, first_item, after_rows, RowsReached, RowSays, OpenAfter, start, next, row_says_nothing, block_wrong, never_closed}
 use Rattle.claims.proofs.SectionsJudged.{SomeRule}
 use Rattle.claims.proofs.LinesJudged.{line_given, LineJudged, line_judged, line_refused, opening, shape, effect, same_effect, TakeJudged, take_judged, take_refused}

@@ -12,7 +12,7 @@ use Rattle.sheet.specs.Bounds.{limit}
 use Rattle.sheet.specs.Judging.{Answer, refused, given, ◌>>=◌, unless}
 use Rattle.sheet.specs.Refusals.{Refusal, words_end, count_beyond, role_above}
 use Rattle.sheet.specs.Reading.{count_at, roles_fit}
-use Rattle.sheet.proofs.Judgements.{Tells, leb_tells, both_tell, fails, unmet, judged, ◌andThen◌}
+use Rattle.sheet.proofs.Judgements.{Tells, leb_tells, both_tell, fails, unmet, judged, ◌and_then◌}
 use Rattle.claims.specs.ExactlyWhen.{First, Section, variables, lowest, greatest, item_words, variable_count, count_place, count, first_item, CountThere, CountInRange, ItemsThere, InOrder, RoleAbove, Reached, ReadingRefuses, count_missing, items_missing, count_out_of_range, role_too_great}
 use Rattle.claims.proofs.FirstFailing.{each_judged, Fails, all_pass, first_refused, all_or_first}
 

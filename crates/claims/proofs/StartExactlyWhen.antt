@@ -12,7 +12,7 @@ use Rattle.sheet.specs.Judging.{Answer, refused, given, ◌>>=◌, unless}
 use Rattle.sheet.specs.Refusals.{Refusal, number_of, small_value_stack, small_turn_stack, wrong_starts, wrong_seeds, wrong_result, not_finite_given}
 use Rattle.sheet.specs.Sheets.{Sheet, variables_of}
 use Rattle.sheet.specs.Reading.{read, read_in}
-use Rattle.sheet.proofs.Judgements.{Tells, leb_tells, eqb_tells, unmet, judged, ◌andThen◌, after_given, after_refused, passes, refuses}
+use Rattle.sheet.proofs.Judgements.{Tells, leb_tells, eqb_tells, unmet, judged, ◌and_then◌, after_given, after_refused, passes, refuses}
 use Rattle.sheet.proofs.Settled.{Settled}
 use Rattle.sheet.proofs.Feasibility.{ReadFor, read_for_lem}
 use Rattle.sets.specs.Marks.{Sets}

@@ -29,18 +29,18 @@ use Rattle.machine.specs.Inner.RowSteps.{buffers_at, state_at, raised, within, m
 use Rattle.machine.specs.Inner.Buffers.{Cells, cells_of}
 use Rattle.machine.specs.declared.Place.{Place}
 use Rattle.machine.specs.declared.Branch.{Branch}
-use Rattle.machine.specs.declared.Branch.TheVariants as branch-as
+use Rattle.machine.specs.declared.Branch.TheVariants as branch_as
 use Rattle.machine.specs.declared.Moved.{Moved}
-use Rattle.machine.specs.declared.Moved.TheVariants as Moved-as
+use Rattle.machine.specs.declared.Moved.TheVariants as moved_as
 use Rattle.machine.specs.declared.Pending.{Pending}
 use Rattle.machine.specs.declared.Branched.{Branched}
 use Rattle.machine.specs.declared.Branched.TheVariants as branched
 use Rattle.machine.specs.declared.Crossed.{Crossed}
 use Rattle.machine.specs.declared.Crossed.TheVariants as crossed
 use Rattle.machine.specs.declared.Ended.{Ended}
-use Rattle.machine.specs.declared.Ended.TheVariants as ended-as
+use Rattle.machine.specs.declared.Ended.TheVariants as ended_as
 use Rattle.machine.specs.declared.Met.{Met}
-use Rattle.machine.specs.declared.Met.TheVariants as met-as
+use Rattle.machine.specs.declared.Met.TheVariants as met_as
 use Rattle.machine.proofs.LineLaws.{block_of, said_of, SaysAll, said_all, said_count, block_said}
 use Rattle.machine.proofs.StackLaws.{stack_top, stack_below, taken_off}
 use Rattle.machine.proofs.OpenedLaws.{opened_length}
@@ -364,7 +364,7 @@ module _ {A : Arithmetic} where
             → (moved : Moved) → ends.moved ≡ moved
             → Crosses at next setting (repeat (while (whether f) m)) rest repeats (cells_of A store values turns copied) (cells_of A store values turns_after copied) held
             bodies to_come answer
-        by_move setting lines rest f m repeats store values copied held here jumps opened shallow kept leads (Moved-as.To height) is =
+        by_move setting lines rest f m repeats store values copied held here jumps opened shallow kept leads (moved_as.To height) is =
             let after = cells_of A store values turns_after copied in
             let to = raised (amid next found) next.values height in
             let state = state_at A (preceding next at) repeats (cells_of A store values turns copied) held in
@@ -374,7 +374,7 @@ module _ {A : Arithmetic} where
             (pends.around repeats shallow opened) (rw is at kept.sound)
             (record { at = record { index = at }; repeats = loops_around at repeats; memory = memory }) refl refl
             (leads ∙ ap (loop_ends A state rest (loops_around at repeats)) through_there)
-        by_move setting lines rest f m repeats store values copied held here jumps opened shallow kept leads Moved-as.Stuck is =
+        by_move setting lines rest f m repeats store values copied held here jumps opened shallow kept leads moved_as.Stuck is =
             let state = state_at A (preceding next at) repeats (cells_of A store values turns copied) held in
             let stuck_there : count_kept A {Why = Stop A} setting (most - found.left) state.memory ≡ stuck = sym (rw is at kept.meaning) in
             sticks_there (ends.sticks is)
@@ -384,7 +384,7 @@ module _ {A : Arithmetic} where
   -- the end of such a loop, by what became of its count
   module _ {count : ℕ} {keeps : Bool} {beyond : List ℕ} {at : ℕ} {next : Place} {turns turns_after : List ℕ} {moved : Moved} {answer : Crossed}
       (keeping : KeepsCount A count keeps turns next.turns turns_after moved) where
-    pub ends_past : {to : Place} (height : ℕ) → moved ≡ Moved-as.To height → to ≡ raised next next.values height → JumpsTo beyond at to answer
+    pub ends_past : {to : Place} (height : ℕ) → moved ≡ moved_as.To height → to ≡ raised next next.values height → JumpsTo beyond at to answer
         → EndsLoop A count keeps beyond at next turns turns_after answer
     ends_past {to} height is there jumps =
         record {
@@ -397,7 +397,7 @@ module _ {A : Arithmetic} where
           sticks = λ stuck_there. let z : ◌≡◌ {A = ℕ} 0 1 = cc in absurd (omega arith);
         }
 
-    pub ends_stuck : moved ≡ Moved-as.Stuck → answer ≡ stuck_there → EndsLoop A count keeps beyond at next turns turns_after answer
+    pub ends_stuck : moved ≡ moved_as.Stuck → answer ≡ stuck_there → EndsLoop A count keeps beyond at next turns turns_after answer
     ends_stuck is sticks_so =
         record {
           left = rw sticks_so tt;

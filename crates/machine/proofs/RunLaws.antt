@@ -19,13 +19,13 @@ use Rattle.machine.specs.Inner.RowSteps.{Nested, Opened, Reaches, first_place, l
 use Rattle.machine.specs.Inner.RunsRows.{first_state, Handed, AfterSteps, LeavesBy, Leaves, RunsRows}
 use Rattle.machine.specs.declared.Place.{Place}
 use Rattle.machine.specs.declared.Ahead.{Ahead}
-use Rattle.machine.specs.declared.Ahead.TheVariants as ahead-as
+use Rattle.machine.specs.declared.Ahead.TheVariants as ahead_as
 use Rattle.machine.specs.declared.Acted.{Acted}
 use Rattle.machine.specs.declared.Acted.TheVariants as acted
 use Rattle.machine.specs.declared.Crossed.{Crossed}
 use Rattle.machine.specs.declared.Crossed.TheVariants as crossed
 use Rattle.machine.specs.declared.Ended.{Ended}
-use Rattle.machine.specs.declared.Ended.TheVariants as ended-as
+use Rattle.machine.specs.declared.Ended.TheVariants as ended_as
 use Rattle.machine.specs.declared.Ran.{Ran}
 use Rattle.machine.proofs.StepsInTurn.{steps_add}
 use Rattle.machine.proofs.OpenedLaws.{opened_length}

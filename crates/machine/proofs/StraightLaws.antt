@@ -27,15 +27,15 @@ use Rattle.machine.specs.Inner.RowsHanded.{Holds, Suits}
 use Rattle.machine.specs.Inner.RowSteps.{buffers_at, state_at, raised, following, acted_by, went_to, did_to, values_to, turns_to, NoneStraight, ActedLeft, ActedAt, CopiesOn, Acts, ActsBy, ActedSays, Stays, Blocked, StepsStraight, StraightRow}
 use Rattle.machine.specs.declared.Place.{Place}
 use Rattle.machine.specs.declared.Went.{Went}
-use Rattle.machine.specs.declared.Went.TheVariants as went-as
+use Rattle.machine.specs.declared.Went.TheVariants as went_as
 use Rattle.machine.specs.declared.Did.{Did}
-use Rattle.machine.specs.declared.Did.TheVariants as did-as
+use Rattle.machine.specs.declared.Did.TheVariants as did_as
 use Rattle.machine.specs.declared.Moved.{Moved}
 use Rattle.machine.specs.declared.Moved.TheVariants as moved
 use Rattle.machine.specs.declared.Ahead.{Ahead}
-use Rattle.machine.specs.declared.Ahead.TheVariants as ahead-as
+use Rattle.machine.specs.declared.Ahead.TheVariants as ahead_as
 use Rattle.machine.specs.declared.Acted.{Acted}
-use Rattle.machine.specs.declared.Acted.TheVariants as acted-as
+use Rattle.machine.specs.declared.Acted.TheVariants as acted_as
 use Rattle.machine.proofs.RowsPinned.{halted_apart, stuck_apart}
 use Rattle.machine.proofs.LineLaws.{action_said, straight_or_not, says_save, says_take_back, says_save_turn, says_clear, says_turn_round, says_quotient}
 use Rattle.machine.proofs.RowLaws.{assign_sticks}

@@ -18,7 +18,7 @@ use Rattle.machine.specs.Inner.Buffers.{Cells, cells_of, Stack, Sound}
 use Rattle.machine.specs.Inner.RunsRows.{first_state, Handed, RunsRows}
 use Rattle.machine.specs.declared.Ran.{Ran}
 use Rattle.machine.specs.declared.Ended.{Ended}
-use Rattle.machine.specs.declared.Ended.TheVariants as ended-as
+use Rattle.machine.specs.declared.Ended.TheVariants as ended_as
 use Rattle.run.specs.Runs.{Lent, Job, setting_keeping, enough_steps, run_of, ran_of}
 use Rattle.run.specs.Calls.{lent_after, ran_to}
 use Rattle.run.specs.Inner.TableRuns.{EndsLike, cleared, RunsTable}

@@ -13,7 +13,7 @@ use Rattle.machine.specs.Inner.RowSteps.{buffers_at, state_at, CopiesOn}
 use Rattle.machine.specs.Inner.RunsRows.{first_state, LeavesBy, Leaves}
 use Rattle.machine.specs.declared.Ran.{Ran}
 use Rattle.machine.specs.declared.Ended.{Ended}
-use Rattle.machine.specs.declared.Ended.TheVariants as ended-as
+use Rattle.machine.specs.declared.Ended.TheVariants as ended_as
 use Rattle.machine.proofs.StepsInTurn.{steps_add}
 use Rattle.run.specs.Inner.TableRuns.{EndsLike}
 

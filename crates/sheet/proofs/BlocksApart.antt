@@ -12,7 +12,7 @@ use Rattle.sheet.specs.declared.Open.{Open}
 use Rattle.sheet.specs.declared.Open.TheVariants as block
 use Rattle.sheet.specs.declared.Level.{Level}
 use Rattle.sheet.specs.declared.Step.TheVariants as step
-use Rattle.sheet.specs.contracts.Open as open-type
+use Rattle.sheet.specs.contracts.Open as open_type
 
 abbrev Among : List ℕ → Open → Type 0
 Among numbers b = OneOf numbers (tag_of open_type.the_type b)

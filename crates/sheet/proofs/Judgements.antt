@@ -43,8 +43,8 @@ pub judged : (test : Bool) {Holds Not : Type 0} → Tells test Holds → (¬ Hol
 judged true tells not = inl (tells.0 refl)
 judged false tells not = inr (not (fails false tells refl))
 
-infixr 10 ◌andThen◌
-pub ◌andThen◌ : {Holds Further Not : Type 0} → Holds ⊎ Not → (Holds → Further ⊎ Not) → Further ⊎ Not
+infixr 10 ◌and_then◌
+pub ◌and_then◌ : {Holds Further Not : Type 0} → Holds ⊎ Not → (Holds → Further ⊎ Not) → Further ⊎ Not
 inl h and_then further = further h
 inr n and_then further = inr n
 

@@ -9,7 +9,7 @@ use Rattle.table.specs.TableRows.{Action, assign, save_turn, clear, turn_round, 
 use Rattle.machine.specs.Actions.{through, ◌>>=◌, Memory, Setting, Try, evaluated, acted, tested, verdict_on}
 use Rattle.machine.specs.Inner.RowAnswers.{whether_went, whether_moved, height_after, branch_of, turn_of, height_branched}
 use Rattle.machine.specs.declared.Went.{Went}
-use Rattle.machine.specs.declared.Went.TheVariants as went-as
+use Rattle.machine.specs.declared.Went.TheVariants as went_as
 use Rattle.machine.specs.declared.Moved.{Moved}
 use Rattle.machine.specs.declared.Branch.{Branch}
 use Rattle.machine.specs.declared.Branched.{Branched}

@@ -15,31 +15,31 @@ use Rattle.machine.specs.Inner.RowAnswers.{whether_moved, height_after, branch_o
 use Rattle.machine.specs.Inner.RowWords.{action_of}
 use Rattle.machine.specs.Inner.RowsHanded.{Holds, Jumps, Suits}
 use Rattle.machine.specs.declared.Met.{Met}
-use Rattle.machine.specs.declared.Met.TheVariants as met-as
+use Rattle.machine.specs.declared.Met.TheVariants as met_as
 use Rattle.machine.specs.declared.Place.{Place}
 use Rattle.machine.specs.declared.Went.{Went}
-use Rattle.machine.specs.declared.Went.TheVariants as went-as
+use Rattle.machine.specs.declared.Went.TheVariants as went_as
 use Rattle.machine.specs.declared.Did.{Did}
-use Rattle.machine.specs.declared.Did.TheVariants as did-as
+use Rattle.machine.specs.declared.Did.TheVariants as did_as
 use Rattle.machine.specs.declared.Moved.{Moved}
-use Rattle.machine.specs.declared.Moved.TheVariants as Moved-as
+use Rattle.machine.specs.declared.Moved.TheVariants as moved_as
 use Rattle.machine.specs.declared.Branch.{Branch}
-use Rattle.machine.specs.declared.Branch.TheVariants as branch-as
+use Rattle.machine.specs.declared.Branch.TheVariants as branch_as
 use Rattle.machine.specs.declared.Counted.{Counted}
-use Rattle.machine.specs.declared.Counted.TheVariants as counted-as
+use Rattle.machine.specs.declared.Counted.TheVariants as counted_as
 use Rattle.machine.specs.declared.Pending.{Pending}
 use Rattle.machine.specs.declared.Branched.{Branched}
-use Rattle.machine.specs.declared.Branched.TheVariants as branched-as
+use Rattle.machine.specs.declared.Branched.TheVariants as branched_as
 use Rattle.machine.specs.declared.Ahead.{Ahead}
-use Rattle.machine.specs.declared.Ahead.TheVariants as ahead-as
+use Rattle.machine.specs.declared.Ahead.TheVariants as ahead_as
 use Rattle.machine.specs.declared.Expected.{Expected}
-use Rattle.machine.specs.declared.Expected.TheVariants as expected-as
+use Rattle.machine.specs.declared.Expected.TheVariants as expected_as
 use Rattle.machine.specs.declared.Acted.{Acted}
 use Rattle.machine.specs.declared.Acted.TheVariants as acted
 use Rattle.machine.specs.declared.Crossed.{Crossed}
 use Rattle.machine.specs.declared.Crossed.TheVariants as crossed
 use Rattle.machine.specs.declared.Ended.{Ended}
-use Rattle.machine.specs.declared.Ended.TheVariants as ended-as
+use Rattle.machine.specs.declared.Ended.TheVariants as ended_as
 use Rattle.machine.specs.declared.Ran.{Ran}
 
 -- what is noted of an open loop: twice the turns still to come, and 1 more where its row is asked before each
@@ -98,12 +98,12 @@ did_to did_as.On place ahead = acted.On place ahead
 did_to did_as.Stopped place ahead = acted.Stopped
 
 abbrev pub values_to : Moved → Place → Ahead → Acted
-values_to (Moved-as.To height) place ahead = acted.On (raised place height place.turns) ahead
-values_to Moved-as.Stuck place ahead = acted.Stuck
+values_to (moved_as.To height) place ahead = acted.On (raised place height place.turns) ahead
+values_to moved_as.Stuck place ahead = acted.Stuck
 
 abbrev pub turns_to : Moved → Place → Acted
-turns_to (Moved-as.To height) place = acted.On (raised place place.values height) ahead_as.Any
-turns_to Moved-as.Stuck place = acted.Stuck
+turns_to (moved_as.To height) place = acted.On (raised place place.values height) ahead_as.Any
+turns_to moved_as.Stuck place = acted.Stuck
 
 -- the answer to an attempt that leads to a place
 abbrev pub acted_by : {Why : Type 0} → Attempt Why (Unit {0}) → Place → Ahead → Acted
@@ -244,8 +244,8 @@ pub record Pends (most at depth : ℕ) (bodies to_come : List ℕ) (found : Pend
 
 -- a word onto it
 pub record PutAway (word height : ℕ) (turns turns_after : List ℕ) (moved : Moved) : Type 0 where
-  pub full : length turns ≤ height → (moved ≡ Moved-as.Stuck) × (turns_after ≡ turns)
-  pub goes : height < length turns → (moved ≡ Moved-as.To (height + 1)) × (turns_after ≡ set turns height word)
+  pub full : length turns ≤ height → (moved ≡ moved_as.Stuck) × (turns_after ≡ turns)
+  pub goes : height < length turns → (moved ≡ moved_as.To (height + 1)) × (turns_after ≡ set turns height word)
 
 -- the word on top of it
 abbrev pub CountThere : (turns : List ℕ) → (height : ℕ) → Counted → Type 0
@@ -257,7 +257,7 @@ module _ (A : Arithmetic) where
   pub record KeptAs (setting : Setting A) (count : ℕ) (before after : Buffers A) (moved : Moved) : Type 0 where
     pub meaning : (whether_moved moved >>= λ _. through (memory_of A after)) ≡ count_kept A {Why = Stop A} setting count (memory_of A before)
     pub sound : Sound A setting after
-    pub unchanged : moved ≡ Moved-as.Stuck → after ≡ before
+    pub unchanged : moved ≡ moved_as.Stuck → after ≡ before
 
   pub record KeepsCount (count : ℕ) (keeps : Bool) (turns : List ℕ) (height : ℕ) (turns_after : List ℕ) (moved : Moved) : Type 0 where
     pub kept : (setting : Setting A) (store values : List A.Carrier) (value_height : ℕ) (copied : List A.Carrier)
@@ -453,8 +453,8 @@ module _ (A : Arithmetic) where
     pub left : CrossedLeft (suc next.left) answer
     pub moved : Moved
     pub keeping : KeepsCount count keeps turns next.turns turns_after moved
-    pub goes : (height : ℕ) → moved ≡ Moved-as.To height → JumpsTo beyond at (raised next next.values height) answer
-    pub sticks : moved ≡ Moved-as.Stuck → answer ≡ stuck_there
+    pub goes : (height : ℕ) → moved ≡ moved_as.To height → JumpsTo beyond at (raised next next.values height) answer
+    pub sticks : moved ≡ moved_as.Stuck → answer ≡ stuck_there
 
   -- kind 19, from the branch that its comparison picks
   pub record AsksLoop (branch : Branch) (most : ℕ) (keeps : Bool) (beyond : List ℕ) (at : ℕ) (next : Place)

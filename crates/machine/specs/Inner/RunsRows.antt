@@ -11,7 +11,7 @@ use Rattle.machine.specs.Inner.RowSteps.{Opened, buffers_at, state_at, CopiesOn,
 use Rattle.machine.specs.declared.Place.{Place}
 use Rattle.machine.specs.declared.Ran.{Ran}
 use Rattle.machine.specs.declared.Ended.{Ended}
-use Rattle.machine.specs.declared.Ended.TheVariants as ended-as
+use Rattle.machine.specs.declared.Ended.TheVariants as ended_as
 
 module _ (A : Arithmetic) where
   abbrev pub first_state : Memory A → State A

@@ -9,11 +9,11 @@ use Rattle.residue_rows.proofs.run_rows.Statement.{statement}
 use Rattle.residue_rows.proofs.run_rows.Tie as tie
 use Rattle.residue_rows.proofs.run_rows.Reads as reads
 use Rattle.residue_rows.proofs.run_rows.Lts as lts
-use Rattle.machine.proofs.places.first_place.Reads as first-place-reads
-use Rattle.machine.proofs.places.left_at.Reads as left-at-reads
-use Rattle.machine.proofs.rows.reach.Reads as reach-reads
-use Rattle.residue_rows.proofs.straight_row.Reads as straight-row-reads
-use Rattle.residue_rows.proofs.block_row.Reads as block-row-reads
+use Rattle.machine.proofs.places.first_place.Reads as first_place_reads
+use Rattle.machine.proofs.places.left_at.Reads as left_at_reads
+use Rattle.machine.proofs.rows.reach.Reads as reach_reads
+use Rattle.residue_rows.proofs.straight_row.Reads as straight_row_reads
+use Rattle.residue_rows.proofs.block_row.Reads as block_row_reads
 
 abbrev invariant_loop : tie.invariant-loop
 invariant_loop table rows beyond keeps roles constants seeds store₀ values₀ turns₀ copied₀ bodies to_come steps place₀ until store values turns copied place =

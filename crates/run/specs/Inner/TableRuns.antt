@@ -9,7 +9,7 @@ use Rattle.machine.specs.Inner.RowSteps.{StopsAt}
 use Rattle.machine.specs.Inner.RunsRows.{first_state, Handed}
 use Rattle.run.specs.Runs.{enough_steps}
 use Rattle.machine.specs.declared.Ended.{Ended}
-use Rattle.machine.specs.declared.Ended.TheVariants as ended-as
+use Rattle.machine.specs.declared.Ended.TheVariants as ended_as
 
 module _ (A : Arithmetic) where
   -- ---- how a run ended, by what the code answered
