@@ -9,26 +9,24 @@ use Rattle.tangent.proofs.plan_of.Tie as tie
 
 -- the sheet that was accepted
 sheet_found : (c : tie.Start) → let args = c.args in SomeSheet args.words.now args.shape
-sheet_found c = accepted_lies _ _ c.requires.0
+sheet_found c = accepted_lies _ _ c.requires.accepted
 
-rows_before_requires : tie.Need-rows-before-requires
+rows_before_requires : tie.Need-rows_before-rows-requires
 rows_before_requires c κs =
-    let start : tie.Start = search in
-    let lies = (sheet_found start).lies in
-    let few = lies.few_rows in
-    (readable lies _ (omega arith), omega arith)
+    let lies = (sheet_found c.before.before).lies in
+    let few = lies.few_rows in record { readable = readable lies _ (omega arith); row_in = omega arith }
 
 returns : tie.Need-returns
 returns c =
-    let start : tie.Start = search in
-    let found = sheet_found start in
+    let found = sheet_found c.before.before.before in
     let lies = found.lies in
-    let noted = start.pre.1 found.sheet lies.is in
+    let noted = c.requires.noted found.sheet lies.is in
     record {
       sheet = found.sheet;
       accepted = lies.is;
-      planned = record { shape = lies.shape_is; rows = rows_right lies _ _ _ noted c.rows_before.ensures.0; values = refl; turns = refl; noted = noted };
+      planned = record { shape = lies.shape_is; rows = rows_right lies _ _ _ noted c.rows_before-rows.ensures.0; values = refl; turns = refl; noted = noted };
     }
 
 pub plan_of_spec : {M : Type 1} → statement M
-plan_of_spec = tie.close (tie.spec rows_before_requires returns)
+plan_of_spec =
+    tie.close (tie.spec rows_before_requires returns)

@@ -11,19 +11,20 @@ use Rattle.number.proofs.ConstantLaws.{signed_fits, negated_fits}
 use Rattle.number.proofs.constant.negated.Statement.{statement}
 use Rattle.number.proofs.constant.negated.Tie as tie
 
+difference : (c : tie.After-signed) → pos 0 -ℤ to_z w32 (of_z w32 c.signed.result) ≡ neg_ℤ (signed c.args.word)
+difference c =
+    let w = c.args.word in
+    rw c.signed.ensures (+ℤ_idl (neg_ℤ (to_z w32 (of_z w32 (signed w)))) ∙ ap neg_ℤ (to_z-of_z w32 (signed w) (signed_fits w (omega arith))))
+
 signed_requires : tie.Need-signed-requires
 signed_requires c κs = search rules
 
-difference : (c : tie.After-signed) → pos 0 -ℤ to_z w32 (of_z w32 c.signed.result) ≡ neg_ℤ (signed c.before.args.word)
-difference c =
-    let w = c.before.args.word in
-    rw c.signed.ensures (+ℤ_idl (neg_ℤ (to_z w32 (of_z w32 (signed w)))) ∙ ap neg_ℤ (to_z-of_z w32 (signed w) (signed_fits w (omega arith))))
-
-sub_result : tie.Need-overflow-sub-result
-sub_result c = rw (difference c) (negated_fits c.before.args.word (omega arith))
+sub_result : tie.Need-overflow_sub-result
+sub_result c = rw (difference c) (negated_fits c.args.word (omega arith))
 
 returns : tie.Need-returns
 returns c = to_z-of_z w32 _ (sub_result c) ∙ difference c
 
 pub negated_spec : {M : Type 1} → statement M
-negated_spec = tie.close (tie.spec signed_requires sub_result returns)
+negated_spec =
+    tie.close (tie.spec signed_requires sub_result returns)

@@ -21,15 +21,15 @@ use Rattle.plain.proofs.EngineRun.{Running, running_starts, running_left, runnin
 use Rattle.plain.proofs.engine.run_rows.Statement.{statement}
 use Rattle.plain.proofs.engine.run_rows.Tie as tie
 
-abbrev invariant_loop : tie.invariant-loop
+abbrev invariant_loop : tie.invariant-loop-number
 invariant_loop words shape marks goes forms cells₀ to_come₀ number₀ depth₀ left₀ cells to_come number depth left = Running words shape marks goes cells₀ cells to_come number depth left
 
-abbrev decreases_loop : tie.decreases-loop
+abbrev decreases_loop : tie.decreases-loop-number
 decreases_loop words shape marks goes forms cells₀ to_come₀ number₀ depth₀ left₀ cells to_come number depth left = left
 
 -- the row that was read says a line, and its part is the one that the table has for its kind
-module _ (c : tie.After-wide invariant_loop decreases_loop) where
-  abbrev turn : tie.Then1 invariant_loop decreases_loop
+module _ (c : tie.After-wide-kind invariant_loop decreases_loop) where
+  abbrev turn : tie.In-loop-number invariant_loop decreases_loop
   turn = c.before.before
 
   abbrev start : tie.Start invariant_loop decreases_loop
@@ -55,11 +55,11 @@ abbrev none : Rated
 none = record { value = nan; rate = nan }
 
 -- the pairs that the row's words name
-module _ (c : tie.After-b invariant_loop decreases_loop) where
-  abbrev read_at : tie.After-wide invariant_loop decreases_loop
+module _ (c : tie.After-b-1 invariant_loop decreases_loop) where
+  abbrev read_at : tie.After-wide-kind invariant_loop decreases_loop
   read_at = c.before.before.before.before.before
 
-  abbrev at : tie.At-loop invariant_loop decreases_loop
+  abbrev at : tie.At-loop-number invariant_loop decreases_loop
   at = (turn read_at).before.before
 
   abbrev below : at.loop.number < (start read_at).args.shape.rows
@@ -86,8 +86,8 @@ module _ (c : tie.After-b invariant_loop decreases_loop) where
   at_b h = ap (λ i. get_or at.loop.cells i none) (c.before.cell-of2.ensures.1 h)
 
 -- at a block's row, the row that is asked
-module _ (c : tie.After-asked-row invariant_loop decreases_loop) where
-  abbrev asked_from : tie.After-b invariant_loop decreases_loop
+module _ (c : tie.After-asked_row invariant_loop decreases_loop) where
+  abbrev asked_from : tie.After-b-1 invariant_loop decreases_loop
   asked_from = c.before.before.before
 
   block : assigns (part (read_at asked_from)) ≡ false
@@ -102,11 +102,11 @@ module _ (c : tie.After-asked-row invariant_loop decreases_loop) where
       )
 
 -- and the pairs that its words name
-module _ (c : tie.After-y invariant_loop decreases_loop) where
-  abbrev asked_at : tie.After-row-of2 invariant_loop decreases_loop
+module _ (c : tie.After-y-1 invariant_loop decreases_loop) where
+  abbrev asked_at : tie.After-row_of-asked invariant_loop decreases_loop
   asked_at = c.before.before.before.before
 
-  abbrev block_at : tie.After-b invariant_loop decreases_loop
+  abbrev block_at : tie.After-b-1 invariant_loop decreases_loop
   block_at = asked_from asked_at.before
 
   abbrev row_asked : Row
@@ -132,209 +132,154 @@ module _ (c : tie.After-y invariant_loop decreases_loop) where
   b_asked : row_asked.b < limit.variables → y_asked ≡ get_or (at block_at).loop.cells row_asked.b none
   b_asked h = ap (λ i. get_or (at block_at).loop.cells i none) (c.before.cell-of5.ensures.1 h)
 
-forms_requires : tie.Need-forms-requires invariant_loop decreases_loop
+forms_requires : tie.Need-forms-forms-requires invariant_loop decreases_loop
 forms_requires c κs = search rules
 
-loop_holds : tie.Need-loop-init invariant_loop decreases_loop
+loop_holds : tie.Need-loop-number-init invariant_loop decreases_loop
 loop_holds c =
-    let start = c.before.before.before.before in
-    running_starts start.requires.0 _ _ start.requires.1 refl
+    running_starts c.requires.ready _ _ c.requires.start_fits refl
 
-row_of_requires : tie.Need-row-of-requires invariant_loop decreases_loop
+row_of_requires : tie.Need-row_of-said-requires invariant_loop decreases_loop
 row_of_requires c κs =
-    let ready = c.before.before.loop.invariant.ready in
-    omega (arith, (ready_readable ready).there, c.if1.true)
+    let ready = c.loop-number.invariant.ready in
+    omega (arith, (ready_readable ready).there, c.loop-number-test.true)
 
-wide_requires : tie.Need-wide-requires invariant_loop decreases_loop
+wide_requires : tie.Need-wide-kind-requires invariant_loop decreases_loop
 wide_requires c κs = search rules
 
-mul_form : tie.Need-overflow-mul-form invariant_loop decreases_loop
-mul_form c = omega (arith, c.wide.ensures.0, in_table_lem c)
+mul_form : tie.Need-offset_bounds-forms-kind invariant_loop decreases_loop
+mul_form c = omega (arith, c.wide-kind.ensures.0, in_table_lem c)
 
-array_copy_out_form : tie.Need-array-copy-out-form invariant_loop decreases_loop
-array_copy_out_form c = omega (arith, c.wide.ensures.0, in_table_lem c)
+array_copy_out_form : tie.Need-bounds-forms-kind invariant_loop decreases_loop
+array_copy_out_form c = omega (arith, c.wide-kind.ensures.0, in_table_lem c)
 
-cell_of_requires : tie.Need-cell-of-requires invariant_loop decreases_loop
+cell_of_requires : tie.Need-cell_of-requires invariant_loop decreases_loop
 cell_of_requires c κs = search rules
 
-mul_a : tie.Need-overflow-mul-a invariant_loop decreases_loop
-mul_a c = omega (arith, c.cell-of.ensures.0)
+mul_a : tie.Need-offset_bounds-cells-cell_of invariant_loop decreases_loop
+mul_a c = omega (arith, c.cell_of.ensures.0)
 
-array_copy_out_a : tie.Need-array-copy-out-a invariant_loop decreases_loop
-array_copy_out_a c = omega (arith, c.cell-of.ensures.0, running_room (turn c.before.before).before.before.loop.inv)
+array_copy_out_a : tie.Need-bounds-cells-cell_of invariant_loop decreases_loop
+array_copy_out_a c = omega (arith, c.cell_of.ensures.0, running_room (turn c.before.before).before.before.loop.inv)
 
-cell_of_requires_2 : tie.Need-cell-of-requires-2 invariant_loop decreases_loop
+cell_of_requires_2 : tie.Need-cell_of-requires-in-loop-number invariant_loop decreases_loop
 cell_of_requires_2 c κs = search rules
 
-mul_b : tie.Need-overflow-mul-b invariant_loop decreases_loop
-mul_b c = omega (arith, c.cell-of2.ensures.0)
+mul_b : tie.Need-offset_bounds-cells-cell_of-in-loop-number invariant_loop decreases_loop
+mul_b c = omega (arith, c.cell_of-in-loop-number.ensures.0)
 
-array_copy_out_b : tie.Need-array-copy-out-b invariant_loop decreases_loop
-array_copy_out_b c = omega (arith, c.cell-of2.ensures.0, running_room (turn c.before.before.before.before).before.before.loop.inv)
+array_copy_out_b : tie.Need-bounds-cells-cell_of-in-loop-number invariant_loop decreases_loop
+array_copy_out_b c = omega (arith, c.cell_of-in-loop-number.ensures.0, running_room (turn c.before.before.before.before).before.before.loop.inv)
 
-sub_left : tie.Need-overflow-sub-left invariant_loop decreases_loop
+sub_left : tie.Need-overflow_sub-left invariant_loop decreases_loop
 sub_left c = running_left (running c) (below c)
 
 assigns_requires : tie.Need-assigns-requires invariant_loop decreases_loop
 assigns_requires c κs = search rules
 
-shared_slice_read_assigned : tie.Need-shared-slice-read-assigned invariant_loop decreases_loop
+shared_slice_read_assigned : tie.Need-bounds-marks-number invariant_loop decreases_loop
 shared_slice_read_assigned c =
-    let at = c.before.before.before in
-    omega (arith, (running at).ready.marks_there, below at)
+    omega (arith, (running c.before.before.before).ready.marks_there, below c.before.before.before)
 
 assigned_requires : tie.Need-assigned-requires invariant_loop decreases_loop
 assigned_requires c κs =
-    let at = c.before.before.before in
-    let assigning = sym c.before.before.assigns.ensures ∙ c.before.if2.true in (
-      constant_within (running at) (below at) (read at) (says (read_at at)) (part_found (read_at at)) assigning,
-      says_assignment (running at) (below at) (read at) (says (read_at at)) (part_found (read_at at)) assigning,
-    )
+    let assigning = sym c.assigns.ensures ∙ c.if-assigns.true in let whole = (
+      constant_within (running c.before.before.before) (below c.before.before.before) (read c.before.before.before) (says (read_at c.before.before.before)) (part_found (read_at c.before.before.before)) assigning,
+      says_assignment (running c.before.before.before) (below c.before.before.before) (read c.before.before.before) (says (read_at c.before.before.before)) (part_found (read_at c.before.before.before)) assigning,
+    ) in record { constant_in = whole.0; part_said = whole.1 }
 
-enum_known_x : tie.Need-enum-known-x invariant_loop decreases_loop
+enum_known_x : tie.Need-enum_known-x invariant_loop decreases_loop
 enum_known_x c = search rules
 
-cell_of_requires_3 : tie.Need-cell-of-requires-3 invariant_loop decreases_loop
+cell_of_requires_3 : tie.Need-cell_of-requires-in-Is invariant_loop decreases_loop
 cell_of_requires_3 c κs = search rules
 
-mul_cells : tie.Need-overflow-mul-cells invariant_loop decreases_loop
-mul_cells c = omega (arith, c.cell-of3.ensures.0)
+mul_cells : tie.Need-offset_bounds-cells-cell_of-in-Is invariant_loop decreases_loop
+mul_cells c = omega (arith, c.cell_of-in-Is.ensures.0)
 
-array_set_from_cells : tie.Need-array-set-from-cells invariant_loop decreases_loop
-array_set_from_cells c = omega (arith, c.cell-of3.ensures.0, running_room (running c.before.before.before.before.before.before.before.before))
+array_set_from_cells : tie.Need-bounds-cells-cell_of-in-Is invariant_loop decreases_loop
+array_set_from_cells c = omega (arith, c.cell_of-in-Is.ensures.0, running_room (running c.before.before.before.before.before.before))
 
-enum_known_after : tie.Need-enum-known-after invariant_loop decreases_loop
+enum_known_after : tie.Need-enum_known-after invariant_loop decreases_loop
 enum_known_after c = search rules
 
-returns : tie.Need-returns invariant_loop decreases_loop
+returns : tie.Need-returns-in-Stopped invariant_loop decreases_loop
 returns c =
-    let worked = c.before.before.before in
-    let at = worked.before.before.before.before in
-    let assigning = sym worked.before.before.before.assigns.ensures ∙ worked.before.before.if2.true in
-    runs_to (running at).ready _ _ (running_room (running at)) (omega (arith, below at))
-    (stops_assigned (running at) (below at) (read at) (says (read_at at)) (part_found (read_at at)) assigning (x at) (y at) none (at_a at) (at_b at)
-    worked.assigned.result worked.assigned.ensures c.before.after.given.1)
+    let assigning = sym c.assigns.ensures ∙ c.if-assigns.true in
+    runs_to (running c.before.before.before.before.before).ready _ _ (running_room (running c.before.before.before.before.before)) (omega (arith, below c.before.before.before.before.before))
+    (stops_assigned (running c.before.before.before.before.before) (below c.before.before.before.before.before) (read c.before.before.before.before.before) (says (read_at c.before.before.before.before.before)) (part_found (read_at c.before.before.before.before.before)) assigning (x c.before.before.before.before.before) (y c.before.before.before.before.before) none (at_a c.before.before.before.before.before) (at_b c.before.before.before.before.before)
+    c.assigned.result c.assigned.ensures c.in-Stopped.is)
 
-add_number : tie.Need-overflow-add-number invariant_loop decreases_loop
+add_number : tie.Need-overflow_add-number invariant_loop decreases_loop
 add_number c =
-    let at = c.before.before.before.before.before.before.before.before in
-    omega (arith, below at, (ready_readable (running at).ready).few)
+    omega (arith, below c.before.before.before.before.before.before, (ready_readable (running c.before.before.before.before.before.before).ready).few)
 
-loop_less : tie.Need-loop-smaller invariant_loop decreases_loop
+loop_less : tie.Need-loop-number-smaller-then-assigns invariant_loop decreases_loop
 loop_less c =
-    let at = c.before.before.before.before.before.before.before.before in
-    omega (arith, running_left (running at) (below at))
+    omega (arith, running_left (running c.before.before.before.before.before.before) (below c.before.before.before.before.before.before))
 
-loop_again : tie.Need-loop-preserved invariant_loop decreases_loop
+loop_again : tie.Need-loop-number-preserved-then-assigns invariant_loop decreases_loop
 loop_again c =
-    let worked = c.before.before.before.before in
-    let at = worked.before.before.before.before in
-    let assigning = sym worked.before.before.before.assigns.ensures ∙ worked.before.before.if2.true in
-    goes_assigned (running at) (below at) (read at) (says (read_at at)) (part_found (read_at at)) assigning (x at) (y at) none (at_a at) (at_b at)
-    worked.assigned.result worked.assigned.ensures c.before.before.x.given.1 c.cell-of3.result c.cell-of3.ensures.1
+    let assigning = sym c.assigns.ensures ∙ c.if-assigns.true in
+    goes_assigned (running c.before.before.before.before.before.before) (below c.before.before.before.before.before.before) (read c.before.before.before.before.before.before) (says (read_at c.before.before.before.before.before.before)) (part_found (read_at c.before.before.before.before.before.before)) assigning (x c.before.before.before.before.before.before) (y c.before.before.before.before.before.before) none (at_a c.before.before.before.before.before.before) (at_b c.before.before.before.before.before.before)
+    c.assigned.result c.assigned.ensures c.in-Is.is c.cell_of-in-Is.result c.cell_of-in-Is.ensures.1
 
-asked_row_requires : tie.Need-asked-row-requires invariant_loop decreases_loop
+asked_row_requires : tie.Need-asked_row-requires invariant_loop decreases_loop
 asked_row_requires c κs =
-    let at = c.before.before in
-    omega (arith, (running at).ready.goes_there, below at)
+    omega (arith, (running c.before.before).ready.goes_there, below c.before.before)
 
-row_of_requires_2 : tie.Need-row-of-requires-2 invariant_loop decreases_loop
+row_of_requires_2 : tie.Need-row_of-asked-requires invariant_loop decreases_loop
 row_of_requires_2 c κs = omega (arith, (ready_readable (running (asked_from c)).ready).there, asked_there c)
 
-cell_of_requires_4 : tie.Need-cell-of-requires-4 invariant_loop decreases_loop
+cell_of_requires_4 : tie.Need-cell_of-requires-else-assigns invariant_loop decreases_loop
 cell_of_requires_4 c κs = search rules
 
-mul_x : tie.Need-overflow-mul-x invariant_loop decreases_loop
-mul_x c = omega (arith, c.cell-of4.ensures.0)
+mul_x : tie.Need-offset_bounds-cells-cell_of-else-assigns invariant_loop decreases_loop
+mul_x c = omega (arith, c.cell_of-else-assigns.ensures.0)
 
-array_copy_out_x : tie.Need-array-copy-out-x invariant_loop decreases_loop
-array_copy_out_x c = omega (arith, c.cell-of4.ensures.0, running_room (running (asked_from c.before.before)))
+array_copy_out_x : tie.Need-bounds-cells-cell_of-else-assigns invariant_loop decreases_loop
+array_copy_out_x c = omega (arith, c.cell_of-else-assigns.ensures.0, running_room (running (asked_from c.before.before)))
 
-cell_of_requires_5 : tie.Need-cell-of-requires-5 invariant_loop decreases_loop
+cell_of_requires_5 : tie.Need-cell_of-requires-else-assigns-2 invariant_loop decreases_loop
 cell_of_requires_5 c κs = search rules
 
-mul_y : tie.Need-overflow-mul-y invariant_loop decreases_loop
-mul_y c = omega (arith, c.cell-of5.ensures.0)
+mul_y : tie.Need-offset_bounds-cells-cell_of-else-assigns-2 invariant_loop decreases_loop
+mul_y c = omega (arith, c.cell_of-else-assigns-2.ensures.0)
 
-array_copy_out_y : tie.Need-array-copy-out-y invariant_loop decreases_loop
-array_copy_out_y c = omega (arith, c.cell-of5.ensures.0, running_room (running (asked_from c.before.before.before.before)))
+array_copy_out_y : tie.Need-bounds-cells-cell_of-else-assigns-2 invariant_loop decreases_loop
+array_copy_out_y c = omega (arith, c.cell_of-else-assigns-2.ensures.0, running_room (running (asked_from c.before.before.before.before)))
 
-less_requires : tie.Need-less-requires invariant_loop decreases_loop
+less_requires : tie.Need-less-holds-requires invariant_loop decreases_loop
 less_requires c κs = search rules
 
-slice_aggregate_cross : tie.Need-slice-aggregate-cross invariant_loop decreases_loop
+slice_aggregate_cross : tie.Need-slice_bounds-cross-end invariant_loop decreases_loop
 slice_aggregate_cross c = search rules
 
-cross_requires : tie.Need-cross-requires invariant_loop decreases_loop
+cross_requires : tie.Need-cross-next-requires invariant_loop decreases_loop
 cross_requires c κs =
-    let asked = c.before.before in
-    let at = block_at asked in (
+    let at = block_at c.before.before in (
       omega (arith, (running at).ready.goes_there, below at),
-      crosses (running at) (below at) (read at) (says (read_at at)) (part_found (read_at at)) (block (asked_at asked).before) (row_asked_lem asked)
-          (x_asked asked) (y_asked asked) none (a_asked asked) (b_asked asked) c.before.less.ensures,
+      crosses (running at) (below at) (read at) (says (read_at at)) (part_found (read_at at)) (block (asked_at c.before.before).before) (row_asked_lem c.before.before)
+          (x_asked c.before.before) (y_asked c.before.before) none (a_asked c.before.before) (b_asked c.before.before) c.less-holds.ensures,
     )
 
-loop_less_2 : tie.Need-loop-smaller-2 invariant_loop decreases_loop
+loop_less_2 : tie.Need-loop-number-smaller invariant_loop decreases_loop
 loop_less_2 c =
     let at = block_at c.before.before.before.before.before in
     omega (arith, running_left (running at) (below at))
 
-loop_again_2 : tie.Need-loop-preserved-2 invariant_loop decreases_loop
+loop_again_2 : tie.Need-loop-number-preserved invariant_loop decreases_loop
 loop_again_2 c =
-    let crossed = c.before.before in
-    let asked = crossed.before.before.before in
-    let at = block_at asked in
-    goes_across (running at) (below at) (read at) (says (read_at at)) (part_found (read_at at)) (block (asked_at asked).before) (row_asked_lem asked)
-    (x_asked asked) (y_asked asked) none (a_asked asked) (b_asked asked) crossed.before.before.less.ensures crossed.cross.result _
-    crossed.cross.ensures
+    let at = block_at c.before.before.before.before.before in
+    goes_across (running at) (below at) (read at) (says (read_at at)) (part_found (read_at at)) (block (asked_at c.before.before.before.before.before).before) (row_asked_lem c.before.before.before.before.before)
+    (x_asked c.before.before.before.before.before) (y_asked c.before.before.before.before.before) none (a_asked c.before.before.before.before.before) (b_asked c.before.before.before.before.before) c.less-holds.ensures c.cross-next.result _
+    c.cross-next.ensures
 
-returns_2 : tie.Need-returns-2 invariant_loop decreases_loop
+returns_2 : tie.Need-returns invariant_loop decreases_loop
 returns_2 c =
-    let at = c.before.before.loop.invariant in
-    runs_to at.ready _ _ (running_room at) (omega arith) (running_ends at c.if1.false)
+    let at = c.loop-number.invariant in
+    runs_to at.ready _ _ (running_room at) (omega arith) (running_ends at c.loop-number-test.false)
 
 pub run_rows_spec : {M : Type 1} → statement M
 run_rows_spec =
-    tie.close
-    (tie.spec
-    invariant_loop
-    decreases_loop
-    forms_requires
-    loop_holds
-    row_of_requires
-    wide_requires
-    mul_form
-    array_copy_out_form
-    cell_of_requires
-    mul_a
-    array_copy_out_a
-    cell_of_requires_2
-    mul_b
-    array_copy_out_b
-    sub_left
-    assigns_requires
-    shared_slice_read_assigned
-    assigned_requires
-    enum_known_x
-    cell_of_requires_3
-    mul_cells
-    array_set_from_cells
-    enum_known_after
-    returns
-    add_number
-    loop_less
-    loop_again
-    asked_row_requires
-    row_of_requires_2
-    cell_of_requires_4
-    mul_x
-    array_copy_out_x
-    cell_of_requires_5
-    mul_y
-    array_copy_out_y
-    less_requires
-    slice_aggregate_cross
-    cross_requires
-    loop_less_2
-    loop_again_2
-    returns_2)
+    tie.close (tie.spec invariant_loop decreases_loop forms_requires loop_holds row_of_requires wide_requires mul_form array_copy_out_form cell_of_requires mul_a array_copy_out_a cell_of_requires_2 mul_b array_copy_out_b sub_left assigns_requires shared_slice_read_assigned assigned_requires enum_known_x cell_of_requires_3 mul_cells array_set_from_cells enum_known_after returns add_number loop_less loop_again asked_row_requires row_of_requires_2 cell_of_requires_4 mul_x array_copy_out_x cell_of_requires_5 mul_y array_copy_out_y less_requires slice_aggregate_cross cross_requires loop_less_2 loop_again_2 returns_2)

@@ -14,13 +14,10 @@ use borrow.Author.Rules.{rules}
 use Rattle.run.proofs.calls_double.run_double.Statement.{statement}
 use Rattle.run.proofs.calls_double.run_double.Tie as tie
 
-plan_sheet_requires : tie.Need-plan-sheet-requires
-plan_sheet_requires c κs = search rules
-
 -- the words, and the marks and partners that the plan came with
-module _ (c : tie.After-plan-sheet) where
+module _ (c : tie.After-plan_sheet-planned) where
   abbrev words : List ℕ
-  words = c.before.before.before.before.before.before.before.before.before.before.before.args.words.now
+  words = c.args.words.now
 
   abbrev marks : List ℕ
   marks = c.plan-sheet.new.1.0
@@ -35,98 +32,66 @@ module _ (c : tie.After-plan-sheet) where
   allowed : PlanSaysIn true needs_of words marks came goes c.plan-sheet.result
   allowed = planned_in needs_of words marks came goes c.plan-sheet.result c.plan-sheet.ensures.0
 
+plan_sheet_requires : tie.Need-plan_sheet-planned-requires
+plan_sheet_requires c κs = search rules
+
 judge_requires : tie.Need-judge-requires
 judge_requires c κs = search rules
 
-enum_known_answer : tie.Need-enum-known-answer
+enum_known_answer : tie.Need-enum_known-answer
 enum_known_answer c = search rules
 
-enum_known_plan : tie.Need-enum-known-plan
+enum_known_plan : tie.Need-enum_known-plan
 enum_known_plan c = search rules
 
-all_finite_requires : tie.Need-all-finite-requires
+all_finite_requires : tie.Need-all_finite-requires
 all_finite_requires c κs = search rules
 
-enum_known_why : tie.Need-enum-known-why
+enum_known_why : tie.Need-enum_known-why
 enum_known_why c = search rules
 
-answer_no_requires : tie.Need-answer-no-requires
+answer_no_requires : tie.Need-answer_no-requires
 answer_no_requires c κs = search rules
 
-returns : tie.Need-returns
+returns : tie.Need-returns-in-No-all_finite
 returns c =
-    let tested = c.before.before.before.before in
-    let planned = tested.before.before in
-    let judged = planned.before.before in
-    let room = subst (JudgedAs true needs_of _ _ _ _ _) planned.plan.given.1 (judged.judge.ensures true needs_of _ _ _ _ (allowed judged.before)) in
-    adjoint_numbers_refused doubles _ _ _ _ room (said tested.all-finite.ensures c.before.before.why.given.1) c.answer-no.ensures
+    let room = subst (JudgedAs true needs_of _ _ _ _ _) c.in-HasRoom.is (c.judge.ensures true needs_of _ _ _ _ (allowed c.before.before.before.before.before)) in
+    adjoint_numbers_refused doubles _ _ _ _ room (said c.all_finite.ensures c.in-No-all_finite.is) c.answer_no.ensures
 
-enum_told : tie.Need-enum-told
+enum_told : tie.Need-enum_told-1
 enum_told c = search rules
 
-write_planned_requires : tie.Need-write-planned-requires
+write_planned_requires : tie.Need-write_planned-requires
 write_planned_requires c κs =
-    let planned = c.before.before.before.before.before.before.before.before.before in
-    let judged = planned.before.before in
-    let room = subst (JudgedAs true needs_of _ _ _ _ _) planned.plan.given.1 (judged.judge.ensures true needs_of _ _ _ _ (allowed judged.before)) in
-    (room.made, room.table_fits)
+    let room = subst (JudgedAs true needs_of _ _ _ _ _) c.in-HasRoom.is (c.judge.ensures true needs_of _ _ _ _ (allowed c.before.before.before.before.before.before.before.before.before)) in record { planned = room.made; table_fits = room.table_fits }
 
-run_written_requires : tie.Need-run-written-requires
+run_written_requires : tie.Need-run_written-requires
 run_written_requires c κs =
-    let wrote = c.before.before.before.before.before.before.before in
-    let planned = wrote.before.before.before.before.before.before.before.before.before.before in
-    let judged = planned.before.before in
-    let room = subst (JudgedAs true needs_of _ _ _ _ _) planned.plan.given.1 (judged.judge.ensures true needs_of _ _ _ _ (allowed judged.before)) in
-    (adjoint_indexed room.made wrote.write-planned.ensures, sheet_room _ _ _ room)
+    let room = subst (JudgedAs true needs_of _ _ _ _ _) c.in-HasRoom.is (c.judge.ensures true needs_of _ _ _ _ (allowed c.before.before.before.before.before.before.before.before.before.before.before.before.before.before.before.before.before)) in record { indexed = adjoint_indexed room.made c.write_planned.ensures; room = sheet_room _ _ _ room }
 
-returns_2 : tie.Need-returns-2
+returns_2 : tie.Need-returns-in-No
 returns_2 c =
-    let judged = c.before.before.before in
     adjoint_refused doubles _ _ _ _
-    (subst (JudgedAs true needs_of _ _ _ _ _) c.before.answer.given.1 (judged.judge.ensures true needs_of _ _ _ _ (allowed judged.before)))
+    (subst (JudgedAs true needs_of _ _ _ _ _) c.in-No.is (c.judge.ensures true needs_of _ _ _ _ (allowed c.before.before)))
 
-same_length : tie.Need-same-length
+same_length : tie.Need-shape_of-table
 same_length c = search rules
 
-same_length_2 : tie.Need-same-length-2
+same_length_2 : tie.Need-shape_of-values
 same_length_2 c = search rules
 
-same_length_3 : tie.Need-same-length-3
+same_length_3 : tie.Need-shape_of-turns
 same_length_3 c = search rules
 
-same_length_4 : tie.Need-same-length-4
+same_length_4 : tie.Need-shape_of-res
 same_length_4 c = search rules
 
-returns_3 : tie.Need-returns-3
+returns_3 : tie.Need-returns-in_default
 returns_3 c =
-    let ran = c.before.before.before.before.before.before in
-    let wrote = ran.before.before.before.before.before.before.before.before in
-    let told = wrote.before.before.before.before.before.before in
-    let tested = told.before.before in
-    let planned = tested.before.before in
-    let judged = planned.before.before in
-    let room = subst (JudgedAs true needs_of _ _ _ _ _) planned.plan.given.1 (judged.judge.ensures true needs_of _ _ _ _ (allowed judged.before)) in
-    adjoint_ran doubles _ _ _ _ room (said tested.all-finite.ensures told.enum_told.given.1) wrote.write-planned.ensures
-    ran.run-written.ensures
+    let room = subst (JudgedAs true needs_of _ _ _ _ _) c.in-HasRoom.is (c.judge.ensures true needs_of _ _ _ _ (allowed c.before.before.before.before.before.before.before.before.before.before.before.before.before.before.before.before.before.before.before.before.before.before.before.before)) in
+    adjoint_ran doubles _ _ _ _ room (said c.all_finite.ensures c.in_default.is) c.write_planned.ensures
+    c.run_written.ensures
 
 pub run_double_spec : {M : Type 1} → statement M
 run_double_spec =
-    tie.close
-    (tie.spec
-    plan_sheet_requires
-    judge_requires
-    enum_known_answer
-    enum_known_plan
-    all_finite_requires
-    enum_known_why
-    answer_no_requires
-    returns
-    enum_told
-    write_planned_requires
-    run_written_requires
-    returns_2
-    same_length
-    same_length_2
-    same_length_3
-    same_length_4
-    returns_3)
+    tie.close (tie.spec plan_sheet_requires judge_requires enum_known_answer enum_known_plan all_finite_requires enum_known_why answer_no_requires returns enum_told write_planned_requires run_written_requires returns_2 same_length same_length_2 same_length_3 same_length_4 returns_3)

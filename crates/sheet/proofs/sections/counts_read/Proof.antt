@@ -20,140 +20,114 @@ told says is = sym says ∙ ap count_said is
 
 -- ---- where each judgement was passed
 
-abbrev at_roles : tie.After-known-told5 → tie.After-enum-told
-at_roles c = c.before.before.before.before
+abbrev at_roles : tie.In-Is-count_at → tie.In_default
+at_roles c = c.before.before
 
-abbrev at_v : tie.After-enum-told → tie.After-known-told2
-at_v c = c.before.before.before
+abbrev at_v : tie.In_default → tie.In-Is
+at_v c = c.before.before
 
-module _ (c : tie.After-known-told2) where
+module _ (c : tie.In-Is) where
   abbrev words : List ℕ
-  words = c.before.before.before.before.before.args.words.now
+  words = c.args.words.now
 
   abbrev v : ℕ
-  v = c.before.count.given.0.0
+  v = c.in-Is.count
 
   is_v : count_at words 0 limit.fewest_variables limit.variables 1 ≡ given v
-  is_v = told c.before.before.before.count_at.ensures c.before.count.given.1
+  is_v = told c.count_at.ensures c.in-Is.is
 
   v_counted : Counted words 0 limit.fewest_variables limit.variables 1 v
   v_counted = count_judged words 0 limit.fewest_variables limit.variables 1 v is_v
 
-roles : (c : tie.After-enum-told) → roles_fit (take (v (at_v c)) (drop 1 (words (at_v c)))) 1 ≡ given tt
-roles c = sym c.before.before.roles_fit.ensures ∙ ap roles_said c.enum_told.given.1
+roles : (c : tie.In_default) → roles_fit (take (v (at_v c)) (drop 1 (words (at_v c)))) 1 ≡ given tt
+roles c = sym c.roles_fit.ensures ∙ ap roles_said c.in_default.is
 
-module _ (c : tie.After-known-told5) where
+module _ (c : tie.In-Is-count_at) where
   abbrev k : ℕ
-  k = c.before.count2.given.0.0
+  k = c.in-Is-count_at.count
 
   abbrev place : ℕ
   place = 1 + v (at_v (at_roles c))
 
   is_k : count_at (words (at_v (at_roles c))) place 0 limit.constants 1 ≡ given k
-  is_k = told c.before.before.before.count-at2.ensures c.before.count2.given.1
+  is_k = told c.count_at-2.ensures c.in-Is-count_at.is
 
   k_counted : Counted (words (at_v (at_roles c))) place 0 limit.constants 1 k
   k_counted = count_judged (words (at_v (at_roles c))) place 0 limit.constants 1 k is_k
 
 -- ---- the needs
 
-count_at_requires : tie.Need-count-at-requires
+count_at_requires : tie.Need-count_at-requires
 count_at_requires c κs = search rules
 
-enum_known_why : tie.Need-enum-known-why
+enum_known_why : tie.Need-enum_known-why
 enum_known_why c = search rules
 
-returns : tie.Need-returns
-returns c = variables_refused _ _ (told c.before.before.before.count_at.ensures c.before.why.given.1)
+returns : tie.Need-returns-in-Refused
+returns c = variables_refused _ _ (told c.count_at.ensures c.in-Refused.is)
 
-enum_known_count : tie.Need-enum-known-count
+enum_known_count : tie.Need-enum_known-count
 enum_known_count c = search rules
 
-roles_fit_requires : tie.Need-roles-fit-requires
+roles_fit_requires : tie.Need-roles_fit-requires
 roles_fit_requires c κs = omega (arith, (v_counted c).there)
 
-enum_known_why_2 : tie.Need-enum-known-why-2
+enum_known_why_2 : tie.Need-enum_known-why-in-Refused-roles_fit
 enum_known_why_2 c = search rules
 
-returns_2 : tie.Need-returns-2
+returns_2 : tie.Need-returns-in-Refused-roles_fit
 returns_2 c =
-    let judged = c.before.before.before in
-    roles_refused _ _ (is_v judged.before) _ (sym judged.roles_fit.ensures ∙ ap roles_said c.before.why2.given.1)
+    roles_refused _ _ (is_v c.before.before) _ (sym c.roles_fit.ensures ∙ ap roles_said c.in-Refused-roles_fit.is)
 
-enum_told : tie.Need-enum-told
+enum_told : tie.Need-enum_told-1
 enum_told c = search rules
 
-add_constant_count : tie.Need-overflow-add-constant-count
+add_constant_count : tie.Need-overflow_add-constant_count
 add_constant_count c = omega (arith, (v_counted (at_v c)).most)
 
-count_at_requires_2 : tie.Need-count-at-requires-2
+count_at_requires_2 : tie.Need-count_at-requires-2
 count_at_requires_2 c κs = search rules
 
-enum_known_why_3 : tie.Need-enum-known-why-3
+enum_known_why_3 : tie.Need-enum_known-why-in-Refused-count_at-2
 enum_known_why_3 c = search rules
 
-returns_3 : tie.Need-returns-3
+returns_3 : tie.Need-returns-in-Refused-count_at
 returns_3 c =
-    let judged = c.before.before.before in
-    let passed = judged.before in
-    constants_refused _ _ (is_v (at_v passed)) (roles passed) _ (told judged.count-at2.ensures c.before.why3.given.1)
+    constants_refused _ _ (is_v (at_v c.before.before)) (roles c.before.before) _ (told c.count_at-2.ensures c.in-Refused-count_at.is)
 
-enum_known_count_2 : tie.Need-enum-known-count-2
+enum_known_count_2 : tie.Need-enum_known-count-in-Is-count_at-2
 enum_known_count_2 c = search rules
 
-add_row_count : tie.Need-overflow-add-row-count
+add_row_count : tie.Need-overflow_add-row_count
 add_row_count c = omega (arith, (v_counted (at_v (at_roles c))).most, (k_counted c).most)
 
-add_row_count_2 : tie.Need-overflow-add-row-count-2
+add_row_count_2 : tie.Need-overflow_add-row_count-2
 add_row_count_2 c = omega (arith, (v_counted (at_v (at_roles c))).most, (k_counted c).most)
 
-count_at_requires_3 : tie.Need-count-at-requires-3
+count_at_requires_3 : tie.Need-count_at-requires-3
 count_at_requires_3 c κs = search rules
 
-enum_known_why_4 : tie.Need-enum-known-why-4
+enum_known_why_4 : tie.Need-enum_known-why-in-Refused-count_at-3
 enum_known_why_4 c = search rules
 
-enum_known_rows : tie.Need-enum-known-rows
+enum_known_rows : tie.Need-enum_known-rows
 enum_known_rows c = search rules
 
-returns_4 : tie.Need-returns-4
+returns_4 : tie.Need-returns-in-Refused-count_at-2
 returns_4 c =
-    let judged = c.before.before.before in
-    let passed = at_roles judged.before in
-    rows_refused _ _ (is_v (at_v passed)) (roles passed) _ (is_k judged.before) _ (told judged.count-at3.ensures c.before.why4.given.1)
+    let passed = at_roles c.before.before in
+    rows_refused _ _ (is_v (at_v passed)) (roles passed) _ (is_k c.before.before) _ (told c.count_at-3.ensures c.in-Refused-count_at-2.is)
 
-returns_5 : tie.Need-returns-5
+returns_5 : tie.Need-returns-in-Is-count_at-2
 returns_5 c =
-    let judged = c.before.before.before in
-    let passed = at_roles judged.before in
+    let passed = at_roles c.before.before in
     record {
       variables = is_v (at_v passed);
       roles = roles passed;
-      constants = is_k judged.before;
-      rows = told judged.count-at3.ensures c.before.rows.given.1;
+      constants = is_k c.before.before;
+      rows = told c.count_at-3.ensures c.in-Is-count_at-2.is;
     }
 
 pub counts_read_spec : {M : Type 1} → statement M
 counts_read_spec =
-    tie.close
-    (tie.spec
-    count_at_requires
-    enum_known_why
-    returns
-    enum_known_count
-    roles_fit_requires
-    enum_known_why_2
-    returns_2
-    enum_told
-    add_constant_count
-    count_at_requires_2
-    enum_known_why_3
-    returns_3
-    enum_known_count_2
-    add_row_count
-    add_row_count_2
-    count_at_requires_3
-    enum_known_why_4
-    enum_known_rows
-    returns_4
-    returns_5)
+    tie.close (tie.spec count_at_requires enum_known_why returns enum_known_count roles_fit_requires enum_known_why_2 returns_2 enum_told add_constant_count count_at_requires_2 enum_known_why_3 returns_3 enum_known_count_2 add_row_count add_row_count_2 count_at_requires_3 enum_known_why_4 enum_known_rows returns_4 returns_5)

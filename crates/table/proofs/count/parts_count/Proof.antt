@@ -13,7 +13,7 @@ use Rattle.table.proofs.count.parts_count.Statement.{statement}
 use Rattle.table.proofs.count.parts_count.Tie as tie
 
 -- both operands, once they are counted
-module _ (c : tie.After-one-if2) where
+module _ (c : tie.After-one_if-of_b) where
   abbrev start : tie.Start
   start = c.before.before.before.before.before.before.before.before.before
 
@@ -41,68 +41,51 @@ bit_requires c κs = search rules
 bit_requires_2 : tie.Need-bit-requires-2
 bit_requires_2 c κs = search rules
 
-one_if_requires : tie.Need-one-if-requires
+one_if_requires : tie.Need-one_if-of_a-requires
 one_if_requires c κs = search rules
 
-one_if_requires_2 : tie.Need-one-if-requires-2
+one_if_requires_2 : tie.Need-one_if-of_b-requires
 one_if_requires_2 c κs = search rules
 
-add_result : tie.Need-overflow-add-result
+add_result : tie.Need-overflow_add-result
 add_result c = search rules
 
-mul_result : tie.Need-overflow-mul-result
+mul_result : tie.Need-overflow_mul-result
 mul_result c = search rules
 
-returns : tie.Need-returns
+returns : tie.Need-returns-then-row-eq-PRODUCT
 returns c =
-    let at = c.before.before in
     record {
-      within = omega (arith, few at);
-      is = λ v. let product = eq-eqb _ 5 c.if1.true in omega (arith, rw product at (counted at v));
+      within = omega (arith, few c.before.before);
+      is = λ v. let product = eq-eqb _ 5 c.if-row-eq-PRODUCT.true in omega (arith, rw product c.before.before (counted c.before.before v));
     }
 
-add_result_2 : tie.Need-overflow-add-result-2
+add_result_2 : tie.Need-overflow_add-result-then-divides
 add_result_2 c = search rules
 
-mul_result_2 : tie.Need-overflow-mul-result-2
+mul_result_2 : tie.Need-overflow_mul-result-then-divides
 mul_result_2 c = search rules
 
-add_result_3 : tie.Need-overflow-add-result-3
+add_result_3 : tie.Need-overflow_add-result-then-divides-2
 add_result_3 c = search rules
 
-returns_2 : tie.Need-returns-2
+returns_2 : tie.Need-returns-then-divides
 returns_2 c =
-    let at = c.before.before.before in
     record {
-      within = omega (arith, few at);
-      is = λ v. let other = ne_eqb _ 5 c.before.if1.false in omega (arith, rw (other, c.if2.true) at (counted at v));
+      within = omega (arith, few c.before.before.before);
+      is = λ v. let other = ne_eqb _ 5 c.if-row-eq-PRODUCT.false in omega (arith, rw (other, c.if-divides.true) c.before.before.before (counted c.before.before.before v));
     }
 
-add_result_4 : tie.Need-overflow-add-result-4
+add_result_4 : tie.Need-overflow_add-result-2
 add_result_4 c = search rules
 
-returns_3 : tie.Need-returns-3
+returns_3 : tie.Need-returns
 returns_3 c =
-    let at = c.before.before.before in
     record {
-      within = omega (arith, few at);
-      is = λ v. let other = ne_eqb _ 5 c.before.if1.false in omega (arith, rw (other, c.if2.false) at (counted at v));
+      within = omega (arith, few c.before.before.before);
+      is = λ v. let other = ne_eqb _ 5 c.if-row-eq-PRODUCT.false in omega (arith, rw (other, c.if-divides.false) c.before.before.before (counted c.before.before.before v));
     }
 
 pub parts_count_spec : {M : Type 1} → statement M
 parts_count_spec =
-    tie.close
-    (tie.spec
-    bit_requires
-    bit_requires_2
-    one_if_requires
-    one_if_requires_2
-    add_result
-    mul_result
-    returns
-    add_result_2
-    mul_result_2
-    add_result_3
-    returns_2
-    add_result_4
-    returns_3)
+    tie.close (tie.spec bit_requires bit_requires_2 one_if_requires one_if_requires_2 add_result mul_result returns add_result_2 mul_result_2 add_result_3 returns_2 add_result_4 returns_3)

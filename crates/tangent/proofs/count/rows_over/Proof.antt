@@ -15,7 +15,7 @@ use Rattle.tangent.proofs.count.rows_over.Statement.{statement}
 use Rattle.tangent.proofs.count.rows_over.Tie as tie
 
 -- an assignment's count, by whether it is a quotient, and else by whether all of it holds
-module _ (c : tie.Else1) where
+module _ (c : tie.Else-not-assigns) where
   abbrev start : tie.Start
   start = c.before.before.before.before.before
 
@@ -36,59 +36,45 @@ module _ (c : tie.Else1) where
       assigned_row start.pre _ c.before.assigns.ensures c.if1.false c.before.before.bit3.ensures
       c.before.before.before.before.bit.ensures c.before.before.before.bit2.ensures
 
-bit_requires : tie.Need-bit-requires
+bit_requires : tie.Need-bit-first-requires
 bit_requires c κs = search rules
 
-bit_requires_2 : tie.Need-bit-requires-2
+bit_requires_2 : tie.Need-bit-second-requires
 bit_requires_2 c κs = search rules
 
-bit_requires_3 : tie.Need-bit-requires-3
+bit_requires_3 : tie.Need-bit-active-requires
 bit_requires_3 c κs = search rules
 
 assigns_requires : tie.Need-assigns-requires
 assigns_requires c κs = search rules
 
-returns : tie.Need-returns
+returns : tie.Need-returns-then-not-assigns
 returns c =
-    let start = c.before.before.before.before.before in
-    (block_row start.requires _ c.before.assigns.ensures c.if1.true, omega arith)
+    (block_row c.requires _ c.assigns.ensures c.if-not-assigns.true, omega arith)
 
-quotient_count_requires : tie.Need-quotient-count-requires
+quotient_count_requires : tie.Need-quotient_count-requires
 quotient_count_requires c κs = search rules
 
-add_result : tie.Need-overflow-add-result
+add_result : tie.Need-overflow_add-result
 add_result c = search rules
 
-returns_2 : tie.Need-returns-2
+returns_2 : tie.Need-returns-then-row-active
 returns_2 c =
-    let rates = c.quotient-count.ensures in
-    (ap (λ n. n + 1) rates.0 ∙ divided c.before.before.before c.before.if2.true, omega (arith, rates.1))
+    let rates = c.quotient_count.ensures in
+    (ap (λ n. n + 1) rates.0 ∙ divided c.before.before.before c.if-row-active.true, omega (arith, rates.1))
 
-add_result_2 : tie.Need-overflow-add-result-2
+add_result_2 : tie.Need-overflow_add-result-then-row-active-2
 add_result_2 c = search rules
 
-returns_3 : tie.Need-returns-3
-returns_3 c = (counted c.before.before.before.before c.before.before.if2.false c.if3.true, omega arith)
+returns_3 : tie.Need-returns-then-row-active-2
+returns_3 c = (counted c.before.before.before.before c.if-row-active.false c.if-row-active-2.true, omega arith)
 
-add_result_3 : tie.Need-overflow-add-result-3
+add_result_3 : tie.Need-overflow_add-result-2
 add_result_3 c = search rules
 
-returns_4 : tie.Need-returns-4
-returns_4 c = (counted c.before.before.before.before c.before.before.if2.false c.if3.false, omega arith)
+returns_4 : tie.Need-returns
+returns_4 c = (counted c.before.before.before.before c.if-row-active.false c.if-row-active-2.false, omega arith)
 
 pub rows_over_spec : {M : Type 1} → statement M
 rows_over_spec =
-    tie.close
-    (tie.spec
-    bit_requires
-    bit_requires_2
-    bit_requires_3
-    assigns_requires
-    returns
-    quotient_count_requires
-    add_result
-    returns_2
-    add_result_2
-    returns_3
-    add_result_3
-    returns_4)
+    tie.close (tie.spec bit_requires bit_requires_2 bit_requires_3 assigns_requires returns quotient_count_requires add_result returns_2 add_result_2 returns_3 add_result_3 returns_4)

@@ -17,15 +17,15 @@ use Rattle.tangent.proofs.RowsPassed.{Passing, none_passed, one_passed, all_pass
 use Rattle.tangent.proofs.sweep.rows_before.Statement.{statement}
 use Rattle.tangent.proofs.sweep.rows_before.Tie as tie
 
-abbrev invariant_loop : tie.invariant-loop
+abbrev invariant_loop : tie.invariant-loop-p
 invariant_loop words shape marks row forms rows₀ p₀ rows p = Passing words shape.first_row marks row.0 rows p
 
-abbrev decreases_loop : tie.decreases-loop
+abbrev decreases_loop : tie.decreases-loop-p
 decreases_loop words shape marks row forms rows₀ p₀ rows p = row.0 - p
 
 -- the row that was read says a line, and its part is the one that the table has for its kind
-module _ (c : tie.After-wide invariant_loop decreases_loop) where
-  abbrev turn : tie.Then1 invariant_loop decreases_loop
+module _ (c : tie.After-wide-kind invariant_loop decreases_loop) where
+  abbrev turn : tie.In-loop-p invariant_loop decreases_loop
   turn = c.before.before
 
   abbrev start : tie.Start invariant_loop decreases_loop
@@ -49,73 +49,51 @@ module _ (c : tie.After-wide invariant_loop decreases_loop) where
   said : SaysPart row_read part
   said = says_part _ _ says part_found
 
-forms_requires : tie.Need-forms-requires invariant_loop decreases_loop
+forms_requires : tie.Need-forms-forms-requires invariant_loop decreases_loop
 forms_requires c κs = search rules
 
-loop_holds : tie.Need-loop-init invariant_loop decreases_loop
+loop_holds : tie.Need-loop-p-init invariant_loop decreases_loop
 loop_holds c = none_passed _ _ _ _
 
-row_of_requires : tie.Need-row-of-requires invariant_loop decreases_loop
+row_of_requires : tie.Need-row_of-said-requires invariant_loop decreases_loop
 row_of_requires c κs =
-    let start = c.before.before.before.before.before.before in
-    omega (arith, start.requires.0.there, start.requires.1, c.if1.true)
+    omega (arith, c.requires.readable.there, c.requires.row_in, c.loop-p-test.true)
 
-wide_requires : tie.Need-wide-requires invariant_loop decreases_loop
+wide_requires : tie.Need-wide-kind-requires invariant_loop decreases_loop
 wide_requires c κs = search rules
 
-mul_form : tie.Need-overflow-mul-form invariant_loop decreases_loop
-mul_form c = omega (arith, c.wide.ensures.0, in_table_lem c)
+mul_form : tie.Need-offset_bounds-forms-kind invariant_loop decreases_loop
+mul_form c = omega (arith, c.wide-kind.ensures.0, in_table_lem c)
 
-array_copy_out_form : tie.Need-array-copy-out-form invariant_loop decreases_loop
-array_copy_out_form c = omega (arith, c.wide.ensures.0, in_table_lem c)
+array_copy_out_form : tie.Need-bounds-forms-kind invariant_loop decreases_loop
+array_copy_out_form c = omega (arith, c.wide-kind.ensures.0, in_table_lem c)
 
-shared_slice_read_rows_over : tie.Need-shared-slice-read-rows-over invariant_loop decreases_loop
+shared_slice_read_rows_over : tie.Need-bounds-marks-p invariant_loop decreases_loop
 shared_slice_read_rows_over c =
-    let at = c.before.before in
-    omega (arith, (start at).requires.0.marked, (start at).requires.1, (turn at).if1.true)
+    omega (arith, (start c.before.before).requires.0.marked, (start c.before.before).requires.1, (turn c.before.before).if1.true)
 
-rows_over_requires : tie.Need-rows-over-requires invariant_loop decreases_loop
+rows_over_requires : tie.Need-rows_over-rows-requires invariant_loop decreases_loop
 rows_over_requires c κs = said c.before.before
 
-add_rows : tie.Need-overflow-add-rows invariant_loop decreases_loop
+add_rows : tie.Need-overflow_add-rows invariant_loop decreases_loop
 add_rows c =
-    let at = c.before.before.before in
-    omega (arith, (turn at).before.before.loop.invariant.few, c.rows-over.ensures.1, (turn at).if1.true, (start at).requires.1, (start at).requires.0.few)
+    omega (arith, (turn c.before.before.before).before.before.loop.invariant.few, c.rows_over-rows.ensures.1, (turn c.before.before.before).if1.true, (start c.before.before.before).requires.1, (start c.before.before.before).requires.0.few)
 
-add_p : tie.Need-overflow-add-p invariant_loop decreases_loop
+add_p : tie.Need-overflow_add-p invariant_loop decreases_loop
 add_p c =
-    let at = c.before.before.before in
-    omega (arith, (turn at).if1.true, (start at).requires.1, (start at).requires.0.few)
+    omega (arith, (turn c.before.before.before).if1.true, (start c.before.before.before).requires.1, (start c.before.before.before).requires.0.few)
 
-loop_less : tie.Need-loop-smaller invariant_loop decreases_loop
+loop_less : tie.Need-loop-p-smaller invariant_loop decreases_loop
 loop_less c = omega (arith, (turn c.before.before.before).if1.taken)
 
-loop_again : tie.Need-loop-preserved invariant_loop decreases_loop
+loop_again : tie.Need-loop-p-preserved invariant_loop decreases_loop
 loop_again c =
-    let at = c.before.before.before in
-    one_passed (turn at).before.before.loop.invariant (turn at).if1.true at.before.row_of.ensures c.rows-over.ensures.0 c.rows-over.ensures.1
+    one_passed (turn c.before.before.before).before.before.loop.invariant (turn c.before.before.before).if1.true c.row_of-said.ensures c.rows_over-rows.ensures.0 c.rows_over-rows.ensures.1
 
 returns : tie.Need-returns invariant_loop decreases_loop
 returns c =
-    let start = c.before.before.before.before.before.before in
-    all_passed c.before.before.loop.invariant c.if1.false (omega (arith, start.requires.1, start.requires.0.few))
+    all_passed c.loop-p.invariant c.loop-p-test.false (omega (arith, c.requires.row_in, c.requires.readable.few))
 
 pub rows_before_spec : {M : Type 1} → statement M
 rows_before_spec =
-    tie.close
-    (tie.spec
-    invariant_loop
-    decreases_loop
-    forms_requires
-    loop_holds
-    row_of_requires
-    wide_requires
-    mul_form
-    array_copy_out_form
-    shared_slice_read_rows_over
-    rows_over_requires
-    add_rows
-    add_p
-    loop_less
-    loop_again
-    returns)
+    tie.close (tie.spec invariant_loop decreases_loop forms_requires loop_holds row_of_requires wide_requires mul_form array_copy_out_form shared_slice_read_rows_over rows_over_requires add_rows add_p loop_less loop_again returns)

@@ -6,45 +6,32 @@ use Rattle.table.proofs.AssignmentRows.{assignment_rows}
 use Rattle.writer.proofs.rows.assignment_back.Statement.{statement}
 use Rattle.writer.proofs.rows.assignment_back.Tie as tie
 
-abbrev start : tie.After-bit → tie.Start
+abbrev start : tie.After-bit-saved → tie.Start
 start c = c.before.before
 
-bit_requires : tie.Need-bit-requires
+bit_requires : tie.Need-bit-saved-requires
 bit_requires c κs = search rules
 
-put_if_requires : tie.Need-put-if-requires
+put_if_requires : tie.Need-put_if-taken-requires
 put_if_requires c κs =
-    let known = c.before in
-    let x = (start known).args in
-    let rows = assignment_rows x.variables (row_said x.row) x.mark known.bit.ensures in
-    room_first _ _ (rw rows at (start known).requires.0)
+    let x = (start c.before).args in
+    let rows = assignment_rows x.variables (row_said x.row) x.mark c.bit-saved.ensures in
+    room_first _ _ (rw rows at (start c.before).requires.room)
 
 derivatives_requires : tie.Need-derivatives-requires
 derivatives_requires c κs =
-    let taken = c.before.before.before in
-    let known = taken.before.before in
-    let x = (start known).args in
-    let rows = assignment_rows x.variables (row_said x.row) x.mark known.bit.ensures in
-    (room_after _ taken.put_if.ensures (rw rows at (start known).requires.0), (start known).requires.1)
+    let x = (start c.before.before.before.before.before).args in
+    let rows = assignment_rows x.variables (row_said x.row) x.mark c.bit-saved.ensures in let whole = (room_after _ c.put_if-taken.ensures (rw rows at (start c.before.before.before.before.before).requires.room), (start c.before.before.before.before.before).requires.small) in record { room = whole.0; small = whole.1; assigns = whole.2 }
 
-same_length : tie.Need-same-length
+same_length : tie.Need-shape_of-table
 same_length c = search rules
 
 returns : tie.Need-returns
 returns c =
-    let done = c.before.before in
-    let taken = done.before.before.before.before in
-    let known = taken.before.before in
-    let x = (start known).args in
-    let rows = assignment_rows x.variables (row_said x.row) x.mark known.bit.ensures in
-    rw rows (wrote_then taken.put_if.ensures done.derivatives.ensures)
+    let x = (start c.before.before.before.before.before.before.before.before).args in
+    let rows = assignment_rows x.variables (row_said x.row) x.mark c.bit-saved.ensures in
+    rw rows (wrote_then c.put_if-taken.ensures c.derivatives.ensures)
 
 pub assignment_back_spec : {M : Type 1} → statement M
 assignment_back_spec =
-    tie.close
-    (tie.spec
-    bit_requires
-    put_if_requires
-    derivatives_requires
-    same_length
-    returns)
+    tie.close (tie.spec bit_requires put_if_requires derivatives_requires same_length returns)

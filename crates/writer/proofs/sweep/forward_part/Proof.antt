@@ -21,138 +21,105 @@ use Rattle.writer.proofs.PassOver.{along_next, along_none}
 use Rattle.writer.proofs.sweep.forward_part.Statement.{statement}
 use Rattle.writer.proofs.sweep.forward_part.Tie as tie
 
-abbrev invariant_loop : tie.invariant-loop
+abbrev invariant_loop : tie.invariant-loop-p
 invariant_loop words shape marks table₀ beyond₀ rows forms next₀ top₀ p₀ table beyond next top p =
     let all = forward_all words shape marks in
     let rest = forward_rows words shape.first_row marks p (shape.rows - p) in
     (p ≤ shape.rows) × Underway table₀ next₀ all rest table next × Jumping all next₀ (noting top₀ beyond₀) rest next (noting top beyond)
 
-abbrev decreases_loop : tie.decreases-loop
+abbrev decreases_loop : tie.decreases-loop-p
 decreases_loop words shape marks table₀ beyond₀ rows forms next₀ top₀ p₀ table beyond next top p = shape.rows - p
 
-abbrev start : tie.In-loop invariant_loop decreases_loop → tie.Start invariant_loop decreases_loop
+abbrev start : tie.In-loop-p invariant_loop decreases_loop → tie.Start invariant_loop decreases_loop
 start c = c.before.before.before.before.before.before
 
 -- the row that was read says a line
-says : (c : tie.After-wide invariant_loop decreases_loop) → SaysLine (row_said c.before.row_of.result)
+says : (c : tie.After-wide-kind invariant_loop decreases_loop) → SaysLine (row_said c.row_of-row.result)
 says c =
-    let turn = c.before.before in
-    subst SaysLine (sym c.before.row_of.ensures) ((start turn).requires.1.1.says _ turn.loop-test.true)
+    subst SaysLine (sym c.row_of-row.ensures) ((start c.before.before).requires.readable.says _ c.loop-p-test.true)
 
-in_table_lem : (c : tie.After-wide invariant_loop decreases_loop) → c.before.row_of.result.kind ≤ length kinds
+in_table_lem : (c : tie.After-wide-kind invariant_loop decreases_loop) → c.row_of-row.result.kind ≤ length kinds
 in_table_lem c = row_kind (says c)
 
--- what the row is to the blocks, as the table has it for its kind
-abbrev part : tie.After-wide invariant_loop decreases_loop → Part
-part c = (form_in c.before.before.before.before.forms.result c.wide.result).3
+abbrev part : tie.After-wide-kind invariant_loop decreases_loop → Part
+part c = (form_in c.forms-forms.result c.wide-kind.result).3
 
 -- and what its line is
-said : (c : tie.After-wide invariant_loop decreases_loop) → SaysPart (row_said c.before.row_of.result) (part c)
+said : (c : tie.After-wide-kind invariant_loop decreases_loop) → SaysPart (row_said c.row_of-row.result) (part c)
 said c =
-    let turn = c.before.before in
     says_part _ _ (says c)
-    (part_there turn.before.before.forms.ensures c.wide.ensures.0 (in_table_lem c))
+    (part_there c.forms-forms.ensures c.wide-kind.ensures.0 (in_table_lem c))
 
 -- the row's rows before those of the rest
-left : (c : tie.After-row-of invariant_loop decreases_loop) → let x = (start c.before).args in let p = c.before.before.loop.p in
+left : (c : tie.After-row_of-row invariant_loop decreases_loop) → let x = (start c.before).args in let p = c.loop-p.p in
     let rest = forward_rows x.words.now x.shape.first_row x.marks.now in
-    rest p (x.shape.rows - p) ≡ forward_of_line (get_or x.marks.now p 0) (line_of_row (row_said c.row_of.result)) ++ rest (p + 1) (x.shape.rows - (p + 1))
+    rest p (x.shape.rows - p) ≡ forward_of_line (get_or x.marks.now p 0) (line_of_row (row_said c.row_of-row.result)) ++ rest (p + 1) (x.shape.rows - (p + 1))
 left c =
     let x = (start c.before).args in
-    along_next forward_of_line x.words.now x.shape.first_row x.marks.now _ x.shape.rows c.before.loop-test.true c.row_of.ensures
+    along_next forward_of_line x.words.now x.shape.first_row x.marks.now _ x.shape.rows c.loop-p-test.true c.row_of-row.ensures
 
-forms_requires : tie.Need-forms-requires invariant_loop decreases_loop
+forms_requires : tie.Need-forms-forms-requires invariant_loop decreases_loop
 forms_requires c κs = search rules
 
-loop_holds : tie.Need-loop-init invariant_loop decreases_loop
+loop_holds : tie.Need-loop-p-init invariant_loop decreases_loop
 loop_holds c =
-    let given = c.before.before.before.before in
-    let x = given.args in
+    let x = c.args in
     let whole : x.shape.rows - 0 ≡ x.shape.rows = omega arith in
     let all = ap (forward_rows x.words.now x.shape.first_row x.marks.now 0) whole in
-    (omega arith, underway_start _ _ all, jumping_start _ all given.requires.1.0)
+    (omega arith, underway_start _ _ all, jumping_start _ all c.requires.numbered)
 
-row_of_requires : tie.Need-row-of-requires invariant_loop decreases_loop
-row_of_requires c κs = omega (arith, (start c).requires.1.1.there, c.loop-test.true)
+row_of_requires : tie.Need-row_of-row-requires invariant_loop decreases_loop
+row_of_requires c κs = omega (arith, (start c).requires.readable.there, c.loop-p-test.true)
 
-wide_requires : tie.Need-wide-requires invariant_loop decreases_loop
+wide_requires : tie.Need-wide-kind-requires invariant_loop decreases_loop
 wide_requires c κs = search rules
 
-mul_form : tie.Need-overflow-mul-form invariant_loop decreases_loop
-mul_form c = omega (arith, c.wide.ensures.0, in_table_lem c)
+mul_form : tie.Need-offset_bounds-forms-kind invariant_loop decreases_loop
+mul_form c = omega (arith, c.wide-kind.ensures.0, in_table_lem c)
 
-array_copy_out_form : tie.Need-array-copy-out-form invariant_loop decreases_loop
-array_copy_out_form c = omega (arith, c.wide.ensures.0, in_table_lem c)
+array_copy_out_form : tie.Need-bounds-forms-kind invariant_loop decreases_loop
+array_copy_out_form c = omega (arith, c.wide-kind.ensures.0, in_table_lem c)
 
-shared_slice_read_forward_row : tie.Need-shared-slice-read-forward-row invariant_loop decreases_loop
+shared_slice_read_forward_row : tie.Need-bounds-marks-p invariant_loop decreases_loop
 shared_slice_read_forward_row c =
-    let turn = c.before.before.before.before.before in
-    omega (arith, (start turn).requires.1.1.marked, turn.loop-test.true)
+    omega (arith, (start c.before.before.before.before.before).requires.readable.marked, c.loop-p-test.true)
 
-forward_row_requires : tie.Need-forward-row-requires invariant_loop decreases_loop
-forward_row_requires c κs =
-    let found = c.before.before.before in
-    let turn = found.before.before in
-    (room_first _ _ (rw (left found.before) at (underway_room turn.before.loop.invariant.1 (start turn).requires.0)), said found)
+forward_row_requires : tie.Need-forward_row-next-requires invariant_loop decreases_loop
+forward_row_requires c κs = record { room = room_first _ _ (rw (left c.before.before.before.before) at (underway_room c.loop-p.invariant.1 (start c.before.before.before.before.before).requires.room)); part_said = said c.before.before.before }
 
-forward_requires : tie.Need-forward-requires invariant_loop decreases_loop
+forward_requires : tie.Need-forward-what-requires invariant_loop decreases_loop
 forward_requires c κs = search rules
 
-note_requires : tie.Need-note-requires invariant_loop decreases_loop
+note_requires : tie.Need-note-top-requires invariant_loop decreases_loop
 note_requires c κs =
-    let wrote = c.before.before.before.before in
-    let found = wrote.before.before.before.before in
-    let turn = found.before.before in
-    row_ends turn.before.loop.invariant.2 _ (left found.before) wrote.forward_row.ensures
-    (forward_ends (said found) _ c.before.forward.ensures)
+    row_ends c.loop-p.invariant.2 _ (left c.before.before.before.before.before.before.before.before.before) c.forward_row-next.ensures
+    (forward_ends (said c.before.before.before.before.before.before.before.before) _ c.forward-what.ensures)
 
-add_p : tie.Need-overflow-add-p invariant_loop decreases_loop
+add_p : tie.Need-overflow_add-p invariant_loop decreases_loop
 add_p c =
-    let turn = c.before.before.before.before.before.before.before.before.before.before.before in
-    omega (arith, turn.loop-test.true, (start turn).requires.1.1.few)
+    omega (arith, c.loop-p-test.true, (start c.before.before.before.before.before.before.before.before.before.before.before).requires.readable.few)
 
-loop_less : tie.Need-loop-smaller invariant_loop decreases_loop
-loop_less c = omega (arith, c.before.before.before.before.before.before.before.before.before.before.before.loop-test.true)
+loop_less : tie.Need-loop-p-smaller invariant_loop decreases_loop
+loop_less c = omega (arith, c.loop-p-test.true)
 
-loop_again : tie.Need-loop-preserved invariant_loop decreases_loop
+loop_again : tie.Need-loop-p-preserved invariant_loop decreases_loop
 loop_again c =
-    let noted = c.before.before in
-    let wrote = noted.before.before.before in
-    let found = wrote.before.before.before.before in
-    let held = found.before.before.before.loop.invariant in
-    let rows = wrote.forward_row.ensures in (
-      omega (arith, found.before.before.loop-test.true),
-      underway_next _ held.1 (left found.before) rows,
-      jumping_next held.2 _ (left found.before) rows (forward_ends (said found) _ noted.forward.ensures) c.note.ensures,
+    let held = c.loop-p.invariant in
+    let rows = c.forward_row-next.ensures in (
+      omega (arith, c.loop-p-test.true),
+      underway_next _ held.1 (left c.before.before.before.before.before.before.before.before.before.before) rows,
+      jumping_next held.2 _ (left c.before.before.before.before.before.before.before.before.before.before) rows (forward_ends (said c.before.before.before.before.before.before.before.before.before) _ c.forward-what.ensures) c.note-top.ensures,
     )
 
-same_length : tie.Need-same-length invariant_loop decreases_loop
-same_length c = underway_length c.before.loop.invariant.1
+same_length : tie.Need-shape_of-table invariant_loop decreases_loop
+same_length c = underway_length c.loop-p.invariant.1
 
 returns : tie.Need-returns invariant_loop decreases_loop
 returns c =
-    let x = c.before.before.before.before.before.before.args in
-    let none = along_none forward_of_line x.words.now x.shape.first_row x.marks.now _ x.shape.rows c.loop-test.false in
-    record { wrote = underway_end c.before.loop.invariant.1 none; noted = jumping_end c.before.loop.invariant.2 none }
+    let x = c.args in
+    let none = along_none forward_of_line x.words.now x.shape.first_row x.marks.now _ x.shape.rows c.loop-p-test.false in
+    record { wrote = underway_end c.loop-p.invariant.1 none; noted = jumping_end c.loop-p.invariant.2 none }
 
 pub forward_part_spec : {M : Type 1} → statement M
 forward_part_spec =
-    tie.close
-    (tie.spec
-    invariant_loop
-    decreases_loop
-    forms_requires
-    loop_holds
-    row_of_requires
-    wide_requires
-    mul_form
-    array_copy_out_form
-    shared_slice_read_forward_row
-    forward_row_requires
-    forward_requires
-    note_requires
-    add_p
-    loop_less
-    loop_again
-    same_length
-    returns)
+    tie.close (tie.spec invariant_loop decreases_loop forms_requires loop_holds row_of_requires wide_requires mul_form array_copy_out_form shared_slice_read_forward_row forward_row_requires forward_requires note_requires add_p loop_less loop_again same_length returns)

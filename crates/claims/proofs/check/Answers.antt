@@ -1,0 +1,7 @@
+-- `claims::check` meets demand 1.
+use borrow.Author.Rules.{rules}
+use Rattle.claims.proofs.DemandOneHolds.{check_call}
+use Rattle.claims.proofs.check.Goals as goal
+
+pub returns : goal.returns
+returns c = check_call _ _ c.check.ensures

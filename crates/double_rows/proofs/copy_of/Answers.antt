@@ -1,0 +1,12 @@
+-- `double_rows::copy_of` meets its contract.
+use mathlib.Core.Path.{sym}
+use lib.Ieee.{nan}
+use Rattle.machine.specs.Actions.{evaluated}
+use Rattle.machine.proofs.PlaceLaws.{look_there}
+use borrow.Author.Rules.{rules}
+use Rattle.double_rows.proofs.copy_of.Goals as goal
+
+pub returns : goal.returns
+unfolding evaluated
+returns c =
+    sym (look_there c.args.store.now c.args.a.0 nan c.requires)

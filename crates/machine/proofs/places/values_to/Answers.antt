@@ -1,0 +1,9 @@
+-- `machine::places::values_to` meets its contract.
+use mathlib.Core.Path.{ap}
+use Rattle.machine.specs.declared.Place.{Place}
+use Rattle.machine.specs.declared.Acted.TheVariants as acted
+use borrow.Author.Rules.{rules}
+use Rattle.machine.proofs.places.values_to.Goals as goal
+
+pub returns-in-To : goal.returns-in-To
+returns-in-To c = rw c.in-To.is (ap (λ (p : Place). acted.On p c.args.ahead) c.raised.ensures)

@@ -1,0 +1,9 @@
+-- `plain::blocks::branch` meets its contract.
+use borrow.Author.Rules.{rules}
+use Rattle.plain.proofs.blocks.branch.Goals as goal
+
+pub returns-then-holds : goal.returns-then-holds
+returns-then-holds c = rw c.if-holds.true
+
+pub returns : goal.returns
+returns c = rw c.if-holds.false c.beyond.ensures

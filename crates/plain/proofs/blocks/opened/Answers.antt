@@ -1,0 +1,9 @@
+-- `plain::blocks::opened` meets its contract.
+use borrow.Author.Rules.{rules}
+use Rattle.plain.proofs.blocks.opened.Goals as goal
+
+pub returns-then-more : goal.returns-then-more
+returns-then-more c = rw c.if-more.true
+
+pub returns : goal.returns
+returns c = rw (c.if-more.false, c.beyond.ensures)

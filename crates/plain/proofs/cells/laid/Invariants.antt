@@ -1,0 +1,14 @@
+-- `plain::cells::laid` meets its contract. The invariant: the variables passed are laid.
+use Prim.Native.Nat.{◌-◌}
+use mathlib.Core.Path.{refl, sym}
+use native.Mathlib.Omega.{arith}
+use lib.ListN.{length}
+use borrow.Author.Rules.{rules}
+use Rattle.plain.proofs.LayingLaws.{Laying, laying_starts, laying_goes_on, laying_ends}
+use Rattle.plain.proofs.cells.laid.Given as goal
+
+abbrev pub invariant-loop-i : goal.invariant-loop-i
+invariant-loop-i l = Laying l.roles l.starts l.rates l.i l.cells
+
+abbrev pub decreases-loop-i : goal.decreases-loop-i
+decreases-loop-i l = length l.roles - l.i

@@ -1,0 +1,13 @@
+-- `residue_rows::added` meets its contract.
+use mathlib.Core.Path.{ap}
+use Rattle.machine.specs.Actions.{evaluated, from_outcome}
+use Rattle.machine.proofs.PlaceLaws.{look_there}
+use borrow.Author.Rules.{rules}
+use Rattle.residue_rows.proofs.added.Goals as goal
+
+pub returns : goal.returns
+unfolding evaluated
+returns c =
+    let store = c.args.store.now in
+    rw (look_there store c.args.a.0 0 c.requires.a_in, look_there store c.args.b.0 0 c.requires.b_in)
+    (ap from_outcome c.sum.ensures)

@@ -1,0 +1,15 @@
+-- `residue_rows::take_back` meets its contract.
+use mathlib.Core.Path.{refl}
+use native.Mathlib.Omega.{arith}
+use Rattle.machine.proofs.RowLaws.{take_back_goes, take_back_empty, take_back_above}
+use borrow.Author.Rules.{rules}
+use Rattle.residue_rows.proofs.take_back.Goals as goal
+
+pub returns-then-height-eq0 : goal.returns-then-height-eq0
+returns-then-height-eq0 c = take_back_empty c.if-height-eq0.true
+
+pub returns-then-values-top : goal.returns-then-values-top
+returns-then-values-top c = take_back_above (omega arith)
+
+pub returns : goal.returns
+returns c = take_back_goes _ refl (omega arith) (omega arith) (omega arith)

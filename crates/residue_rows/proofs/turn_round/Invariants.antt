@@ -1,0 +1,14 @@
+-- `residue_rows::turn_round` meets its contract.
+use borrow.Author.Rules.{rules}
+use Prim.Native.Nat.{◌-◌}
+use native.Mathlib.Omega.{arith}
+use lib.ListN.{length}
+use Rattle.number.specs.Residues.{residues}
+use Rattle.machine.proofs.RoundLaws.{Turning, turning_starts, turning_goes_on, turning_ends, round_refused}
+use Rattle.residue_rows.proofs.turn_round.Given as goal
+
+abbrev pub invariant-loop-i : goal.invariant-loop-i
+invariant-loop-i l = Turning residues l.roles l.seeds l.initial.store l.initial.copied l.i l.store l.copied
+
+abbrev pub decreases-loop-i : goal.decreases-loop-i
+decreases-loop-i l = length l.roles - l.i

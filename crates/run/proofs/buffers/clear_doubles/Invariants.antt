@@ -1,0 +1,14 @@
+-- `run::buffers::clear_doubles` meets its contract. The invariant: the cells passed hold zeros.
+use Prim.Native.Nat.{◌-◌}
+use lib.ListN.{length, length-set}
+use Rattle.number.specs.Doubles.{doubles}
+use Rattle.run.proofs.FillingLaws.{Clearing, clearing_starts, clearing_goes_on, clearing_ends}
+use borrow.Author.Rules.{rules}
+use native.Mathlib.Omega.{arith}
+use Rattle.run.proofs.buffers.clear_doubles.Given as goal
+
+abbrev pub invariant-loop-i : goal.invariant-loop-i
+invariant-loop-i l = Clearing doubles.zero l.initial.cells l.i l.cells
+
+abbrev pub decreases-loop-i : goal.decreases-loop-i
+decreases-loop-i l = length l.cells - l.i

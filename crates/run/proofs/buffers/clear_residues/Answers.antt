@@ -1,0 +1,32 @@
+-- `run::buffers::clear_residues` meets its contract. The invariant: the cells passed hold zeros.
+use Prim.Native.Nat.{◌-◌}
+use mathlib.Core.Path.{refl}
+use lib.ListN.{length, length-set}
+use Rattle.number.specs.Residues.{residues}
+use Rattle.run.proofs.FillingLaws.{Clearing, clearing_starts, clearing_goes_on, clearing_ends}
+use native.Mathlib.Omega.{arith}
+use Rattle.run.proofs.buffers.clear_residues.Goals as goal
+
+pub loop-i-init : goal.loop-i-init
+loop-i-init c = clearing_starts residues.zero _
+
+pub offset_bounds-cells-i : goal.offset_bounds-cells-i
+offset_bounds-cells-i c = omega arith
+
+pub bounds-cells-i : goal.bounds-cells-i
+bounds-cells-i c = omega arith
+
+pub overflow_add-i : goal.overflow_add-i
+overflow_add-i c = omega arith
+
+pub loop-i-smaller : goal.loop-i-smaller
+loop-i-smaller c = simp length-set (omega arith)
+
+pub loop-i-preserved : goal.loop-i-preserved
+loop-i-preserved c = clearing_goes_on residues.zero _ _ _ _ refl c.loop-i-test.true c.loop-i.invariant
+
+pub shape_of-cells : goal.shape_of-cells
+shape_of-cells c = c.loop-i.invariant.long
+
+pub returns : goal.returns
+returns c = clearing_ends residues.zero _ _ _ c.loop-i-test.false c.loop-i.invariant

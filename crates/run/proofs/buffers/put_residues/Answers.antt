@@ -1,0 +1,47 @@
+-- `run::buffers::put_residues` meets its contract. The invariant: the numbers passed are put.
+use Prim.Native.Nat.{◌-◌}
+use lib.ListN.{length}
+use Rattle.number.specs.Residues.{residues}
+use Rattle.run.specs.Inner.CallSteps.{counts_of}
+use Rattle.run.proofs.FillingLaws.{Putting, putting_starts, putting_goes_on, putting_ends}
+use borrow.Author.Rules.{rules}
+use native.Mathlib.Omega.{arith}
+use Rattle.run.proofs.buffers.put_residues.Goals as goal
+
+pub loop-i-init : goal.loop-i-init
+loop-i-init c = putting_starts residues _ _ _ _ (omega arith)
+
+pub offset_bounds-roles-i : goal.offset_bounds-roles-i
+offset_bounds-roles-i c = omega arith
+
+pub bounds-roles-i : goal.bounds-roles-i
+bounds-roles-i c = omega arith
+
+pub offset_bounds-numbers-i : goal.offset_bounds-numbers-i
+offset_bounds-numbers-i c = omega arith
+
+pub bounds-numbers-i : goal.bounds-numbers-i
+bounds-numbers-i c = omega arith
+
+pub offset_bounds-into-i : goal.offset_bounds-into-i
+offset_bounds-into-i c = omega arith
+
+pub bounds-into-i : goal.bounds-into-i
+bounds-into-i c = omega arith
+
+pub overflow_add-i : goal.overflow_add-i
+overflow_add-i c = omega arith
+
+pub loop-i-smaller : goal.loop-i-smaller
+loop-i-smaller c = omega arith
+
+pub loop-i-preserved : goal.loop-i-preserved
+loop-i-preserved c =
+    putting_goes_on residues _ _ _ _ _ _ _ 0 c.counts.ensures c.residue_or_zero.ensures c.loop-i-test.true (omega arith)
+    c.loop-i.invariant
+
+pub shape_of-into : goal.shape_of-into
+shape_of-into c = c.loop-i.invariant.long
+
+pub returns : goal.returns
+returns c = putting_ends residues _ _ _ _ _ _ c.loop-i-test.false c.loop-i.invariant

@@ -1,0 +1,28 @@
+-- `run::calls_audit::run_table` meets its contract.
+use mathlib.Core.Path.{◌∙◌}
+use Rattle.number.specs.Residues.{residues}
+use Rattle.run.proofs.CallLaws.{runs_table}
+use borrow.Author.Rules.{rules}
+use Rattle.run.proofs.calls_audit.run_table.Goals as goal
+
+pub run_rows-ran-requires : goal.run_rows-ran-requires
+run_rows-ran-requires c = record { indexed = c.requires; bodies_fit = search rules; to_come_fit = search rules }
+
+pub shape_of-store : goal.shape_of-store
+shape_of-store c = c.run_rows-ran.auto.1.1.1.1.1.1.1.0
+
+pub shape_of-values : goal.shape_of-values
+shape_of-values c =
+    c.clear_stacks-2.auto.0 ∙ c.run_rows-ran.auto.1.1.1.1.1.1.1.1.0 ∙ c.clear_stacks.auto.0
+
+pub shape_of-turns : goal.shape_of-turns
+shape_of-turns c =
+    c.clear_stacks-2.auto.1.0 ∙ c.run_rows-ran.auto.1.1.1.1.1.1.1.1.1.0 ∙ c.clear_stacks.auto.1.0
+
+pub shape_of-copied : goal.shape_of-copied
+shape_of-copied c = c.run_rows-ran.auto.1.1.1.1.1.1.1.1.1.1.0
+
+pub returns : goal.returns
+returns c =
+    let kept = c.run_rows-ran.auto.1.1.1.1.1.1.1.1 in
+    runs_table residues _ _ c.clear_stacks.ensures c.run_rows-ran.ensures kept.0 kept.1.0 c.clear_stacks-2.ensures

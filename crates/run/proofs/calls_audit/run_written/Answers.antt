@@ -1,0 +1,20 @@
+-- `run::calls_audit::run_written` meets its contract.
+use mathlib.Core.Path.{sym}
+use lib.Seq.{length-take-le}
+use Rattle.number.specs.Residues.{residues}
+use Rattle.run.proofs.SectionLaws.{run_room, part_indexed, ready_to_run}
+use native.Mathlib.Omega.{arith}
+use borrow.Author.Rules.{rules}
+use Rattle.run.proofs.calls_audit.run_written.Goals as goal
+
+pub slice_bounds-run_in-end-3 : goal.slice_bounds-run_in-end-3
+slice_bounds-run_in-end-3 c = sym (length-take-le _ _ (omega arith))
+
+pub slice_bounds-run_in-end-4 : goal.slice_bounds-run_in-end-4
+slice_bounds-run_in-end-4 c = sym (length-take-le _ _ (omega arith))
+
+pub run_in-requires : goal.run_in-requires
+run_in-requires c = record { indexed = part_indexed _ _ residues c.requires.room c.requires.indexed; room = run_room _ _ residues c.requires.room }
+
+pub returns : goal.returns
+returns c = λ sheet buffer written. c.run_in.ensures sheet buffer (ready_to_run _ _ written)

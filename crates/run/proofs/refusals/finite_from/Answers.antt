@@ -1,0 +1,42 @@
+-- `run::refusals::finite_from` meets its contract.
+use Prim.Native.Nat.{◌-◌}
+use lib.ListN.{length}
+use lib.Ieee.{nan}
+use mathlib.Core.Path.{sym, ◌∙◌}
+use Rattle.number.specs.Doubles.{doubles}
+use Rattle.run.proofs.AdmittedLaws.{Judging, judging_starts, judging_goes_on, judging_refuses, judging_ends}
+use borrow.Author.Tests.{not-true, not-false}
+use borrow.Author.Rules.{rules}
+use native.Mathlib.Omega.{arith}
+use Rattle.run.proofs.refusals.finite_from.Goals as goal
+
+pub loop-i-init : goal.loop-i-init
+loop-i-init c = judging_starts doubles _ _
+
+pub offset_bounds-numbers-i : goal.offset_bounds-numbers-i
+offset_bounds-numbers-i c = omega arith
+
+pub bounds-numbers-i : goal.bounds-numbers-i
+bounds-numbers-i c = omega arith
+
+pub overflow_add-result : goal.overflow_add-result
+overflow_add-result c = omega arith
+
+pub returns-then-not-is_finite : goal.returns-then-not-is_finite
+returns-then-not-is_finite c =
+    judging_refuses doubles _ _ _ nan c.loop-i-test.true
+    (sym c.is_finite.ensures ∙ c.if-not-is_finite.true) c.loop-i.invariant
+
+pub overflow_add-i : goal.overflow_add-i
+overflow_add-i c = omega arith
+
+pub loop-i-smaller : goal.loop-i-smaller
+loop-i-smaller c = omega arith
+
+pub loop-i-preserved : goal.loop-i-preserved
+loop-i-preserved c =
+    judging_goes_on doubles _ _ _ nan c.loop-i-test.true
+    (sym c.is_finite.ensures ∙ c.if-not-is_finite.false) c.loop-i.invariant
+
+pub returns : goal.returns
+returns c = judging_ends doubles _ _ _ c.loop-i-test.false c.loop-i.invariant

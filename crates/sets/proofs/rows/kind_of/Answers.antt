@@ -1,0 +1,15 @@
+-- `sets::rows::kind_of` meets its contract: the first word of a row that is there, which is a kind of the table.
+use borrow.Author.Rules.{rules}
+use mathlib.Core.Path.{refl}
+use native.Mathlib.Omega.{arith}
+use Rattle.sheet.specs.Sheets.{row_at}
+use Rattle.sheet.proofs.RowsByKind.{row_kind}
+use Rattle.sets.proofs.rows.kind_of.Goals as goal
+
+pub overflow_cast-result : goal.overflow_cast-result
+unfolding row_at
+overflow_cast-result c = omega (arith, row_kind c.requires.says)
+
+pub returns : goal.returns
+unfolding row_at
+returns c = record { is = refl; in_table = row_kind c.requires.says }

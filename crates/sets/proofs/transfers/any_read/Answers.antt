@@ -1,0 +1,7 @@
+-- `sets::transfers::any_read` meets its contract: some read variable is a member.
+use borrow.Author.Rules.{rules}
+use Rattle.sets.proofs.OperationLaws.{any_said}
+use Rattle.sets.proofs.transfers.any_read.Goals as goal
+
+pub returns : goal.returns
+returns c = rw (c.meets.ensures, c.meets-2.ensures) (any_said performs _)

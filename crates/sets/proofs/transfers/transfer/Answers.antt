@@ -1,0 +1,16 @@
+-- `sets::transfers::transfer` meets its contract: each set's own transfer.
+use borrow.Author.Rules.{rules}
+use Rattle.sets.specs.Inner.RowEquations.{turn_of}
+use Rattle.sets.proofs.transfers.transfer.Goals as goal
+
+pub returns-in-Varied : goal.returns-in-Varied
+unfolding turn_of
+returns-in-Varied c = rw c.in-Varied.is (c.varied_after.ensures b performs)
+
+pub returns-in-Useful : goal.returns-in-Useful
+unfolding turn_of
+returns-in-Useful c = rw c.in-Useful.is (c.useful_before.ensures b performs)
+
+pub returns-in-Required : goal.returns-in-Required
+unfolding turn_of
+returns-in-Required c = rw c.in-Required.is (c.required_after.ensures b performs)

@@ -1,0 +1,6 @@
+-- `sheet::blocks::counted` meets its contract.
+use borrow.Author.Rules.{rules}
+use Rattle.sheet.proofs.blocks.counted.Goals as goal
+
+pub returns : goal.returns
+returns c = rw (c.capped-longest.ensures, c.wide.ensures.0)

@@ -1,0 +1,6 @@
+-- `table::needs::with_count` meets its contract.
+use borrow.Author.Rules.{rules}
+use Rattle.table.proofs.needs.with_count.Goals as goal
+
+pub returns : goal.returns
+returns c = rw c.one_if-more.ensures.0

@@ -1,0 +1,30 @@
+-- `writer::write_planned` meets its contract: the plan's sheet is the words', so the rows that are written are its table's.
+use mathlib.Core.Path.{sym, ◌∙◌}
+use native.Mathlib.Omega.{arith}
+use borrow.Author.Rules.{rules}
+use Rattle.sheet.proofs.ReadingParts.{same_given}
+use Rattle.table.proofs.PlanLaws.{readable, planned_lies, planned_few}
+use Rattle.writer.proofs.PlanWritten.{walkable, whole_right, counts_rows}
+use Rattle.writer.proofs.TableWritten.{room_right, rows_numbered, table_noted}
+use Rattle.writer.proofs.write_planned.Goals as goal
+
+pub write_table-requires : goal.write_table-requires
+write_table-requires c =
+    let made = c.requires.planned in
+    let lies = planned_lies made in
+    let few = lies.few_rows in
+    let right = whole_right lies _ _ _ made.planned.noted in
+    let counted = counts_rows made in let whole = (
+      room_right _ right _ counted _ c.requires.table_fits,
+      (
+        rows_numbered _ right _ counted (planned_few made),
+        (readable lies _ (omega arith), (walkable lies _ _ _ made.planned.noted (omega arith) (omega arith), planned_few made)),
+      ),
+    ) in record { room = whole.0; numbered = whole.1; readable = whole.2; walkable = whole.3; rows_few = whole.4 }
+
+pub returns : goal.returns
+returns c =
+    let made = c.requires.planned in
+    let noted =
+    table_noted _ (whole_right (planned_lies made) _ _ _ made.planned.noted) _ (counts_rows made) c.requires.table_fits c.write_table.ensures in
+    λ sheet e. rw (sym (same_given (sym made.accepted ∙ e))) noted
