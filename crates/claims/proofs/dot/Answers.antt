@@ -29,9 +29,7 @@ loop-i-smaller c = omega arith
 
 pub loop-i-preserved : goal.loop-i-preserved
 loop-i-preserved c =
-    let multiplied : tie.After-product invariant_loop decreases_loop = search in
-    let turn : tie.In-loop invariant_loop decreases_loop = search in
-    summing_goes_on _ _ (omega arith) multiplied.product.ensures c.sum-sum.ensures turn.before.loop.inv
+    summing_goes_on _ _ (omega arith) c.product.ensures c.sum-sum.ensures c.loop-i.invariant
 
 pub returns : goal.returns
 returns c = summing_ends _ _ c.loop-i-test.false c.loop-i.invariant

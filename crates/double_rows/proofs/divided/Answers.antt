@@ -15,7 +15,7 @@ divided_in outcome = present outcome >>= λ o. from_outcome o
 
 pub returns : goal.returns
 unfolding evaluated
-returns c =
+returns c constants =
     let store = c.args.store.now in
     rw (look_there store c.args.a.0 nan c.requires.a_in, look_there store c.args.b.0 nan c.requires.b_in)
     (ap divided_in c.quotient.ensures)

@@ -7,5 +7,5 @@ use Rattle.double_rows.proofs.fixed.Goals as goal
 
 pub returns : goal.returns
 unfolding evaluated
-returns c =
+returns c store =
     rw (look_there c.args.constants.now c.args.c 0 c.requires) (ap through c.double_of.ensures)

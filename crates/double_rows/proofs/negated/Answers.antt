@@ -8,5 +8,5 @@ use Rattle.double_rows.proofs.negated.Goals as goal
 
 pub returns : goal.returns
 unfolding evaluated
-returns c =
+returns c constants =
     rw (look_there c.args.store.now c.args.a.0 nan c.requires) (ap from_outcome c.negation.ensures)

@@ -6,7 +6,7 @@ use borrow.Author.Rules.{rules}
 use Rattle.double_rows.proofs.peek.Goals as goal
 
 pub clear_ahead-requires-in-Copy : goal.clear_ahead-requires-in-Copy
-clear_ahead-requires-in-Copy c = record { indexed = rw c.copy_ahead-copied.auto.1.1.0 c.requires.indexed; until_in = omega (arith, c.requires.until_in, (peek_leads c.copy_ahead-copied.ensures).1) }
+clear_ahead-requires-in-Copy c = record { indexed = rw c.copy_ahead-copied.auto.store c.requires.indexed; until_in = omega (arith, c.requires.until_in, (peek_leads c.copy_ahead-copied.ensures).1) }
 
 pub returns-in-Any : goal.returns-in-Any
 returns-in-Any c = peeks_once peeks_nothing refl
@@ -22,7 +22,7 @@ returns-in-Copy c =
     record {
       between = _;
       midway = _;
-      long = c.copy_ahead-copied.auto.1.1.0;
+      long = c.copy_ahead-copied.auto.store;
       first = c.copy_ahead-copied.ensures;
       second = c.clear_ahead-in-Copy.ensures;
     }

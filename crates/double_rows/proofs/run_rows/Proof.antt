@@ -136,7 +136,7 @@ loop_again c =
       turns = a.straight-row.kept.1.1.1.1.1.1.1.0;
       copied = a.straight-row.kept.1.1.1.1.1.1.1.1.0;
     }))
-    c.peek-place.auto.1.1.0
+    c.peek-place.auto.store
 
 enum_told : tie.Need-enum_told-1 invariant_loop decreases_loop invariant_run decreases_run
 enum_told c = search rules
@@ -234,7 +234,7 @@ same_length_10 c =
 same_length_11 : tie.Need-shape_of-turns-in-Out invariant_loop decreases_loop invariant_run decreases_run
 same_length_11 c =
     let a : Answered = search in
-    c.block_row.auto.1.1.1.1.1.0
+    c.block_row.auto.turns
     ∙ a.straight-row.kept.1.1.1.1.1.1.1.0 ∙ (turn a).loop.inv.lengths.turns
     ∙ (outer (turn a)).run.inv.lengths.turns
 

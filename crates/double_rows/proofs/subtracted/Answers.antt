@@ -8,7 +8,7 @@ use Rattle.double_rows.proofs.subtracted.Goals as goal
 
 pub returns : goal.returns
 unfolding evaluated
-returns c =
+returns c constants =
     let store = c.args.store.now in
     rw (look_there store c.args.a.0 nan c.requires.a_in, look_there store c.args.b.0 nan c.requires.b_in)
     (ap from_outcome c.difference.ensures)

@@ -7,7 +7,7 @@ use Rattle.residue_rows.proofs.added.Goals as goal
 
 pub returns : goal.returns
 unfolding evaluated
-returns c =
+returns c constants =
     let store = c.args.store.now in
     rw (look_there store c.args.a.0 0 c.requires.a_in, look_there store c.args.b.0 0 c.requires.b_in)
     (ap from_outcome c.sum.ensures)

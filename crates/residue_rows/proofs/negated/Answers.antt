@@ -7,5 +7,5 @@ use Rattle.residue_rows.proofs.negated.Goals as goal
 
 pub returns : goal.returns
 unfolding evaluated
-returns c =
+returns c constants =
     rw (look_there c.args.store.now c.args.a.0 0 c.requires) (ap from_outcome c.negation.ensures)

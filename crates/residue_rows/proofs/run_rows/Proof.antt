@@ -203,7 +203,7 @@ same_length_10 c =
 same_length_11 : tie.Need-shape_of-turns-in-Out invariant_loop decreases_loop invariant_run decreases_run
 same_length_11 c =
     let a : Answered = search in
-    c.block_row.auto.1.1.1.1.1.0
+    c.block_row.auto.turns
     ∙ a.straight-row.kept.1.1.1.1.1.1.1.0 ∙ (turn a).loop.inv.lengths.turns
     ∙ (outer (turn a)).run.inv.lengths.turns
 

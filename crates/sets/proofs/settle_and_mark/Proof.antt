@@ -41,22 +41,22 @@ partners_are c =
     partners_right _ _ _ _ (handed start) _ _ _ _ c.find_partners.ensures start.pre.1.came_room start.pre.1.goes_room
 
 came_room_lem : (c : tie.After-find_partners) → (at_start c).args.rows ≤ length c.find_partners.new.came
-came_room_lem c = omega (arith, c.find_partners.auto.1.1.0, (at_start c).requires.1.came_room)
+came_room_lem c = omega (arith, c.find_partners.auto.came, (at_start c).requires.1.came_room)
 
 goes_room_lem : (c : tie.After-find_partners) → (at_start c).args.rows ≤ length c.find_partners.new.goes
-goes_room_lem c = omega (arith, c.find_partners.auto.1.1.1.0, (at_start c).requires.1.goes_room)
+goes_room_lem c = omega (arith, c.find_partners.auto.goes, (at_start c).requires.1.goes_room)
 
 -- ---- a set at every point
 
 varied_long : (c : tie.After-settle_varied) → (at_start (at_partners c)).args.rows < length c.settle_varied.new.sets
 varied_long c =
     let start = at_start (at_partners c) in
-    omega (arith, c.settle_varied.auto.1.1.1.1.0, clear_length (suc start.args.rows) _ start.pre.1.varied_clear)
+    omega (arith, c.settle_varied.auto.sets, clear_length (suc start.args.rows) _ start.pre.1.varied_clear)
 
 useful_long : (c : tie.After-settle_useful) → (at_start (at_partners (at_varied c))).args.rows < length c.settle_useful.new.sets
 useful_long c =
     let start = at_start (at_partners (at_varied c)) in
-    omega (arith, c.settle_useful.auto.1.1.1.1.0, clear_length (suc start.args.rows) _ start.pre.1.useful_clear)
+    omega (arith, c.settle_useful.auto.sets, clear_length (suc start.args.rows) _ start.pre.1.useful_clear)
 
 -- ---- the needs
 
@@ -95,7 +95,7 @@ ends_of_requires c κs =
     (varied_long (at_varied second), omega (arith, useful_long second))
 
 same_length : tie.Need-shape_of-came
-same_length c = (at_partners (at_varied (at_useful (at_required c)))).find_partners.auto.1.1.0
+same_length c = (at_partners (at_varied (at_useful (at_required c)))).find_partners.auto.came
 
 same_length_2 : tie.Need-shape_of-goes
 same_length_2 c = search rules

@@ -8,22 +8,22 @@ use Rattle.run.proofs.calls_audit.run_in.Goals as goal
 
 pub run_table-end-requires : goal.run_table-end-requires
 run_table-end-requires c =
-    still_indexed c.copy_residues.auto.1.0 c.requires.indexed
+    still_indexed c.copy_residues.auto.into c.requires.indexed
 
 pub write_result-requires : goal.write_result-requires
 write_result-requires c =
-    let kept = c.run_table-end.auto.1.1.1.1.1.1.1 in
-    result_fits_lem residues c.requires.room c.run_table-end.new.store (kept.0 ∙ c.copy_residues.auto.1.0) kept.1.1.1.0
+    let kept = c.run_table-end.auto.store in
+    result_fits_lem residues c.requires.room c.run_table-end.new.store (kept.0 ∙ c.copy_residues.auto.into) kept.1.1.1.0
 
 pub shape_of-values : goal.shape_of-values
-shape_of-values c = c.run_table-end.auto.1.1.1.1.1.1.1.1.0
+shape_of-values c = c.run_table-end.auto.values
 
 pub shape_of-turns : goal.shape_of-turns
-shape_of-turns c = c.run_table-end.auto.1.1.1.1.1.1.1.1.1.0
+shape_of-turns c = c.run_table-end.auto.turns
 
 pub shape_of-store : goal.shape_of-store
 shape_of-store c =
-    c.run_table-end.auto.1.1.1.1.1.1.1.0 ∙ c.copy_residues.auto.1.0
+    c.run_table-end.auto.store ∙ c.copy_residues.auto.into
 
 pub returns : goal.returns
 returns c =

@@ -9,20 +9,20 @@ pub run_rows-ran-requires : goal.run_rows-ran-requires
 run_rows-ran-requires c = record { indexed = c.requires; bodies_fit = search rules; to_come_fit = search rules }
 
 pub shape_of-store : goal.shape_of-store
-shape_of-store c = c.run_rows-ran.auto.1.1.1.1.1.1.1.0
+shape_of-store c = c.run_rows-ran.auto.store
 
 pub shape_of-values : goal.shape_of-values
 shape_of-values c =
-    c.clear_stacks-2.auto.0 ∙ c.run_rows-ran.auto.1.1.1.1.1.1.1.1.0 ∙ c.clear_stacks.auto.0
+    c.clear_stacks-2.auto.values ∙ c.run_rows-ran.auto.values ∙ c.clear_stacks.auto.values
 
 pub shape_of-turns : goal.shape_of-turns
 shape_of-turns c =
-    c.clear_stacks-2.auto.1.0 ∙ c.run_rows-ran.auto.1.1.1.1.1.1.1.1.1.0 ∙ c.clear_stacks.auto.1.0
+    c.clear_stacks-2.auto.turns ∙ c.run_rows-ran.auto.turns ∙ c.clear_stacks.auto.turns
 
 pub shape_of-copied : goal.shape_of-copied
-shape_of-copied c = c.run_rows-ran.auto.1.1.1.1.1.1.1.1.1.1.0
+shape_of-copied c = c.run_rows-ran.auto.copied
 
 pub returns : goal.returns
 returns c =
-    let kept = c.run_rows-ran.auto.1.1.1.1.1.1.1.1 in
+    let kept = c.run_rows-ran.auto.values in
     runs_table doubles _ _ c.clear_stacks.ensures c.run_rows-ran.ensures kept.0 kept.1.0 c.clear_stacks-2.ensures

@@ -3,7 +3,7 @@ use borrow.Author.Rules.{rules}
 use Rattle.sets.proofs.marks.row_byte.Goals as goal
 
 pub returns : goal.returns
-returns c =
+returns c b performs =
     cc (
       c.weight_if.ensures.0,
       c.weight_if-2.ensures.0,

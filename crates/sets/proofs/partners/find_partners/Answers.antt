@@ -9,8 +9,7 @@ use Rattle.sets.proofs.partners.find_partners.Goals as goal
 
 pub loop-number-init : goal.loop-number-init
 loop-number-init c =
-    let start : tie.Start invariant_loop decreases_loop = search in
-    finding_starts _ _ _ _ start.pre.1
+    finding_starts _ _ _ _ c.requires.1
 
 pub kind_of-kind-requires : goal.kind_of-kind-requires
 kind_of-kind-requires c = c.requires.0 _ c.loop-number-test.true
@@ -37,7 +36,7 @@ pub loop-number-preserved : goal.loop-number-preserved
 loop-number-preserved c =
     finding_on _ _ _ _ _ _ _ _ c.loop-number.invariant c.loop-number-test.true _
     (part_read (c.requires.0 _ c.loop-number-test.true) (form_read c.forms-forms.ensures c.kind_of-kind.ensures)) _ _ _ c.partner_step-top.ensures
-    c.partner_step-top.auto.1.1.1.1.1.0 c.partner_step-top.auto.1.1.1.1.1.1.0
+    c.partner_step-top.auto.came c.partner_step-top.auto.goes
 
 pub shape_of-came : goal.shape_of-came
 shape_of-came c = c.loop-number.invariant.came_long

@@ -4,5 +4,5 @@ use Rattle.sets.proofs.OperationLaws.{activity_said}
 use Rattle.sets.proofs.transfers.activity.Goals as goal
 
 pub returns : goal.returns
-returns c =
+returns c b performs =
     rw (c.meets-varied_a.ensures, c.meets-varied_b.ensures, c.has.ensures, activity_said b performs _ _)

@@ -3,4 +3,4 @@ use Rattle.sets.proofs.OperationLaws.{reads_said}
 use Rattle.sets.proofs.transfers.reads.Goals as goal
 
 pub returns : goal.returns
-returns c = reads_said performs
+returns c b performs = reads_said performs

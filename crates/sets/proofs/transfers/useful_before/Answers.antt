@@ -5,9 +5,9 @@ use Rattle.sets.proofs.OperationLaws.{useful_said}
 use Rattle.sets.proofs.transfers.useful_before.Goals as goal
 
 pub returns-then-has : goal.returns-then-has
-returns-then-has c =
+returns-then-has c b performs =
     rw (useful_said b performs _, sym c.has.ensures, c.if-has.true, c.without.ensures)
     (rw (c.reads.ensures b performs))
 
 pub returns-else-has : goal.returns-else-has
-returns-else-has c = rw (useful_said b performs _, sym c.has.ensures, c.if-has.false)
+returns-else-has c b performs = rw (useful_said b performs _, sym c.has.ensures, c.if-has.false)

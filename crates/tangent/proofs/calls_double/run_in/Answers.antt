@@ -12,15 +12,15 @@ lay_doubles-requires c = start_fits doubles c.requires.room
 
 pub run_table-end-requires : goal.run_table-end-requires
 run_table-end-requires c =
-    still_indexed c.lay_doubles.auto.1.1.1.1.0 c.requires.indexed
+    still_indexed c.lay_doubles.auto.into c.requires.indexed
 
 pub write_rates-requires : goal.write_rates-requires
 write_rates-requires c =
-    let room = c.requires.room in record { store_fits = omega (arith, c.run_table-end.auto.1.1.1.1.1.1.1.0, c.lay_doubles.auto.1.1.1.1.0, room.store_fits); result_fits = room.result_fits }
+    let room = c.requires.room in record { store_fits = omega (arith, c.run_table-end.auto.store, c.lay_doubles.auto.into, room.store_fits); result_fits = room.result_fits }
 
 pub shape_of-store : goal.shape_of-store
 shape_of-store c =
-    c.run_table-end.auto.1.1.1.1.1.1.1.0 ∙ c.lay_doubles.auto.1.1.1.1.0
+    c.run_table-end.auto.store ∙ c.lay_doubles.auto.into
 
 pub returns : goal.returns
 returns c =

@@ -64,29 +64,25 @@ module _ (c : tie.After-wide-kind invariant_loop decreases_loop) where
 
 cast_variables : tie.Need-overflow_cast-variables invariant_loop decreases_loop
 cast_variables c =
-    let start : tie.Start invariant_loop decreases_loop = search in
-    record { fits = omega (arith, start.pre.1.1.1.0.few) }
+    record { fits = omega (arith, c.requires.small.few) }
 
 forms_requires : tie.Need-forms-forms-requires invariant_loop decreases_loop
 forms_requires c κs = search rules
 
 cast_table : tie.Need-overflow_cast-table invariant_loop decreases_loop
 cast_table c =
-    let start : tie.Start invariant_loop decreases_loop = search in
-    record { fits = omega (arith, start.pre.1.1.1.1) }
+    record { fits = omega (arith, c.requires.rows_few) }
 
 slice_write_table : tie.Need-bounds-table-0 invariant_loop decreases_loop
 slice_write_table c =
-    let start : tie.Start invariant_loop decreases_loop = search in
-    omega (arith, start.pre.0.fits)
+    omega (arith, c.requires.room.fits)
 
 loop_holds : tie.Need-loop-p-init invariant_loop decreases_loop
 loop_holds c =
-    let start : tie.Start invariant_loop decreases_loop = search in
-    let x = start.args in
+    let x = c.args in
     let whole : x.plan.shape.rows - 0 ≡ x.plan.shape.rows = omega arith in
     let all = ap (tangent_rows_along x.words.now x.plan.shape x.marks.now 0) whole in
-    (omega arith, underway_start _ _ all, jumping_start _ all start.pre.1.0)
+    (omega arith, underway_start _ _ all, jumping_start _ all c.requires.numbered)
 
 row_of_requires : tie.Need-row_of-row-requires invariant_loop decreases_loop
 row_of_requires c κs = omega (arith, (start c).requires.readable.there, c.loop-p-test.true)

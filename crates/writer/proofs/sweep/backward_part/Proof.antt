@@ -119,11 +119,9 @@ note_requires c κs =
 
 step_back_requires : tie.Need-step_back-end-requires invariant_loop decreases_loop
 step_back_requires c κs =
-    let row : tie.After-wide invariant_loop decreases_loop = search in
-    let turn = row.before.before in
-    let given = (start turn).requires.walkable in
-    let here = there turn in
-    (omega (arith, here, given.came_there), omega (arith, here, given.goes_there), λ e. omega (arith, leads row e, given.goes_there))
+    let given = (start c.before.before.before.before.before.before.before.before.before.before.before.before).requires.walkable in
+    let here = there c.before.before.before.before.before.before.before.before.before.before.before.before in
+    (omega (arith, here, given.came_there), omega (arith, here, given.goes_there), λ e. omega (arith, leads c.before.before.before.before.before.before.before.before.before.before e, given.goes_there))
 
 sub_left : tie.Need-overflow_sub-left invariant_loop decreases_loop
 sub_left c = omega (arith, c.loop-left-test.true)
