@@ -6,7 +6,7 @@ use mathlib.Core.Logic.{⊎_elim}
 use mathlib.Core.List.{List, [], ◌∷◌}
 use native.Mathlib.Omega.{arith}
 use denote.Enum.Declared.{tag_of}
-use types.Run.{OneOf}
+use borrow.Enum.Refused as enum
 use Rattle.sheet.specs.Inner.Steps.{split_of, if_end_of, repeat_end_of}
 use Rattle.sheet.specs.declared.Open.{Open}
 use Rattle.sheet.specs.declared.Open.TheVariants as block
@@ -15,7 +15,7 @@ use Rattle.sheet.specs.declared.Step.TheVariants as step
 use Rattle.sheet.specs.contracts.Open as open_type
 
 abbrev Among : List ℕ → Open → Type 0
-Among numbers b = OneOf numbers (tag_of open_type.the_type b)
+Among numbers b = enum.Among numbers (tag_of open_type.the_type b)
 
 pub not_first : (b : Open) (longest : ℕ) → Among (0 ∷ 2 ∷ 3 ∷ []) b → step.BadBlock ≡ split_of b longest
 unfolding split_of

@@ -5,11 +5,11 @@ use Rattle.claims.proofs.summed_if_done.Goals as goal
 
 pub summed-requires : goal.summed-requires
 summed-requires c =
-    c.requires c.if-adjoint-eq-DONE.taken c.if-tangent-eq-DONE.true
+    c.requires c.if-adjoint-eq-DONE.true c.if-tangent-eq-DONE.true
 
 pub returns-then-tangent-eq-DONE : goal.returns-then-tangent-eq-DONE
 returns-then-tangent-eq-DONE c =
-    summed_where _ _ _ _ _ _ _ c.if-adjoint-eq-DONE.taken c.if-tangent-eq-DONE.taken c.summed.ensures
+    summed_where _ _ _ _ _ _ _ c.if-adjoint-eq-DONE.true c.if-tangent-eq-DONE.true c.summed.ensures
 
 pub returns-else-tangent-eq-DONE : goal.returns-else-tangent-eq-DONE
 returns-else-tangent-eq-DONE c = unsummed_where _ _ _ _ _ _ _ (inr c.if-tangent-eq-DONE.false)

@@ -97,10 +97,10 @@ loop_holds c = search (inner_starts, rules)
 
 straight_row_requires : tie.Need-straight_row-requires invariant_loop decreases_loop invariant_run decreases_run
 straight_row_requires c κs =
-    let reaches = c.loop-next.invariant.reaches in let whole = (
+    let reaches = c.loop-next.invariant.reaches in (
       still_indexed (c.loop-next.invariant.lengths.store ∙ (outer c.before.before.before.before).run.invariant.lengths.store) (first_indexed (omega (arith, reaches)) (start c.before.before.before.before).requires.0),
       omega (arith, reaches),
-    ) in record { indexed = whole.0; until_in = whole.1 }
+    )
 
 enum_known_next : tie.Need-enum_known-next invariant_loop decreases_loop invariant_run decreases_run
 enum_known_next c = search rules
@@ -108,11 +108,11 @@ enum_known_next c = search rules
 peek_requires : tie.Need-peek-place-requires invariant_loop decreases_loop invariant_run decreases_run
 peek_requires c κs =
     let a : Answered = search in
-    let t = turn a in let whole = (
+    let t = turn a in (
       still_indexes (a.straight-row.kept.1.1.1.1.1.0 ∙ t.loop.inv.lengths.store ∙ (outer t).run.inv.lengths.store)
           (first_indexed (omega (arith, t.loop.inv.reaches)) (start t).pre.0),
       straight_reaches _ t.loop.inv a.straight-row.ensures c.in-On.is,
-    ) in record { indexed = whole.0; until_in = whole.1 }
+    )
 
 loop_less : tie.Need-loop-next-smaller invariant_loop decreases_loop invariant_run decreases_run
 loop_less c =

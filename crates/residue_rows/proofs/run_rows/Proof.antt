@@ -93,10 +93,10 @@ loop_holds c = search (inner_starts, rules)
 
 straight_row_requires : tie.Need-straight_row-requires invariant_loop decreases_loop invariant_run decreases_run
 straight_row_requires c κs =
-    let reaches = c.loop-next.invariant.reaches in let whole = (
+    let reaches = c.loop-next.invariant.reaches in (
       still_indexed (c.loop-next.invariant.lengths.store ∙ (outer c.before.before.before.before).run.invariant.lengths.store) (first_indexed (omega (arith, reaches)) (start c.before.before.before.before).requires.0),
       omega (arith, reaches),
-    ) in record { indexed = whole.0; until_in = whole.1 }
+    )
 
 enum_known_next : tie.Need-enum_known-next invariant_loop decreases_loop invariant_run decreases_run
 enum_known_next c = search rules

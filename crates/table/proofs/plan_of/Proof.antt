@@ -8,19 +8,20 @@ use Rattle.table.proofs.plan_of.Tie as tie
 
 -- the sheet that was accepted
 sheet_found : (c : tie.Start) → let args = c.args in SomeSheet args.words.now args.shape
-sheet_found c = accepted_lies _ _ c.requires.accepted
+sheet_found c = accepted_lies _ _ c.requires.0
 
 sizes_of_requires : tie.Need-sizes_of-sizes-requires
 sizes_of_requires c κs =
     let found = sheet_found c.before.before in
     let lies = found.lies in
-    let few = lies.few_rows in record { readable = readable lies _ (omega arith); sized = record { total = _; comes = need_comes lies _ _ _ (c.requires.noted found.sheet lies.is) } }
+    let few = lies.few_rows in
+    (readable lies _ (omega arith), record { total = _; comes = need_comes lies _ _ _ (c.requires.1 found.sheet lies.is) })
 
 returns : tie.Need-returns
 returns c =
     let found = sheet_found c.before.before.before.before in
     let lies = found.lies in
-    let noted = c.requires.noted found.sheet lies.is in
+    let noted = c.requires.1 found.sheet lies.is in
     let said = c.sizes_of-sizes.ensures in
     let needs = said.need _ (need_comes lies _ _ _ noted) in
     record {

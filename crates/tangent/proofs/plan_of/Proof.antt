@@ -9,18 +9,19 @@ use Rattle.tangent.proofs.plan_of.Tie as tie
 
 -- the sheet that was accepted
 sheet_found : (c : tie.Start) → let args = c.args in SomeSheet args.words.now args.shape
-sheet_found c = accepted_lies _ _ c.requires.accepted
+sheet_found c = accepted_lies _ _ c.requires.0
 
 rows_before_requires : tie.Need-rows_before-rows-requires
 rows_before_requires c κs =
     let lies = (sheet_found c.before.before).lies in
-    let few = lies.few_rows in record { readable = readable lies _ (omega arith); row_in = omega arith }
+    let few = lies.few_rows in
+    (readable lies _ (omega arith), omega arith)
 
 returns : tie.Need-returns
 returns c =
     let found = sheet_found c.before.before.before in
     let lies = found.lies in
-    let noted = c.requires.noted found.sheet lies.is in
+    let noted = c.requires.1 found.sheet lies.is in
     record {
       sheet = found.sheet;
       accepted = lies.is;

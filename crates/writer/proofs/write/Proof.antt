@@ -36,11 +36,12 @@ has_room_requires c κs = search rules
 returns : tie.Need-returns-then-not-has_room
 unfolding number_of
 returns c =
-    write_by_lem _ _ (written_small _ _ _ _ (plan_made c.before.before.before.before.before.before.before.before.before.before.before.before.before.before.before.before.before.before.before.before.before.before.before.before.before.before.before.before.before.before.before.before.before.before.before.before.before.before.before.before.before.before.before.before.before.before.before.before.before.before.before.before.before.before.before.before.before.before.before.before.before.before.before.before.before.before.before.before.before.before.before.before.before.before.before.before.before.before.before.before.before.before.before.before.before.before.before.before.before.before.before.before.before.before.before.before.before.before.before) (sym c.has_room.ensures ∙ not-true _ c.if-not-has_room.true))
+    write_by_lem _ _ (written_small _ _ _ _ (plan_made c.before.before.before.before.before.before.before.before.before.before.before.before.before.before.before.before.before.before.before.before.before.before.before.before.before.before.before.before.before.before.before.before.before.before.before.before.before.before.before.before.before.before.before.before.before.before.before.before.before.before.before.before.before.before.before.before.before.before.before.before.before.before.before.before.before.before.before.before.before.before.before.before.before.before.before.before.before.before.before.before.before.before.before.before.before.before.before.before.before.before.before.before.before.before.before.before.before.before.before) (sym c.has_room.ensures ∙ c.if-not-has_room.true))
 
 write_planned_requires : tie.Need-write_planned-requires
 write_planned_requires c κs =
-    let fits = sym c.has_room.ensures ∙ not-false _ c.if-not-has_room.false in record { planned = plan_made c.before.before.before.before.before.before.before.before.before.before.before.before.before.before.before.before.before.before.before.before.before.before.before.before.before.before.before.before.before.before.before.before.before.before.before.before.before.before.before.before.before.before.before.before.before.before.before.before.before.before.before.before.before.before.before.before.before.before.before.before.before.before.before.before.before.before.before.before.before.before.before.before.before.before.before.before.before.before.before.before.before.before.before.before.before.before.before.before.before.before.before.before.before.before.before.before.before.before.before; table_fits = leb-true _ _ fits }
+    let fits = sym c.has_room.ensures ∙ c.if-not-has_room.false in
+    (plan_made c.before.before.before.before.before.before.before.before.before.before.before.before.before.before.before.before.before.before.before.before.before.before.before.before.before.before.before.before.before.before.before.before.before.before.before.before.before.before.before.before.before.before.before.before.before.before.before.before.before.before.before.before.before.before.before.before.before.before.before.before.before.before.before.before.before.before.before.before.before.before.before.before.before.before.before.before.before.before.before.before.before.before.before.before.before.before.before.before.before.before.before.before.before.before.before.before.before.before.before, leb-true _ _ fits)
 
 returns_2 : tie.Need-returns-in-Refused
 returns_2 c =
@@ -53,7 +54,7 @@ same_length c = search rules
 
 returns_3 : tie.Need-returns-else-not-has_room
 returns_3 c =
-    let fits = sym c.has_room.ensures ∙ not-false _ c.if-not-has_room.false in
+    let fits = sym c.has_room.ensures ∙ c.if-not-has_room.false in
     write_by_lem _ _ (written_made _ _ _ _ (plan_made c.before.before.before.before.before.before.before.before.before.before.before.before.before.before.before.before.before.before.before.before.before.before.before.before.before.before.before.before.before.before.before.before.before.before.before.before.before.before.before.before.before.before.before.before.before.before.before.before.before.before.before.before.before.before.before.before.before.before.before.before.before.before.before.before.before.before.before.before.before.before.before.before.before.before.before.before.before.before.before.before.before.before.before.before.before.before.before.before.before.before.before.before.before.before.before.before.before.before.before) _ fits (λ sheet e. (c.write_planned.ensures sheet e).words))
 
 pub write_spec : {M : Type 1} → statement M

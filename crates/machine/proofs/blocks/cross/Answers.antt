@@ -23,7 +23,7 @@ returns-then-kind-eq-ON_TURN c =
 
 pub returns-then-kind-eq-ON_COUNT : goal.returns-then-kind-eq-ON_COUNT
 returns-then-kind-eq-ON_COUNT c =
-    in_both_by c.on_count.ensures (λ A counts. on_count_crosses c.if-kind-eq-ON_COUNT.taken counts)
+    in_both_by c.on_count.ensures (λ A counts. on_count_crosses c.if-kind-eq-ON_COUNT.true counts)
 
 pub returns : goal.returns
 returns c = in_both (λ A. search (never_crosses, rules))

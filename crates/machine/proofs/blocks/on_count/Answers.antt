@@ -24,12 +24,12 @@ bounds-turns-top c =
 pub returns-then-count-eq0 : goal.returns-then-count-eq0
 returns-then-count-eq0 c =
     let top = rw c.in-Is.is at c.count_there.ensures in
-    in_both (λ A. counts_past _ top.0 top.1 (sym top.2 ∙ c.if-count-eq0.taken) (rw c.raised.ensures at c.branch_to.ensures))
+    in_both (λ A. counts_past _ top.0 top.1 (sym top.2 ∙ c.if-count-eq0.true) (rw c.raised.ensures at c.branch_to.ensures))
 
 pub returns-then-next-ge-MAX_DEPTH : goal.returns-then-next-ge-MAX_DEPTH
 returns-then-next-ge-MAX_DEPTH c =
     let top = rw c.in-Is.is at c.count_there.ensures in
-    in_both (λ A. counts_full _ top.0 top.1 (λ none. c.if-count-eq0.left (top.2 ∙ none)) c.if-next-ge-MAX_DEPTH.true)
+    in_both (λ A. counts_full _ top.0 top.1 (λ none. c.if-count-eq0.false (top.2 ∙ none)) c.if-next-ge-MAX_DEPTH.true)
 
 pub offset_bounds-turns-top-2 : goal.offset_bounds-turns-top-2
 offset_bounds-turns-top-2 c =
@@ -44,5 +44,5 @@ bounds-turns-top-2 c =
 pub returns : goal.returns
 returns c =
     let top = rw c.in-Is.is at c.count_there.ensures in
-    in_both (λ A. counts_in _ top.0 top.1 (pred c.in-Is.count) (omega (arith, top.2, c.if-count-eq0.left)) c.if-next-ge-MAX_DEPTH.left
+    in_both (λ A. counts_in _ top.0 top.1 (pred c.in-Is.count) (omega (arith, top.2, c.if-count-eq0.false)) c.if-next-ge-MAX_DEPTH.false
     (rw (c.raised-2.ensures, top.2) at c.open_repeat.ensures))

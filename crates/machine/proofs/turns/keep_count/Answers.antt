@@ -5,7 +5,7 @@ use Rattle.machine.proofs.turns.keep_count.Goals as goal
 
 pub returns-then-keeps : goal.returns-then-keeps
 returns-then-keeps c =
-    in_both (λ A. rw c.if-keeps.taken (keeps_count c.put_away.ensures))
+    in_both (λ A. rw c.if-keeps.true (keeps_count c.put_away.ensures))
 
 pub returns : goal.returns
 returns c = in_both (λ A. rw c.if-keeps.false keeps_none)

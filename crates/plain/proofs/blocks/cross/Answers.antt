@@ -10,14 +10,14 @@ use Rattle.plain.proofs.blocks.cross.Goals as goal
 pub opened-requires : goal.opened-requires
 opened-requires c =
     let opens =
-    subst (λ part. Crossable part (turns_in (row_said c.args.asked)) c.args.at.depth (length c.args.to-come.now))
+    subst (λ part. Crossable part (turns_in (row_said c.args.asked)) c.args.at.depth (length c.args.to_come.now))
     c.in-Repeat.is c.requires.1 in
     (c.requires.0, rw c.turns_of.ensures opens.0, opens.1)
 
 pub turn_ended-requires : goal.turn_ended-requires
 turn_ended-requires c =
     let ends =
-    subst (λ part. Crossable part (turns_in (row_said c.args.asked)) c.args.at.depth (length c.args.to-come.now))
+    subst (λ part. Crossable part (turns_in (row_said c.args.asked)) c.args.at.depth (length c.args.to_come.now))
     c.in-EndRepeat.is c.requires.1 in
     (c.requires.0, ends.0, ends.1)
 

@@ -36,19 +36,19 @@ module _ (c : tie.After-wide-kind invariant_loop decreases_loop) where
   start = turn.before.before.before.before.before.before.before
 
   abbrev row_read : Row
-  row_read = row_said c.before.row_of.result
+  row_read = row_said c.row_of-said.result
 
   says : SaysLine row_read
-  says = subst SaysLine (sym c.before.row_of.ensures) ((ready_readable turn.before.before.loop.inv.ready).says _ turn.if1.taken)
+  says = subst SaysLine (sym c.row_of-said.ensures) ((ready_readable turn.loop-number.invariant.ready).says _ turn.loop-number-test.true)
 
   in_table_lem : row_read.kind ≤ length kinds
   in_table_lem = row_kind says
 
   abbrev part : Part
-  part = (form_in turn.before.before.before.forms.result c.wide.result).3
+  part = (form_in turn.forms-forms.result c.wide-kind.result).3
 
   part_found : part ≡ part_for row_read.kind
-  part_found = part_there turn.before.before.before.forms.ensures c.wide.ensures.0 in_table_lem
+  part_found = part_there turn.forms-forms.ensures c.wide-kind.ensures.0 in_table_lem
 
 -- what a read beyond the cells would give
 abbrev none : Rated
@@ -62,28 +62,28 @@ module _ (c : tie.After-b-1 invariant_loop decreases_loop) where
   abbrev at : tie.At-loop-number invariant_loop decreases_loop
   at = (turn read_at).before.before
 
-  abbrev below : at.loop.number < (start read_at).args.shape.rows
-  below = (turn read_at).if1.taken
+  abbrev below : at.loop-number.number < (start read_at).args.shape.rows
+  below = (turn read_at).loop-number-test.true
 
-  abbrev read : row_read read_at ≡ numbered_row (start read_at).args.words.now (start read_at).args.shape.first_row at.loop.number
-  read = read_at.before.row_of.ensures
+  abbrev read : row_read read_at ≡ numbered_row (start read_at).args.words.now (start read_at).args.shape.first_row at.loop-number.number
+  read = read_at.row_of-said.ensures
 
   abbrev running : let args = (start read_at).args in
-      Running args.words.now args.shape args.marks.now args.goes.now args.start at.loop.cells at.loop.to-come at.loop.number
-      at.loop.depth at.loop.left
-  running = at.loop.inv
+      Running args.words.now args.shape args.marks.now args.goes.now args.start at.loop-number.cells at.loop-number.to-come at.loop-number.number
+      at.loop-number.depth at.loop-number.left
+  running = at.loop-number.invariant
 
   abbrev x : Rated
-  x = get_or at.loop.cells c.before.before.before.cell-of.result none
+  x = get_or at.loop-number.cells c.cell_of.result none
 
   abbrev y : Rated
-  y = get_or at.loop.cells c.before.cell-of2.result none
+  y = get_or at.loop-number.cells c.cell_of-in-loop-number.result none
 
-  at_a : (row_read read_at).a < limit.variables → x ≡ get_or at.loop.cells (row_read read_at).a none
-  at_a h = ap (λ i. get_or at.loop.cells i none) (c.before.before.before.cell-of.ensures.1 h)
+  at_a : (row_read read_at).a < limit.variables → x ≡ get_or at.loop-number.cells (row_read read_at).a none
+  at_a h = ap (λ i. get_or at.loop-number.cells i none) (c.cell_of.ensures.1 h)
 
-  at_b : (row_read read_at).b < limit.variables → y ≡ get_or at.loop.cells (row_read read_at).b none
-  at_b h = ap (λ i. get_or at.loop.cells i none) (c.before.cell-of2.ensures.1 h)
+  at_b : (row_read read_at).b < limit.variables → y ≡ get_or at.loop-number.cells (row_read read_at).b none
+  at_b h = ap (λ i. get_or at.loop-number.cells i none) (c.cell_of-in-loop-number.ensures.1 h)
 
 -- at a block's row, the row that is asked
 module _ (c : tie.After-asked_row invariant_loop decreases_loop) where
@@ -91,13 +91,13 @@ module _ (c : tie.After-asked_row invariant_loop decreases_loop) where
   asked_from = c.before.before.before
 
   block : assigns (part (read_at asked_from)) ≡ false
-  block = sym c.before.before.assigns.ensures ∙ c.before.if2.false
+  block = sym c.assigns.ensures ∙ c.if-assigns.false
 
-  asked_there : c.asked-row.result.0 < (start (read_at asked_from)).args.shape.rows
+  asked_there : c.asked_row.result.0 < (start (read_at asked_from)).args.shape.rows
   asked_there =
       omega (
         arith,
-        c.asked-row.ensures,
+        c.asked_row.ensures,
         asked_below (running asked_from) (below asked_from) (read asked_from) (says (read_at asked_from)) (part_found (read_at asked_from)),
       )
 
@@ -110,34 +110,34 @@ module _ (c : tie.After-y-1 invariant_loop decreases_loop) where
   block_at = asked_from asked_at.before
 
   abbrev row_asked : Row
-  row_asked = row_said asked_at.row-of2.result
+  row_asked = row_said asked_at.row_of-asked.result
 
   abbrev row_asked_lem : row_asked
       ≡ numbered_row (start (read_at block_at)).args.words.now (start (read_at block_at)).args.shape.first_row
-      (asked_row (part (read_at block_at)) (start (read_at block_at)).args.goes.now (at block_at).loop.number)
+      (asked_row (part (read_at block_at)) (start (read_at block_at)).args.goes.now (at block_at).loop-number.number)
   row_asked_lem =
-      asked_at.row-of2.ensures
+      asked_at.row_of-asked.ensures
       ∙ ap (λ row. numbered_row (start (read_at block_at)).args.words.now (start (read_at block_at)).args.shape.first_row row)
-      asked_at.before.asked-row.ensures
+      asked_at.asked_row.ensures
 
   abbrev x_asked : Rated
-  x_asked = get_or (at block_at).loop.cells c.before.before.before.cell-of4.result none
+  x_asked = get_or (at block_at).loop-number.cells c.cell_of-else-assigns.result none
 
   abbrev y_asked : Rated
-  y_asked = get_or (at block_at).loop.cells c.before.cell-of5.result none
+  y_asked = get_or (at block_at).loop-number.cells c.cell_of-else-assigns-2.result none
 
-  a_asked : row_asked.a < limit.variables → x_asked ≡ get_or (at block_at).loop.cells row_asked.a none
-  a_asked h = ap (λ i. get_or (at block_at).loop.cells i none) (c.before.before.before.cell-of4.ensures.1 h)
+  a_asked : row_asked.a < limit.variables → x_asked ≡ get_or (at block_at).loop-number.cells row_asked.a none
+  a_asked h = ap (λ i. get_or (at block_at).loop-number.cells i none) (c.cell_of-else-assigns.ensures.1 h)
 
-  b_asked : row_asked.b < limit.variables → y_asked ≡ get_or (at block_at).loop.cells row_asked.b none
-  b_asked h = ap (λ i. get_or (at block_at).loop.cells i none) (c.before.cell-of5.ensures.1 h)
+  b_asked : row_asked.b < limit.variables → y_asked ≡ get_or (at block_at).loop-number.cells row_asked.b none
+  b_asked h = ap (λ i. get_or (at block_at).loop-number.cells i none) (c.cell_of-else-assigns-2.ensures.1 h)
 
 forms_requires : tie.Need-forms-forms-requires invariant_loop decreases_loop
 forms_requires c κs = search rules
 
 loop_holds : tie.Need-loop-number-init invariant_loop decreases_loop
 loop_holds c =
-    running_starts c.requires.ready _ _ c.requires.start_fits refl
+    running_starts c.requires.0 _ _ c.requires.1 refl
 
 row_of_requires : tie.Need-row_of-said-requires invariant_loop decreases_loop
 row_of_requires c κs =
@@ -160,7 +160,7 @@ mul_a : tie.Need-offset_bounds-cells-cell_of invariant_loop decreases_loop
 mul_a c = omega (arith, c.cell_of.ensures.0)
 
 array_copy_out_a : tie.Need-bounds-cells-cell_of invariant_loop decreases_loop
-array_copy_out_a c = omega (arith, c.cell_of.ensures.0, running_room (turn c.before.before).before.before.loop.inv)
+array_copy_out_a c = omega (arith, c.cell_of.ensures.0, running_room (turn c.before.before).loop-number.invariant)
 
 cell_of_requires_2 : tie.Need-cell_of-requires-in-loop-number invariant_loop decreases_loop
 cell_of_requires_2 c κs = search rules
@@ -169,7 +169,7 @@ mul_b : tie.Need-offset_bounds-cells-cell_of-in-loop-number invariant_loop decre
 mul_b c = omega (arith, c.cell_of-in-loop-number.ensures.0)
 
 array_copy_out_b : tie.Need-bounds-cells-cell_of-in-loop-number invariant_loop decreases_loop
-array_copy_out_b c = omega (arith, c.cell_of-in-loop-number.ensures.0, running_room (turn c.before.before.before.before).before.before.loop.inv)
+array_copy_out_b c = omega (arith, c.cell_of-in-loop-number.ensures.0, running_room (turn c.before.before.before.before).loop-number.invariant)
 
 sub_left : tie.Need-overflow_sub-left invariant_loop decreases_loop
 sub_left c = running_left (running c) (below c)
@@ -183,10 +183,10 @@ shared_slice_read_assigned c =
 
 assigned_requires : tie.Need-assigned-requires invariant_loop decreases_loop
 assigned_requires c κs =
-    let assigning = sym c.assigns.ensures ∙ c.if-assigns.true in let whole = (
+    let assigning = sym c.assigns.ensures ∙ c.if-assigns.true in (
       constant_within (running c.before.before.before) (below c.before.before.before) (read c.before.before.before) (says (read_at c.before.before.before)) (part_found (read_at c.before.before.before)) assigning,
       says_assignment (running c.before.before.before) (below c.before.before.before) (read c.before.before.before) (says (read_at c.before.before.before)) (part_found (read_at c.before.before.before)) assigning,
-    ) in record { constant_in = whole.0; part_said = whole.1 }
+    )
 
 enum_known_x : tie.Need-enum_known-x invariant_loop decreases_loop
 enum_known_x c = search rules

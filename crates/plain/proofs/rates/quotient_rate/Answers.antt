@@ -8,14 +8,14 @@ use Rattle.plain.proofs.rates.quotient_rate.Goals as goal
 pub returns-then-not-vary_a : goal.returns-then-not-vary_a
 returns-then-not-vary_a c =
     let x = c.args in
-    rw (not-true x.vary-a c.if-not-vary_a.true) c.second_alone.ensures
+    rw (c.if-not-vary_a.true) c.second_alone.ensures
 
 pub returns-then-not-vary_b : goal.returns-then-not-vary_b
 returns-then-not-vary_b c =
     let x = c.args in
     rw (
-      not-false x.vary-a c.if-not-vary_a.false,
-      not-true x.vary-b c.if-not-vary_b.true,
+      c.if-not-vary_a.false,
+      c.if-not-vary_b.true,
       sym (same_there c.quotient.ensures),
     )
     c.after.ensures
@@ -23,4 +23,4 @@ returns-then-not-vary_b c =
 pub returns : goal.returns
 returns c =
     let x = c.args in
-    rw (not-false x.vary-a c.if-not-vary_a.false, not-false x.vary-b c.if-not-vary_b.false) c.both_over.ensures
+    rw (c.if-not-vary_a.false, c.if-not-vary_b.false) c.both_over.ensures

@@ -4,12 +4,12 @@ use borrow.Author.Tests.{not-true, not-false}
 use Rattle.plain.proofs.rates.sum_rate.Goals as goal
 
 pub returns-then-not-vary_a : goal.returns-then-not-vary_a
-returns-then-not-vary_a c = rw (not-true c.args.vary-a c.if-not-vary_a.true)
+returns-then-not-vary_a c = rw (c.if-not-vary_a.true)
 
 pub returns-then-not-vary_b : goal.returns-then-not-vary_b
-returns-then-not-vary_b c = rw (not-false c.args.vary-a c.if-not-vary_a.false, not-true c.args.vary-b c.if-not-vary_b.true)
+returns-then-not-vary_b c = rw (c.if-not-vary_a.false, c.if-not-vary_b.true)
 
 pub returns : goal.returns
 returns c =
     let x = c.args in
-    rw (not-false x.vary-a c.if-not-vary_a.false, not-false x.vary-b c.if-not-vary_b.false) c.sum.ensures
+    rw (c.if-not-vary_a.false, c.if-not-vary_b.false) c.sum.ensures

@@ -20,17 +20,17 @@ module _ (c : tie.After-plan_sheet-planned) where
   words = c.args.words.now
 
   abbrev marks : List ℕ
-  marks = c.plan-sheet.new.1.0
+  marks = c.plan_sheet-planned.new.marks
 
   abbrev came : List ℕ
-  came = c.plan-sheet.new.1.1.0
+  came = c.plan_sheet-planned.new.came
 
   abbrev goes : List ℕ
-  goes = c.plan-sheet.new.1.1.1.0
+  goes = c.plan_sheet-planned.new.goes
 
   -- the plan, of an arithmetic that divides
-  allowed : PlanSaysIn true needs_of words marks came goes c.plan-sheet.result
-  allowed = planned_in needs_of words marks came goes c.plan-sheet.result c.plan-sheet.ensures.0
+  allowed : PlanSaysIn true needs_of words marks came goes c.plan_sheet-planned.result
+  allowed = planned_in needs_of words marks came goes c.plan_sheet-planned.result c.plan_sheet-planned.ensures.0
 
 plan_sheet_requires : tie.Need-plan_sheet-planned-requires
 plan_sheet_requires c κs = search rules
@@ -63,11 +63,13 @@ enum_told c = search rules
 
 write_planned_requires : tie.Need-write_planned-requires
 write_planned_requires c κs =
-    let room = subst (JudgedAs true needs_of _ _ _ _ _) c.in-HasRoom.is (c.judge.ensures true needs_of _ _ _ _ (allowed c.before.before.before.before.before.before.before.before.before)) in record { planned = room.made; table_fits = room.table_fits }
+    let room = subst (JudgedAs true needs_of _ _ _ _ _) c.in-HasRoom.is (c.judge.ensures true needs_of _ _ _ _ (allowed c.before.before.before.before.before.before.before.before.before)) in
+    (room.made, room.table_fits)
 
 run_written_requires : tie.Need-run_written-requires
 run_written_requires c κs =
-    let room = subst (JudgedAs true needs_of _ _ _ _ _) c.in-HasRoom.is (c.judge.ensures true needs_of _ _ _ _ (allowed c.before.before.before.before.before.before.before.before.before.before.before.before.before.before.before.before.before)) in record { indexed = adjoint_indexed room.made c.write_planned.ensures; room = sheet_room _ _ _ room }
+    let room = subst (JudgedAs true needs_of _ _ _ _ _) c.in-HasRoom.is (c.judge.ensures true needs_of _ _ _ _ (allowed c.before.before.before.before.before.before.before.before.before.before.before.before.before.before.before.before.before)) in
+    (adjoint_indexed room.made c.write_planned.ensures, sheet_room _ _ _ room)
 
 returns_2 : tie.Need-returns-in-No
 returns_2 c =

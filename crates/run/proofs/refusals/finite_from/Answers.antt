@@ -25,7 +25,7 @@ overflow_add-result c = omega arith
 pub returns-then-not-is_finite : goal.returns-then-not-is_finite
 returns-then-not-is_finite c =
     judging_refuses doubles _ _ _ nan c.loop-i-test.true
-    (sym c.is_finite.ensures ∙ not-true _ c.if-not-is_finite.true) c.loop-i.invariant
+    (sym c.is_finite.ensures ∙ c.if-not-is_finite.true) c.loop-i.invariant
 
 pub overflow_add-i : goal.overflow_add-i
 overflow_add-i c = omega arith
@@ -36,7 +36,7 @@ loop-i-smaller c = omega arith
 pub loop-i-preserved : goal.loop-i-preserved
 loop-i-preserved c =
     judging_goes_on doubles _ _ _ nan c.loop-i-test.true
-    (sym c.is_finite.ensures ∙ not-false _ c.if-not-is_finite.false) c.loop-i.invariant
+    (sym c.is_finite.ensures ∙ c.if-not-is_finite.false) c.loop-i.invariant
 
 pub returns : goal.returns
 returns c = judging_ends doubles _ _ _ c.loop-i-test.false c.loop-i.invariant

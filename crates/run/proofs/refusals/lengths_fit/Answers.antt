@@ -16,7 +16,7 @@ returns-then-res-ne0 c =
     simp (
       eq-eqb _ _ c.if-starts-variables.false,
       eq-eqb _ _ c.if-seeds-variables.false,
-      ne_eqb args.result (2 * args.variables) (λ e. omega arith),
+      ne_eqb args.res (2 * args.variables) (λ e. omega arith),
     )
 
 pub returns-then-res-variables : goal.returns-then-res-variables
@@ -25,7 +25,7 @@ returns-then-res-variables c =
     simp (
       eq-eqb _ _ c.if-starts-variables.false,
       eq-eqb _ _ c.if-seeds-variables.false,
-      ne_eqb args.result (2 * args.variables) (λ e. omega arith),
+      ne_eqb args.res (2 * args.variables) (λ e. omega arith),
     )
 
 pub returns : goal.returns
@@ -34,5 +34,5 @@ returns c =
     simp (
       eq-eqb _ _ c.if-starts-variables.false,
       eq-eqb _ _ c.if-seeds-variables.false,
-      eq-eqb args.result (2 * args.variables) (omega arith),
+      eq-eqb args.res (2 * args.variables) (omega arith),
     )

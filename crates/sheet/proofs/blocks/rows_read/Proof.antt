@@ -78,10 +78,10 @@ module _ (c : tie.After-follow invariant_loop decreases_loop) where
   stepped : (s : Step) → c.follow.result ≡ s
       → Follows (head row).loop-left.place (head row).loop-left.depth (head row).loop-left.levels (head row).loop-left.inner s (row_here (head row).loop-left.invariant)
   stepped s e =
-      says row s (c.before.before.before.before.if2.false)
+      says row s (c.if-not-row_fits.false)
       (sym e ∙ c.follow.ensures
       ∙ ap (λ (turns : ℕ). step_of (rule row).part turns (head row).loop-left.depth (head row).loop-left.inner (get_or (head row).loop-left.levels (head row).loop-left.depth bottom))
-      c.before.before.turns-of.ensures)
+      c.turns_of.ensures)
 
 -- ---- the needs
 

@@ -17,4 +17,4 @@ loop-kind-preserved c =
     made_on c.loop-kind.invariant _ c.loop-kind-test.true (c.rule_of.ensures ∙ ap (rule_of _ _) c.form_in-form.ensures)
 
 pub returns : goal.returns
-returns c = c.loop-kind.invariant.up_to n (omega (arith, c.loop-kind-test.false))
+returns c n l = c.loop-kind.invariant.up_to _ (omega (arith, c.loop-kind-test.false))

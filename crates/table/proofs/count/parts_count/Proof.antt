@@ -20,19 +20,19 @@ module _ (c : tie.After-one_if-of_b) where
   abbrev kind : ℕ
   kind = start.args.row.kind
 
-  of_a : c.before.one-if.result ≡ first_of kind c.before.before.before.bit.result
-  of_a = c.before.one-if.ensures.0
+  of_a : c.one_if-of_a.result ≡ first_of kind c.bit.result
+  of_a = c.one_if-of_a.ensures.0
 
-  of_b : c.one-if2.result ≡ second_of kind c.before.before.bit2.result
-  of_b = c.one-if2.ensures.0
+  of_b : c.one_if-of_b.result ≡ second_of kind c.bit-2.result
+  of_b = c.one_if-of_b.ensures.0
 
-  few : (c.before.one-if.result ≤ 1) × (c.one-if2.result ≤ 1)
-  few = (c.before.one-if.ensures.1, c.one-if2.ensures.1)
+  few : (c.one_if-of_a.result ≤ 1) × (c.one_if-of_b.result ≤ 1)
+  few = (c.one_if-of_a.ensures.1, c.one_if-of_b.ensures.1)
 
   counted : (v : ℕ) → length (part_rows v (row_said start.args.row) start.args.mark)
-      ≡ part_count kind c.before.one-if.result c.one-if2.result
+      ≡ part_count kind c.one_if-of_a.result c.one_if-of_b.result
   counted v =
-      parts_counted v (row_said start.args.row) start.args.mark c.before.before.before.bit.ensures c.before.before.bit2.ensures start.pre
+      parts_counted v (row_said start.args.row) start.args.mark c.bit.ensures c.bit-2.ensures start.requires
       ∙ ap₂ (part_count kind) (sym of_a) (sym of_b)
 
 bit_requires : tie.Need-bit-requires

@@ -49,7 +49,7 @@ module _ (c : tie.After-wide-kind invariant_loop decreases_loop) where
 
   -- the row that was read says a line
   says : SaysLine (row_said c.row_of-row.result)
-  says = subst SaysLine (sym c.row_of-row.ensures) ((start turn.before.before).requires.readable.says _ turn.loop-p-test.taken)
+  says = subst SaysLine (sym c.row_of-row.ensures) ((start turn.before.before).requires.0.says _ turn.loop-p-test.true)
 
   in_table_lem : c.row_of-row.result.kind ≤ length kinds
   in_table_lem = row_kind says
@@ -72,14 +72,14 @@ module _ (c : tie.After-row_count-rows invariant_loop decreases_loop) where
   head = row.before.before.before
 
   abbrev below : head.loop-p.p < (start head).args.shape.rows
-  below = row.loop-p-test.taken
+  below = row.loop-p-test.true
 
   abbrev going : let x = (start head).args in
       Going x.words.now x.shape.first_row x.shape.rows x.marks.now head.loop-p.levels head.loop-p.depth head.loop-p.need head.loop-p.p
   going = head.loop-p.invariant.1
 
   abbrev sized : let x = (start head).args in Sized x.words.now x.shape.first_row x.shape.rows x.marks.now
-  sized = (start head).requires.sized
+  sized = (start head).requires.1
 
   abbrev read : let x = (start head).args in row_said row.row_of-row.result ≡ numbered_row x.words.now x.shape.first_row head.loop-p.p
   read = row.row_of-row.ensures
@@ -118,7 +118,7 @@ loop_holds c =
     )
 
 row_of_requires : tie.Need-row_of-row-requires invariant_loop decreases_loop
-row_of_requires c κs = omega (arith, (start c.before.before).requires.readable.there, c.loop-p-test.true)
+row_of_requires c κs = omega (arith, (start c.before.before).requires.0.there, c.loop-p-test.true)
 
 wide_requires : tie.Need-wide-kind-requires invariant_loop decreases_loop
 wide_requires c κs = search rules
@@ -132,16 +132,16 @@ array_copy_out_form c = omega (arith, c.wide-kind.ensures.0, in_table_lem c)
 shared_slice_read_mark : tie.Need-bounds-marks-p invariant_loop decreases_loop
 shared_slice_read_mark c =
     let here = turn c.before.before in
-    omega (arith, (start here.before.before).requires.readable.marked, here.if1.taken)
+    omega (arith, (start here.before.before).requires.0.marked, here.if1.taken)
 
 row_count_requires : tie.Need-row_count-rows-requires invariant_loop decreases_loop
 row_count_requires c κs = said c.before.before
 
 add_rows : tie.Need-overflow_add-rows invariant_loop decreases_loop
-add_rows c = omega (arith, (head c).loop-p.invariant.0.few, c.row_count-rows.ensures.within, below c, (start (head c)).requires.readable.few)
+add_rows c = omega (arith, (head c).loop-p.invariant.0.few, c.row_count-rows.ensures.within, below c, (start (head c)).requires.0.few)
 
 add_p : tie.Need-overflow_add-p invariant_loop decreases_loop
-add_p c = omega (arith, below c, (start (head c)).requires.readable.few)
+add_p c = omega (arith, below c, (start (head c)).requires.0.few)
 
 enum_told : tie.Need-enum_told-1 invariant_loop decreases_loop
 enum_told c = search rules

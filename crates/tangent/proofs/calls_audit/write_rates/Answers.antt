@@ -17,4 +17,4 @@ write_result-requires c =
 pub returns : goal.returns
 returns c =
     let args = c.args in
-    rates_written residues args.end args.roles.now args.store.now args.result.now c.write_result.ensures
+    rates_written residues args.end args.roles.now args.store.now args.res.now c.write_result.ensures

@@ -20,17 +20,17 @@ module _ (c : tie.After-plan_tangent-planned) where
   words = c.args.words.now
 
   abbrev marks : List ℕ
-  marks = c.plan-tangent.new.1.0
+  marks = c.plan_tangent-planned.new.marks
 
   abbrev came : List ℕ
-  came = c.plan-tangent.new.1.1.0
+  came = c.plan_tangent-planned.new.came
 
   abbrev goes : List ℕ
-  goes = c.plan-tangent.new.1.1.1.0
+  goes = c.plan_tangent-planned.new.goes
 
   -- the plan, of an arithmetic that divides
-  allowed : PlanSaysIn true tangent_needs_of words marks came goes c.plan-tangent.result
-  allowed = planned_in tangent_needs_of words marks came goes c.plan-tangent.result c.plan-tangent.ensures
+  allowed : PlanSaysIn true tangent_needs_of words marks came goes c.plan_tangent-planned.result
+  allowed = planned_in tangent_needs_of words marks came goes c.plan_tangent-planned.result c.plan_tangent-planned.ensures
 
 plan_tangent_requires : tie.Need-plan_tangent-planned-requires
 plan_tangent_requires c κs = search rules
@@ -63,11 +63,13 @@ enum_told c = search rules
 
 write_planned_requires : tie.Need-write_planned-requires
 write_planned_requires c κs =
-    let room = subst (JudgedAs true tangent_needs_of _ _ _ _ _) c.in-HasRoom.is (c.judge.ensures true tangent_needs_of _ _ _ _ (allowed c.before.before.before.before.before.before.before)) in record { planned = record { came = _; goes = _; made = room.made }; table_fits = room.table_fits }
+    let room = subst (JudgedAs true tangent_needs_of _ _ _ _ _) c.in-HasRoom.is (c.judge.ensures true tangent_needs_of _ _ _ _ (allowed c.before.before.before.before.before.before.before)) in
+    (record { came = _; goes = _; made = room.made }, room.table_fits)
 
 run_written_requires : tie.Need-run_written-requires
 run_written_requires c κs =
-    let room = subst (JudgedAs true tangent_needs_of _ _ _ _ _) c.in-HasRoom.is (c.judge.ensures true tangent_needs_of _ _ _ _ (allowed c.before.before.before.before.before.before.before.before.before.before.before.before.before)) in record { indexed = tangent_indexed room.made c.write_planned.ensures; room = sheet_room _ _ _ room }
+    let room = subst (JudgedAs true tangent_needs_of _ _ _ _ _) c.in-HasRoom.is (c.judge.ensures true tangent_needs_of _ _ _ _ (allowed c.before.before.before.before.before.before.before.before.before.before.before.before.before)) in
+    (tangent_indexed room.made c.write_planned.ensures, sheet_room _ _ _ room)
 
 returns_2 : tie.Need-returns-in-No
 returns_2 c =

@@ -22,19 +22,19 @@ module _ (c : tie.Else-not-assigns) where
   abbrev count : ℕ
   count = line_count (known_by start.args.mark) (line_of_row (row_said start.args.row))
 
-  divided : (eqb start.args.row.kind quotient_kind && c.before.before.bit3.result) ≡ true
-      → quotient_count c.before.before.before.before.bit.result c.before.before.before.bit2.result + 1 ≡ count
+  divided : (eqb start.args.row.kind quotient_kind && c.bit-active.result) ≡ true
+      → quotient_count c.bit-first.result c.bit-second.result + 1 ≡ count
   divided =
-      quotient_row start.pre _ c.before.assigns.ensures c.if1.false c.before.before.bit3.ensures
-      c.before.before.before.before.bit.ensures c.before.before.before.bit2.ensures
+      quotient_row start.requires _ c.assigns.ensures c.if-not-assigns.false c.bit-active.ensures
+      c.bit-first.ensures c.bit-second.ensures
 
-  counted : (eqb start.args.row.kind quotient_kind && c.before.before.bit3.result) ≡ false → {all : Bool}
-      → (((eqb start.args.row.kind 5 && c.before.before.bit3.result) && c.before.before.before.before.bit.result)
-      && c.before.before.before.bit2.result) ≡ all
+  counted : (eqb start.args.row.kind quotient_kind && c.bit-active.result) ≡ false → {all : Bool}
+      → (((eqb start.args.row.kind 5 && c.bit-active.result) && c.bit-first.result)
+      && c.bit-second.result) ≡ all
       → cond all 4 2 ≡ count
   counted =
-      assigned_row start.pre _ c.before.assigns.ensures c.if1.false c.before.before.bit3.ensures
-      c.before.before.before.before.bit.ensures c.before.before.before.bit2.ensures
+      assigned_row start.requires _ c.assigns.ensures c.if-not-assigns.false c.bit-active.ensures
+      c.bit-first.ensures c.bit-second.ensures
 
 bit_requires : tie.Need-bit-first-requires
 bit_requires c κs = search rules

@@ -25,17 +25,17 @@ module _ (c : tie.After-bit-second) where
   abbrev asked : List Row
   asked = active_rates_of v row start.args.mark
 
-  product_here : row.kind ≡ 5 → asked ≡ term_rates v row c.before.bit.result c.bit2.result
-  product_here = of_product v row start.args.mark c.before.bit.ensures c.bit2.ensures
+  product_here : row.kind ≡ 5 → asked ≡ term_rates v row c.bit-first.result c.bit-second.result
+  product_here = of_product v row start.args.mark c.bit-first.ensures c.bit-second.ensures
 
-  sum_here : row.kind ≡ 3 → asked ≡ combined_rate v row c.before.bit.result c.bit2.result 1 ∷ []
-  sum_here = of_sum v row start.args.mark c.before.bit.ensures c.bit2.ensures
+  sum_here : row.kind ≡ 3 → asked ≡ combined_rate v row c.bit-first.result c.bit-second.result 1 ∷ []
+  sum_here = of_sum v row start.args.mark c.bit-first.ensures c.bit-second.ensures
 
-  difference_here : row.kind ≡ 4 → asked ≡ combined_rate v row c.before.bit.result c.bit2.result 6 ∷ []
-  difference_here = of_difference v row start.args.mark c.before.bit.ensures c.bit2.ensures
+  difference_here : row.kind ≡ 4 → asked ≡ combined_rate v row c.bit-first.result c.bit-second.result 6 ∷ []
+  difference_here = of_difference v row start.args.mark c.bit-first.ensures c.bit-second.ensures
 
-  quotient_here : row.kind ≡ quotient_kind → asked ≡ quotient_rates v row c.before.bit.result c.bit2.result
-  quotient_here = of_quotient v row start.args.mark c.before.bit.ensures c.bit2.ensures
+  quotient_here : row.kind ≡ quotient_kind → asked ≡ quotient_rates v row c.bit-first.result c.bit-second.result
+  quotient_here = of_quotient v row start.args.mark c.bit-first.ensures c.bit-second.ensures
 
 -- what is left of an assignment's kinds after the tests
 itself_here : (c : tie.Else-row-eq-QUOTIENT) → asked c.before.before.before.before.before.before.before.before.before.before ≡ row_with (row c.before.before.before.before.before.before.before.before.before.before).kind (v c.before.before.before.before.before.before.before.before.before.before + (row c.before.before.before.before.before.before.before.before.before.before).d) (v c.before.before.before.before.before.before.before.before.before.before + (row c.before.before.before.before.before.before.before.before.before.before).a) 0 ∷ []
@@ -50,7 +50,8 @@ bit_requires_2 : tie.Need-bit-second-requires
 bit_requires_2 c κs = search rules
 
 term_rates_requires : tie.Need-term_rates-requires
-term_rates_requires c κs = record { room = rw (product_here c.before.before.before c.if-row-eq-PRODUCT.true) at (start c.before.before.before).requires.0; small = (start c.before.before.before).requires.1.0 }
+term_rates_requires c κs =
+    (rw (product_here c.before.before.before c.if-row-eq-PRODUCT.true) at (start c.before.before.before).requires.0, (start c.before.before.before).requires.1.0)
 
 same_length : tie.Need-shape_of-table-then-row-eq-PRODUCT
 same_length c = search rules
@@ -60,7 +61,8 @@ returns c =
     rw (product_here c.before.before.before.before.before.before c.if-row-eq-PRODUCT.true) c.term_rates.ensures
 
 combined_rate_requires : tie.Need-combined_rate-requires
-combined_rate_requires c κs = record { room = rw (sum_here c.before.before.before.before.before c.if-row-eq-SUM.true) at (start c.before.before.before.before.before).requires.0; small = (start c.before.before.before.before.before).requires.1.0 }
+combined_rate_requires c κs =
+    (rw (sum_here c.before.before.before.before.before c.if-row-eq-SUM.true) at (start c.before.before.before.before.before).requires.0, (start c.before.before.before.before.before).requires.1.0)
 
 same_length_2 : tie.Need-shape_of-table-then-row-eq-SUM
 same_length_2 c = search rules
@@ -70,7 +72,8 @@ returns_2 c =
     rw (sum_here c.before.before.before.before.before.before.before.before c.if-row-eq-SUM.true) c.combined_rate.ensures
 
 combined_rate_requires_2 : tie.Need-combined_rate-requires-then-row-eq-DIFFERENCE
-combined_rate_requires_2 c κs = record { room = rw (difference_here c.before.before.before.before.before.before.before c.if-row-eq-DIFFERENCE.true) at (start c.before.before.before.before.before.before.before).requires.0; small = (start c.before.before.before.before.before.before.before).requires.1.0 }
+combined_rate_requires_2 c κs =
+    (rw (difference_here c.before.before.before.before.before.before.before c.if-row-eq-DIFFERENCE.true) at (start c.before.before.before.before.before.before.before).requires.0, (start c.before.before.before.before.before.before.before).requires.1.0)
 
 same_length_3 : tie.Need-shape_of-table-then-row-eq-DIFFERENCE
 same_length_3 c = search rules
@@ -94,7 +97,8 @@ returns_4 c =
     rw (of_constant (v c.before.before.before.before.before.before.before.before.before.before.before.before.before) (row c.before.before.before.before.before.before.before.before.before.before.before.before.before) (start c.before.before.before.before.before.before.before.before.before.before.before.before.before).args.mark c.if-row-eq-CONSTANT.true) c.put.ensures
 
 quotient_rates_requires : tie.Need-quotient_rates-requires
-quotient_rates_requires c κs = record { room = rw (quotient_here c.before.before.before.before.before.before.before.before.before.before.before c.if-row-eq-QUOTIENT.true) at (start c.before.before.before.before.before.before.before.before.before.before.before).requires.0; small = (start c.before.before.before.before.before.before.before.before.before.before.before).requires.1.0 }
+quotient_rates_requires c κs =
+    (rw (quotient_here c.before.before.before.before.before.before.before.before.before.before.before c.if-row-eq-QUOTIENT.true) at (start c.before.before.before.before.before.before.before.before.before.before.before).requires.0, (start c.before.before.before.before.before.before.before.before.before.before.before).requires.1.0)
 
 same_length_5 : tie.Need-shape_of-table-then-row-eq-QUOTIENT
 same_length_5 c = search rules

@@ -9,12 +9,12 @@ use Rattle.tangent.proofs.rows.tangent_row.Goals as goal
 pub rates-next-requires : goal.rates-next-requires
 rates-next-requires c =
     let x = c.args in
-    let is = sym c.assigns.ensures ∙ c.if-assigns.taken in record { room = room_first _ _ (rw (when_assigned c.requires.part_said x.variables x.mark is) at c.requires.room); small = (c.requires.small, says_assigns c.requires.part_said (is_assignment x.part is)); assigns =  }
+    let is = sym c.assigns.ensures ∙ c.if-assigns.true in record { room = room_first _ _ (rw (when_assigned c.requires.part_said x.variables x.mark is) at c.requires.room); small = (c.requires.small, says_assigns c.requires.part_said (is_assignment x.part is)); assigns =  }
 
 pub put-requires : goal.put-requires
 put-requires c =
     let x = c.args in
-    let is = sym c.assigns.ensures ∙ c.if-assigns.taken in
+    let is = sym c.assigns.ensures ∙ c.if-assigns.true in
     room_after _ c.rates-next.ensures (rw (when_assigned c.requires.part_said x.variables x.mark is) at c.requires.room)
 
 pub returns-then-assigns : goal.returns-then-assigns
@@ -26,9 +26,9 @@ returns-then-assigns c =
 pub put-requires-2 : goal.put-requires-2
 put-requires-2 c =
     let x = c.args in
-    rw (when_block c.requires.part_said x.variables x.mark (sym c.assigns.ensures ∙ c.if-assigns.left)) at c.requires.room
+    rw (when_block c.requires.part_said x.variables x.mark (sym c.assigns.ensures ∙ c.if-assigns.false)) at c.requires.room
 
 pub returns : goal.returns
 returns c =
     let x = c.args in
-    rw (when_block c.requires.part_said x.variables x.mark (sym c.assigns.ensures ∙ c.if-assigns.left)) c.put-2.ensures
+    rw (when_block c.requires.part_said x.variables x.mark (sym c.assigns.ensures ∙ c.if-assigns.false)) c.put-2.ensures

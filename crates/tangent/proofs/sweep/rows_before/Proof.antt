@@ -32,19 +32,19 @@ module _ (c : tie.After-wide-kind invariant_loop decreases_loop) where
   start = turn.before.before.before.before.before.before
 
   abbrev row_read : Row
-  row_read = row_said c.before.row_of.result
+  row_read = row_said c.row_of-said.result
 
   says : SaysLine row_read
-  says = subst SaysLine (sym c.before.row_of.ensures) (start.pre.0.says _ (omega (arith, turn.if1.taken, start.pre.1)))
+  says = subst SaysLine (sym c.row_of-said.ensures) (start.requires.0.says _ (omega (arith, turn.loop-p-test.true, start.requires.1)))
 
   in_table_lem : row_read.kind ≤ length kinds
   in_table_lem = row_kind says
 
   abbrev part : Part
-  part = (form_in turn.before.before.before.forms.result c.wide.result).3
+  part = (form_in turn.forms-forms.result c.wide-kind.result).3
 
   part_found : part ≡ part_for row_read.kind
-  part_found = part_there turn.before.before.before.forms.ensures c.wide.ensures.0 in_table_lem
+  part_found = part_there turn.forms-forms.ensures c.wide-kind.ensures.0 in_table_lem
 
   said : SaysPart row_read part
   said = says_part _ _ says part_found
@@ -57,7 +57,7 @@ loop_holds c = none_passed _ _ _ _
 
 row_of_requires : tie.Need-row_of-said-requires invariant_loop decreases_loop
 row_of_requires c κs =
-    omega (arith, c.requires.readable.there, c.requires.row_in, c.loop-p-test.true)
+    omega (arith, c.requires.0.there, c.requires.1, c.loop-p-test.true)
 
 wide_requires : tie.Need-wide-kind-requires invariant_loop decreases_loop
 wide_requires c κs = search rules
@@ -70,29 +70,29 @@ array_copy_out_form c = omega (arith, c.wide-kind.ensures.0, in_table_lem c)
 
 shared_slice_read_rows_over : tie.Need-bounds-marks-p invariant_loop decreases_loop
 shared_slice_read_rows_over c =
-    omega (arith, (start c.before.before).requires.0.marked, (start c.before.before).requires.1, (turn c.before.before).if1.true)
+    omega (arith, (start c.before.before).requires.0.marked, (start c.before.before).requires.1, (turn c.before.before).loop-p-test.true)
 
 rows_over_requires : tie.Need-rows_over-rows-requires invariant_loop decreases_loop
 rows_over_requires c κs = said c.before.before
 
 add_rows : tie.Need-overflow_add-rows invariant_loop decreases_loop
 add_rows c =
-    omega (arith, (turn c.before.before.before).before.before.loop.invariant.few, c.rows_over-rows.ensures.1, (turn c.before.before.before).if1.true, (start c.before.before.before).requires.1, (start c.before.before.before).requires.0.few)
+    omega (arith, (turn c.before.before.before).loop-p.invariant.few, c.rows_over-rows.ensures.1, (turn c.before.before.before).loop-p-test.true, (start c.before.before.before).requires.1, (start c.before.before.before).requires.0.few)
 
 add_p : tie.Need-overflow_add-p invariant_loop decreases_loop
 add_p c =
-    omega (arith, (turn c.before.before.before).if1.true, (start c.before.before.before).requires.1, (start c.before.before.before).requires.0.few)
+    omega (arith, (turn c.before.before.before).loop-p-test.true, (start c.before.before.before).requires.1, (start c.before.before.before).requires.0.few)
 
 loop_less : tie.Need-loop-p-smaller invariant_loop decreases_loop
-loop_less c = omega (arith, (turn c.before.before.before).if1.taken)
+loop_less c = omega (arith, (turn c.before.before.before).loop-p-test.true)
 
 loop_again : tie.Need-loop-p-preserved invariant_loop decreases_loop
 loop_again c =
-    one_passed (turn c.before.before.before).before.before.loop.invariant (turn c.before.before.before).if1.true c.row_of-said.ensures c.rows_over-rows.ensures.0 c.rows_over-rows.ensures.1
+    one_passed (turn c.before.before.before).loop-p.invariant (turn c.before.before.before).loop-p-test.true c.row_of-said.ensures c.rows_over-rows.ensures.0 c.rows_over-rows.ensures.1
 
 returns : tie.Need-returns invariant_loop decreases_loop
 returns c =
-    all_passed c.loop-p.invariant c.loop-p-test.false (omega (arith, c.requires.row_in, c.requires.readable.few))
+    all_passed c.loop-p.invariant c.loop-p-test.false (omega (arith, c.requires.1, c.requires.0.few))
 
 pub rows_before_spec : {M : Type 1} → statement M
 rows_before_spec =

@@ -43,7 +43,7 @@ module _ (c : tie.After-wide-kind invariant_loop decreases_loop) where
 
   -- the row that was read says a line
   says : SaysLine (row_said c.row_of-row.result)
-  says = subst SaysLine (sym c.row_of-row.ensures) ((start turn).requires.readable.says _ turn.loop-p-test.taken)
+  says = subst SaysLine (sym c.row_of-row.ensures) ((start turn).requires.1.1.0.says _ turn.loop-p-test.true)
 
   in_table_lem : c.row_of-row.result.kind ≤ length kinds
   in_table_lem = row_kind says
@@ -60,32 +60,32 @@ module _ (c : tie.After-wide-kind invariant_loop decreases_loop) where
   left =
       let x = (start turn).args in
       along_next (tangent_of_line (shape turn).variables) x.words.now (shape turn).first_row x.marks.now _ (shape turn).rows
-      turn.loop-p-test.taken c.row_of-row.ensures
+      turn.loop-p-test.true c.row_of-row.ensures
 
 cast_variables : tie.Need-overflow_cast-variables invariant_loop decreases_loop
 cast_variables c =
-    record { fits = omega (arith, c.requires.small.few) }
+    record { fits = omega (arith, c.requires.1.1.1.0.few) }
 
 forms_requires : tie.Need-forms-forms-requires invariant_loop decreases_loop
 forms_requires c κs = search rules
 
 cast_table : tie.Need-overflow_cast-table invariant_loop decreases_loop
 cast_table c =
-    record { fits = omega (arith, c.requires.rows_few) }
+    record { fits = omega (arith, c.requires.1.1.1.1) }
 
 slice_write_table : tie.Need-bounds-table-0 invariant_loop decreases_loop
 slice_write_table c =
-    omega (arith, c.requires.room.fits)
+    omega (arith, c.requires.0.fits)
 
 loop_holds : tie.Need-loop-p-init invariant_loop decreases_loop
 loop_holds c =
     let x = c.args in
     let whole : x.plan.shape.rows - 0 ≡ x.plan.shape.rows = omega arith in
     let all = ap (tangent_rows_along x.words.now x.plan.shape x.marks.now 0) whole in
-    (omega arith, underway_start _ _ all, jumping_start _ all c.requires.numbered)
+    (omega arith, underway_start _ _ all, jumping_start _ all c.requires.1.0)
 
 row_of_requires : tie.Need-row_of-row-requires invariant_loop decreases_loop
-row_of_requires c κs = omega (arith, (start c).requires.readable.there, c.loop-p-test.true)
+row_of_requires c κs = omega (arith, (start c).requires.1.1.0.there, c.loop-p-test.true)
 
 wide_requires : tie.Need-wide-kind-requires invariant_loop decreases_loop
 wide_requires c κs = search rules
@@ -99,15 +99,18 @@ array_copy_out_form c = omega (arith, c.wide-kind.ensures.0, in_table_lem c)
 shared_slice_read_tangent_row : tie.Need-bounds-marks-p invariant_loop decreases_loop
 shared_slice_read_tangent_row c =
     let here = turn c.before.before.before in
-    omega (arith, (start here).requires.readable.marked, here.loop-test.taken)
+    omega (arith, (start here).requires.1.1.0.marked, here.loop-test.taken)
 
 tangent_row_requires : tie.Need-tangent_row-next-requires invariant_loop decreases_loop
 tangent_row_requires c κs =
     let here = turn c.before.before.before in
-    let given = (start here).requires in record { room = room_first _ _ (rw (left c.before.before.before) at (underway_room here.before.loop.inv.1 (room_kept 0 _ given.0))); part_said = (
+    let given = (start here).requires in (
+      room_first _ _ (rw (left c.before.before.before) at (underway_room here.before.loop.inv.1 (room_kept 0 _ given.0))),
+      (
         said c.before.before.before,
         subst (SmallWords (shape here).variables) (sym c.row_of-row.ensures) (given.1.1.1.0.small _ here.loop-test.taken),
-      ); small =  }
+      ),
+    )
 
 forward_requires : tie.Need-forward-what-requires invariant_loop decreases_loop
 forward_requires c κs = search rules
@@ -119,10 +122,10 @@ note_requires c κs =
 add_p : tie.Need-overflow_add-p invariant_loop decreases_loop
 add_p c =
     let here = turn c.before.before.before.before.before.before.before.before.before in
-    omega (arith, here.loop-test.taken, (start here).requires.readable.few)
+    omega (arith, here.loop-test.taken, (start here).requires.1.1.0.few)
 
 loop_less : tie.Need-loop-p-smaller invariant_loop decreases_loop
-loop_less c = omega (arith, (turn c.before.before.before.before.before.before.before.before.before).loop-p-test.taken)
+loop_less c = omega (arith, (turn c.before.before.before.before.before.before.before.before.before).loop-p-test.true)
 
 loop_again : tie.Need-loop-p-preserved invariant_loop decreases_loop
 loop_again c =

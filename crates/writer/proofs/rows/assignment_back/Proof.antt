@@ -16,12 +16,13 @@ put_if_requires : tie.Need-put_if-taken-requires
 put_if_requires c κs =
     let x = (start c.before).args in
     let rows = assignment_rows x.variables (row_said x.row) x.mark c.bit-saved.ensures in
-    room_first _ _ (rw rows at (start c.before).requires.room)
+    room_first _ _ (rw rows at (start c.before).requires.0)
 
 derivatives_requires : tie.Need-derivatives-requires
 derivatives_requires c κs =
     let x = (start c.before.before.before.before.before).args in
-    let rows = assignment_rows x.variables (row_said x.row) x.mark c.bit-saved.ensures in let whole = (room_after _ c.put_if-taken.ensures (rw rows at (start c.before.before.before.before.before).requires.room), (start c.before.before.before.before.before).requires.small) in record { room = whole.0; small = whole.1; assigns = whole.2 }
+    let rows = assignment_rows x.variables (row_said x.row) x.mark c.bit-saved.ensures in
+    (room_after _ c.put_if-taken.ensures (rw rows at (start c.before.before.before.before.before).requires.0), (start c.before.before.before.before.before).requires.1)
 
 same_length : tie.Need-shape_of-table
 same_length c = search rules

@@ -38,15 +38,16 @@ t_of_requires c κs = search rules
 
 put_requires : tie.Need-put-held-requires
 put_requires c κs =
-    room_first _ _ (rw (active_are c.before) at (start c.before.before.before).requires.room)
+    room_first _ _ (rw (active_are c.before) at (start c.before.before.before).requires.0)
 
 put_requires_2 : tie.Need-put-cleared-requires
 put_requires_2 c κs =
-    room_first _ _ (room_after _ c.put-held.ensures (rw (active_are c.before.before.before.before.before) at (start c.before.before.before.before.before.before.before).requires.room))
+    room_first _ _ (room_after _ c.put-held.ensures (rw (active_are c.before.before.before.before.before) at (start c.before.before.before.before.before.before.before).requires.0))
 
 parts_requires : tie.Need-parts-requires
 parts_requires c κs =
-    let given = (start c.before.before.before.before.before.before.before.before.before.before.before).requires in let whole = (room_after _ c.put-cleared.ensures (room_after _ c.put-held.ensures (rw (active_are c.before.before.before.before.before.before.before.before.before) at given.0)), given.1) in record { room = whole.0; small = whole.1; assigns = whole.2 }
+    let given = (start c.before.before.before.before.before.before.before.before.before.before.before).requires in
+    (room_after _ c.put-cleared.ensures (room_after _ c.put-held.ensures (rw (active_are c.before.before.before.before.before.before.before.before.before) at given.0)), given.1)
 
 same_length : tie.Need-shape_of-table-then-active
 same_length c = search rules
@@ -58,7 +59,7 @@ returns c =
 put_requires_3 : tie.Need-put-cleared-requires-2
 put_requires_3 c κs =
     let inactive = is_inactive c.before in
-    rw inactive_rows at (start c.before.before).requires.room
+    rw inactive_rows at (start c.before.before).requires.0
 
 same_length_2 : tie.Need-shape_of-table
 same_length_2 c = search rules

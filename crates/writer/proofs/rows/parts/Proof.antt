@@ -19,8 +19,8 @@ is_t c = c.t_of-t.ensures
 -- what is left of an assignment's kinds after the tests
 sum_or_difference : (c : tie.Else-row-eq-QUOTIENT) → let kind = (start c.before.before.before.before.before.before.before.before.before.before).args.row.kind in (3 ≤ kind) × (kind ≤ 4)
 sum_or_difference c =
-    let most = (start c.before.before.before.before.before.before.before.before.before.before).requires.assigns.most c.if-row-eq-QUOTIENT.false in
-    (omega (arith, (start c.before.before.before.before.before.before.before.before.before.before).requires.assigns.some), omega arith)
+    let most = (start c.before.before.before.before.before.before.before.before.before.before).requires.1.1.most c.if-row-eq-QUOTIENT.false in
+    (omega (arith, (start c.before.before.before.before.before.before.before.before.before.before).requires.1.1.some), omega arith)
 
 t_of_requires : tie.Need-t_of-t-requires
 t_of_requires c κs = search rules
@@ -41,7 +41,7 @@ put_if_requires : tie.Need-put_if-requires
 put_if_requires c κs =
     let x = (start c.before.before.before).args in
     let rows = copy_rows x.variables (row_said x.row) x.mark c.bit-first.ensures (is_t c.before.before.before) c.if-row-eq-COPY.true in
-    rw rows at (start c.before.before.before).requires.room
+    rw rows at (start c.before.before.before).requires.0
 
 same_length : tie.Need-shape_of-table-then-row-eq-COPY
 same_length c = search rules
@@ -61,7 +61,7 @@ put_if_requires_2 : tie.Need-put_if-requires-then-row-eq-NEGATION
 put_if_requires_2 c κs =
     let x = (start c.before.before.before.before.before.before.before).args in
     let rows = negation_rows x.variables (row_said x.row) x.mark c.bit-first.ensures (is_t c.before.before.before.before.before.before.before) c.if-row-eq-NEGATION.true in
-    rw rows at (start c.before.before.before.before.before.before.before).requires.room
+    rw rows at (start c.before.before.before.before.before.before.before).requires.0
 
 same_length_2 : tie.Need-shape_of-table-then-row-eq-NEGATION
 same_length_2 c = search rules
@@ -76,13 +76,15 @@ scaled_requires : tie.Need-scaled-added_to_a-requires
 scaled_requires c κs =
     let x = (start c.before.before.before.before.before.before.before.before.before).args in
     let rows = product_rows x.variables (row_said x.row) x.mark c.bit-first.ensures c.bit-second.ensures c.if-row-eq-PRODUCT.true in
-    let given = (start c.before.before.before.before.before.before.before.before.before).requires in record { room = room_first _ _ (rw rows at given.0); small = (given.1.0.few, given.1.0.a) }
+    let given = (start c.before.before.before.before.before.before.before.before.before).requires in
+    (room_first _ _ (rw rows at given.0), (given.1.0.few, given.1.0.a))
 
 scaled_requires_2 : tie.Need-scaled-requires
 scaled_requires_2 c κs =
     let x = (start c.before.before.before.before.before.before.before.before.before.before.before.before.before).args in
     let rows = product_rows x.variables (row_said x.row) x.mark c.bit-first.ensures c.bit-second.ensures c.if-row-eq-PRODUCT.true in
-    let given = (start c.before.before.before.before.before.before.before.before.before.before.before.before.before).requires in record { room = room_after _ c.scaled-added_to_a.ensures (rw rows at given.0); small = (given.1.0.few, given.1.0.b) }
+    let given = (start c.before.before.before.before.before.before.before.before.before.before.before.before.before).requires in
+    (room_after _ c.scaled-added_to_a.ensures (rw rows at given.0), (given.1.0.few, given.1.0.b))
 
 same_length_3 : tie.Need-shape_of-table-then-row-eq-PRODUCT
 same_length_3 c = search rules
@@ -97,7 +99,8 @@ divided_requires : tie.Need-divided-requires
 divided_requires c κs =
     let x = (start c.before.before.before.before.before.before.before.before.before.before.before).args in
     let rows = quotient_rows x.variables (row_said x.row) x.mark c.bit-first.ensures c.bit-second.ensures c.if-row-eq-QUOTIENT.true in
-    let given = (start c.before.before.before.before.before.before.before.before.before.before.before).requires in record { room = rw rows at given.0; small = (given.1.0.few, (given.1.0.a, given.1.0.b)) }
+    let given = (start c.before.before.before.before.before.before.before.before.before.before.before).requires in
+    (rw rows at given.0, (given.1.0.few, (given.1.0.a, given.1.0.b)))
 
 same_length_4 : tie.Need-shape_of-table-then-row-eq-QUOTIENT
 same_length_4 c = search rules
@@ -112,13 +115,13 @@ put_if_requires_3 : tie.Need-put_if-added-requires
 put_if_requires_3 c κs =
     let x = (start c.before.before.before.before.before.before.before.before.before.before.before).args in
     let rows = two_rows x.variables (row_said x.row) x.mark c.bit-first.ensures c.bit-second.ensures (is_t c.before.before.before.before.before.before.before.before.before.before.before) (sum_or_difference c.before) in
-    room_first _ _ (rw rows at (start c.before.before.before.before.before.before.before.before.before.before.before).requires.room)
+    room_first _ _ (rw rows at (start c.before.before.before.before.before.before.before.before.before.before.before).requires.0)
 
 put_if_requires_4 : tie.Need-put_if-requires-2
 put_if_requires_4 c κs =
     let x = (start c.before.before.before.before.before.before.before.before.before.before.before.before.before.before.before).args in
     let rows = two_rows x.variables (row_said x.row) x.mark c.bit-first.ensures c.bit-second.ensures (is_t c.before.before.before.before.before.before.before.before.before.before.before.before.before.before.before) (sum_or_difference c.before.before.before.before.before) in
-    room_after _ c.put_if-added.ensures (rw rows at (start c.before.before.before.before.before.before.before.before.before.before.before.before.before.before.before).requires.room)
+    room_after _ c.put_if-added.ensures (rw rows at (start c.before.before.before.before.before.before.before.before.before.before.before.before.before.before.before).requires.0)
 
 same_length_5 : tie.Need-shape_of-table
 same_length_5 c = search rules

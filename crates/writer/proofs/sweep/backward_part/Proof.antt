@@ -48,7 +48,7 @@ there c = omega (arith, visit c)
 -- the row that was read says a line
 says : (c : tie.After-wide-kind invariant_loop decreases_loop) → SaysLine (row_said c.row_of-row.result)
 says c =
-    subst SaysLine (sym c.row_of-row.ensures) ((start c.before.before).requires.readable.says _ (there c.before.before))
+    subst SaysLine (sym c.row_of-row.ensures) ((start c.before.before).requires.1.1.0.says _ (there c.before.before))
 
 in_table_lem : (c : tie.After-wide-kind invariant_loop decreases_loop) → c.row_of-row.result.kind ≤ length kinds
 in_table_lem c = row_kind (says c)
@@ -68,7 +68,7 @@ leads : (c : tie.After-wide-kind invariant_loop decreases_loop) → leads_on (pa
 leads c e = (visit c.before.before).leads (ap leads_on (sym ((said c).is ∙ ap (λ r. part_of (line_of_row r)) c.row_of-row.ensures)) ∙ e)
 
 cast_variables : tie.Need-overflow_cast-variables invariant_loop decreases_loop
-cast_variables c = record { fits = omega (arith, c.requires.walkable.few) }
+cast_variables c = record { fits = omega (arith, c.requires.1.1.1.few) }
 
 forms_requires : tie.Need-forms-forms-requires invariant_loop decreases_loop
 forms_requires c κs = search rules
@@ -82,7 +82,7 @@ sub_q : tie.Need-overflow_sub-q invariant_loop decreases_loop
 sub_q c = omega (arith, visit c)
 
 row_of_requires : tie.Need-row_of-row-requires invariant_loop decreases_loop
-row_of_requires c κs = omega (arith, visit c, (start c).requires.readable.there)
+row_of_requires c κs = omega (arith, visit c, (start c).requires.1.1.0.there)
 
 wide_requires : tie.Need-wide-kind-requires invariant_loop decreases_loop
 wide_requires c κs = search rules
@@ -95,18 +95,21 @@ array_copy_out_form c = omega (arith, c.wide-kind.ensures.0, in_table_lem c)
 
 turns_back_requires : tie.Need-turns_back-turns-requires invariant_loop decreases_loop
 turns_back_requires c κs =
-    let given = (start c.before.before.before).requires.readable in
+    let given = (start c.before.before.before).requires.1.1 in
     (omega (arith, there c.before.before.before, given.1.goes_there), λ e. omega (arith, leads c.before e, given.0.there))
 
 shared_slice_read_backward_row : tie.Need-bounds-marks-q invariant_loop decreases_loop
 shared_slice_read_backward_row c =
-    omega (arith, visit c.before.before.before.before.before.before, (start c.before.before.before.before.before.before).requires.readable.marked)
+    omega (arith, visit c.before.before.before.before.before.before, (start c.before.before.before.before.before.before).requires.1.1.0.marked)
 
 backward_row_requires : tie.Need-backward_row-next-requires invariant_loop decreases_loop
 backward_row_requires c κs =
     let is = c.row_of-row.ensures in
     let given = (start c.before.before.before.before.before.before).requires in
-    let left = backward_next (handed_to c.before.before.before.before.before.before) _ _ c.loop-left-test.true is (said c.before.before.before.before).is c.turns_back-turns.ensures refl in record { room = room_first _ _ (rw left at (underway_room c.loop-left.invariant.1 given.0)); part_said = (said c.before.before.before.before, subst (SmallWords (handed_to c.before.before.before.before.before.before).variables) (sym is) (given.1.1.1.small _ (there c.before.before.before.before.before.before))); small =  }
+    let left = backward_next (handed_to c.before.before.before.before.before.before) _ _ c.loop-left-test.true is (said c.before.before.before.before).is c.turns_back-turns.ensures refl in (
+      room_first _ _ (rw left at (underway_room c.loop-left.invariant.1 given.0)),
+      (said c.before.before.before.before, subst (SmallWords (handed_to c.before.before.before.before.before.before).variables) (sym is) (given.1.1.1.small _ (there c.before.before.before.before.before.before))),
+    )
 
 backward_requires : tie.Need-backward-what-requires invariant_loop decreases_loop
 backward_requires c κs = search rules
@@ -119,7 +122,7 @@ note_requires c κs =
 
 step_back_requires : tie.Need-step_back-end-requires invariant_loop decreases_loop
 step_back_requires c κs =
-    let given = (start c.before.before.before.before.before.before.before.before.before.before.before.before).requires.walkable in
+    let given = (start c.before.before.before.before.before.before.before.before.before.before.before.before).requires.1.1.1 in
     let here = there c.before.before.before.before.before.before.before.before.before.before.before.before in
     (omega (arith, here, given.came_there), omega (arith, here, given.goes_there), λ e. omega (arith, leads c.before.before.before.before.before.before.before.before.before.before e, given.goes_there))
 

@@ -36,7 +36,7 @@ start c = c.before.before.before.before.before.before
 -- the row that was read says a line
 says : (c : tie.After-wide-kind invariant_loop decreases_loop) → SaysLine (row_said c.row_of-row.result)
 says c =
-    subst SaysLine (sym c.row_of-row.ensures) ((start c.before.before).requires.readable.says _ c.loop-p-test.true)
+    subst SaysLine (sym c.row_of-row.ensures) ((start c.before.before).requires.1.1.says _ c.loop-p-test.true)
 
 in_table_lem : (c : tie.After-wide-kind invariant_loop decreases_loop) → c.row_of-row.result.kind ≤ length kinds
 in_table_lem c = row_kind (says c)
@@ -66,10 +66,10 @@ loop_holds c =
     let x = c.args in
     let whole : x.shape.rows - 0 ≡ x.shape.rows = omega arith in
     let all = ap (forward_rows x.words.now x.shape.first_row x.marks.now 0) whole in
-    (omega arith, underway_start _ _ all, jumping_start _ all c.requires.numbered)
+    (omega arith, underway_start _ _ all, jumping_start _ all c.requires.1.0)
 
 row_of_requires : tie.Need-row_of-row-requires invariant_loop decreases_loop
-row_of_requires c κs = omega (arith, (start c).requires.readable.there, c.loop-p-test.true)
+row_of_requires c κs = omega (arith, (start c).requires.1.1.there, c.loop-p-test.true)
 
 wide_requires : tie.Need-wide-kind-requires invariant_loop decreases_loop
 wide_requires c κs = search rules
@@ -82,10 +82,11 @@ array_copy_out_form c = omega (arith, c.wide-kind.ensures.0, in_table_lem c)
 
 shared_slice_read_forward_row : tie.Need-bounds-marks-p invariant_loop decreases_loop
 shared_slice_read_forward_row c =
-    omega (arith, (start c.before.before.before.before.before).requires.readable.marked, c.loop-p-test.true)
+    omega (arith, (start c.before.before.before.before.before).requires.1.1.marked, c.loop-p-test.true)
 
 forward_row_requires : tie.Need-forward_row-next-requires invariant_loop decreases_loop
-forward_row_requires c κs = record { room = room_first _ _ (rw (left c.before.before.before.before) at (underway_room c.loop-p.invariant.1 (start c.before.before.before.before.before).requires.room)); part_said = said c.before.before.before }
+forward_row_requires c κs =
+    (room_first _ _ (rw (left c.before.before.before.before) at (underway_room c.loop-p.invariant.1 (start c.before.before.before.before.before).requires.0)), said c.before.before.before)
 
 forward_requires : tie.Need-forward-what-requires invariant_loop decreases_loop
 forward_requires c κs = search rules
@@ -97,7 +98,7 @@ note_requires c κs =
 
 add_p : tie.Need-overflow_add-p invariant_loop decreases_loop
 add_p c =
-    omega (arith, c.loop-p-test.true, (start c.before.before.before.before.before.before.before.before.before.before.before).requires.readable.few)
+    omega (arith, c.loop-p-test.true, (start c.before.before.before.before.before.before.before.before.before.before.before).requires.1.1.few)
 
 loop_less : tie.Need-loop-p-smaller invariant_loop decreases_loop
 loop_less c = omega (arith, c.loop-p-test.true)
