@@ -103,7 +103,7 @@ module _ (words : List ℕ) (sheet : Sheet) (is : Read words sheet) where
 pub refused_in : (divides : Bool) (words : List ℕ) (r : Refusal) → read words ≡ refused r → read_in divides words ≡ refused r
 unfolding read_in
 refused_in true words r e = e
-refused_in false words r e = quotient_laws.refused-in words r e
+refused_in false words r e = quotient_laws.refused_in words r e
 
 module _ (words : List ℕ) (sheet : Sheet) (is : Read words sheet) (e : read words ≡ given sheet) where
   pub held_in : (divides : Bool) (i : ℕ) → divides ≡ false → First (QuotientAt words) i → read_in divides words ≡ refused (holds_quotient (row_place words i))

@@ -185,7 +185,7 @@ module _ (xs : List ℕ) where
   AllJump p lines = (i : ℕ) → JumpsAt (p + i) (drop i lines)
 
   all_jump : (p : ℕ) (line : TableLine) (rest : List TableLine) → JumpsAt p (line ∷ rest) → AllJump (suc p) rest → AllJump p (line ∷ rest)
-  all_jump p line rest here later zero = let e : p + 0 ≡ p = omega arith in rw e here
+  all_jump p line rest here later zero = let e : p + 0 ≡ p = omega arith in subst (λ q. JumpsAt q (line ∷ rest)) (sym e) here
   all_jump p line rest here later (suc i) = let e : p + suc i ≡ suc p + i = omega arith in rw e (later i)
 
   tree_jumps : (t : Table) (p : ℕ) (rest : List TableLine) → GoesOn xs t p → (q : ℕ) → q ≡ p + rows t → AllJump q rest → AllJump p (flat t rest)

@@ -307,10 +307,10 @@ module _ (A : Arithmetic) (setting : Setting A) (sections : setting.variables �
         unfolding step_at
         while_passes zero around memory now enough ends =
             end_passes around memory enough (suc m) _ refl
-            (subst EndsBy (asks_with A setting f m _ p around memory now) (ends_by (at_row A p around memory) _ here ends))
+            (subst EndsBy (asks_with A setting f m (flat a (end_repeat ∷ rest)) p around memory now) (ends_by (at_row A p around memory) _ here ends))
         while_passes (suc left) around memory now enough ends =
             by_answer (compared A f memory.store)
-            (subst EndsBy (asks_with A setting f m _ p around memory now) (ends_by (at_row A p around memory) _ here ends))
+            (subst EndsBy (asks_with A setting f m (flat a (end_repeat ∷ rest)) p around memory now) (ends_by (at_row A p around memory) _ here ends))
             (λ next. while_passes left (loop_at p true left ∷ repeats) next (same_pending A p repeats left next (suc m)))
           where
             by_answer : (answer : Option Bool)

@@ -5,7 +5,7 @@ use borrow.Author.Rules.{rules}
 use Rattle.sheet.proofs.blocks.end_if.Goals as goal
 
 pub returns-in_default : goal.returns-in_default
-returns-in_default c = not_second c.args.block _ _ c.in_default.in_default-own.keys2
+returns-in_default c = not_second c.args.block _ _ c.in_default.not-Second
 
 pub returns : goal.returns
 unfolding if_end_of

@@ -16,7 +16,7 @@ enum_known_block : tie.Need-enum_known-block
 enum_known_block c = search rules
 
 returns : tie.Need-returns-in_default
-returns c = not_repeat c.args.block _ _ c.in_default.in_default-own.keys2
+returns c = not_repeat c.args.block _ _ c.in_default.not-Turns
 
 wide_requires : tie.Need-wide-requires
 wide_requires c κs = search rules

@@ -5,7 +5,7 @@ use borrow.Author.Rules.{rules}
 use Rattle.sheet.proofs.blocks.split.Goals as goal
 
 pub returns-in_default : goal.returns-in_default
-returns-in_default c = not_first c.args.block _ c.in_default.in_default-own.keys2
+returns-in_default c = not_first c.args.block _ c.in_default.not-First
 
 pub returns : goal.returns
 unfolding split_of
