@@ -124,8 +124,8 @@ tangent_lengths words starts rates before after answer contract zero =
 -- ---- both runs
 
 module _ (words starts seeds rates : List ℕ) (before after before' after' : Lent residues) (adjoint tangent : Reply)
-    (adjoint_ran : ran_of residues adjoint after ≡ run residues words starts seeds before)
-    (tangent_ran : ran_of residues tangent after' ≡ run_tangent residues words starts rates before')
+    (adjoint_did : ran_of residues adjoint after ≡ run residues words starts seeds before)
+    (tangent_did : ran_of residues tangent after' ≡ run_tangent residues words starts rates before')
     (kept : length after.result ≡ length before.result) (kept' : length after'.result ≡ length before'.result) where
   pub both_long : adjoint.number ≡ 0 → tangent.number ≡ 0 → HalvesLong (length starts) seeds rates after.result after'.result
   both_long zero zero' =
@@ -157,8 +157,8 @@ module _ (words starts seeds rates : List ℕ) (before after before' after' : Le
       let number' = ap (λ reply. reply.number) same' in
       record {
         long = λ zero zero'. both_long (sym number ∙ zero) (sym number' ∙ zero');
-        adjoint_ran = ap (λ reply. ran_of residues reply after) same ∙ adjoint_ran;
-        tangent_ran = ap (λ reply. ran_of residues reply after') same' ∙ tangent_ran;
+        adjoint_ran = ap (λ reply. ran_of residues reply after) same ∙ adjoint_did;
+        tangent_ran = ap (λ reply. ran_of residues reply after') same' ∙ tangent_did;
         sums = λ zero zero'. let told = is ∙ ap chosen (done_both adjoint tangent (sym number ∙ zero) (sym number' ∙ zero')) in
             (ap (λ sums. sums.of_rates) told, ap (λ sums. sums.of_adjoints) told);
         none = λ refused. let told = is ∙ ap chosen (not_both adjoint tangent (as_handed number number' refused)) in

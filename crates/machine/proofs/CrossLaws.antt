@@ -303,7 +303,7 @@ module _ {A : Arithmetic} where
   unfolding step_at
   asked_step branch {most} {at} next pends setting rest f m repeats cells held is test shallow opened =
       let state = state_at A (preceding next at) repeats cells held in
-      rw (sym is, test, pending_left state most repeats, pending_outer state most repeats, sym (pends.left repeats shallow opened))
+      rw (test, pending_left state (suc m) repeats, pending_outer state (suc m) repeats, sym is, sym (pends.left repeats shallow opened))
 
   module _ {branch : Branch} {most : ℕ} {keeps : Bool} {beyond : List ℕ} {at : ℕ} {next : Place} {turns bodies to_come : List ℕ} {found : Pending}
       (pends : Pends most at next.depth bodies to_come found) where

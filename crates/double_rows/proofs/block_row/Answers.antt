@@ -8,10 +8,11 @@ block_at-requires c =
     c.requires.indexed.within
 
 pub test-branch-requires : goal.test-branch-requires
-test-branch-requires c = let whole = (
-      first_there c.args.place c.block_at.ensures c.in-Ask.is c.requires,
-      second_there c.args.place c.block_at.ensures c.in-Ask.is c.requires,
-    ) in record { a_in = whole.0; b_in = whole.1 }
+test-branch-requires c =
+    record {
+      a_in = first_there c.args.place c.block_at.ensures c.in-Ask.is c.requires;
+      b_in = second_there c.args.place c.block_at.ensures c.in-Ask.is c.requires;
+    }
 
 pub returns-in-Out : goal.returns-in-Out
 returns-in-Out c =

@@ -5,12 +5,6 @@ use borrow.Author.Rules.{rules}
 use Rattle.number.specs.Residues.{residues}
 use Rattle.machine.specs.Inner.Buffers.{cells_of}
 use Rattle.machine.proofs.RunLaws.{still_indexed, still_indexes, first_indexed, Invariant, Inner, run_starts, inner_starts, straight_fewer, inner_goes, straight_stops, straight_sticks, block_fewer, block_goes, block_ends}
-use Rattle.residue_rows.proofs.run_rows.Reads as reads
-use Rattle.machine.proofs.places.first_place.Reads as first_place_reads
-use Rattle.machine.proofs.places.left_at.Reads as left_at_reads
-use Rattle.machine.proofs.rows.reach.Reads as reach_reads
-use Rattle.residue_rows.proofs.straight_row.Reads as straight_row_reads
-use Rattle.residue_rows.proofs.block_row.Reads as block_row_reads
 use Rattle.residue_rows.proofs.run_rows.Statement.{statement}
 use Rattle.residue_rows.proofs.run_rows.Tie as tie
 
@@ -46,25 +40,7 @@ decreases_run table rows beyond keeps roles constants seeds store₀ values₀ t
 
 -- what is known once a straight row's code has answered
 abbrev Answered : Type 0
-Answered =
-    lts.After-straight-row (
-      first_place_reads.Asked,
-      first_place_reads.Learnt,
-      reach_reads.Asked,
-      reach_reads.Learnt,
-      straight_row_reads.Asked,
-      straight_row_reads.Learnt,
-      left_at_reads.Asked,
-      left_at_reads.Learnt,
-      block_row_reads.Asked,
-      block_row_reads.Learnt,
-    )
-    reads.Pre
-    reads.Post
-    invariant_loop
-    decreases_loop
-    invariant_run
-    decreases_run
+Answered = tie.After-straight_row invariant_loop decreases_loop invariant_run decreases_run
 
 -- the inner loop's head, the outer loop's, and the call
 abbrev Turn : Type 0
@@ -126,7 +102,7 @@ block_row_requires : tie.Need-block_row-requires invariant_loop decreases_loop i
 block_row_requires c κs =
     let a : Answered = search in
     let t = turn a in
-    still_indexes (a.straight-row.kept.1.1.1.1.1.0 ∙ t.loop.inv.lengths.store ∙ (outer t).run.inv.lengths.store) (start t).pre.0
+    still_indexes (a.straight_row.auto.store ∙ t.loop-next.invariant.lengths.store ∙ (outer t).run.invariant.lengths.store) (start t).requires.0
 
 enum_known_next_2 : tie.Need-enum_known-next-in-On-block_row invariant_loop decreases_loop invariant_run decreases_run
 enum_known_next_2 c = search rules
@@ -134,15 +110,15 @@ enum_known_next_2 c = search rules
 run_less : tie.Need-run-smaller invariant_loop decreases_loop invariant_run decreases_run
 run_less c =
     let a : Answered = search in
-    block_fewer _ (turn a).loop.inv a.straight-row.ensures
-    (outer (turn a)).run.inv c.block_row.ensures
+    block_fewer _ (turn a).loop-next.invariant a.straight_row.ensures
+    (outer (turn a)).run.invariant c.block_row.ensures
     c.in-On-block_row.is
 
 run_again : tie.Need-run-preserved invariant_loop decreases_loop invariant_run decreases_run
 run_again c =
     let a : Answered = search in
-    block_goes _ (turn a).loop.inv a.straight-row.ensures
-    (outer (turn a)).run.inv c.block_row.ensures
+    block_goes _ (turn a).loop-next.invariant a.straight_row.ensures
+    (outer (turn a)).run.invariant c.block_row.ensures
     c.in-Block.is c.in-On-block_row.is
     (search rules)
 
@@ -167,8 +143,8 @@ same_length_4 c = search rules
 returns : tie.Need-returns-in-Stopped invariant_loop decreases_loop invariant_run decreases_run
 returns c =
     let a : Answered = search in
-    straight_stops _ (turn a).loop.inv a.straight-row.ensures
-    (outer (turn a)).run.inv c.in-Stopped.is refl c.left_at.ensures
+    straight_stops _ (turn a).loop-next.invariant a.straight_row.ensures
+    (outer (turn a)).run.invariant c.in-Stopped.is refl c.left_at.ensures
 
 same_length_5 : tie.Need-shape_of-store-in-Stuck invariant_loop decreases_loop invariant_run decreases_run
 same_length_5 c = search rules
@@ -185,39 +161,39 @@ same_length_8 c = search rules
 returns_2 : tie.Need-returns-in-Stuck invariant_loop decreases_loop invariant_run decreases_run
 returns_2 c =
     let a : Answered = search in
-    straight_sticks _ (turn a).loop.inv a.straight-row.ensures
-    (outer (turn a)).run.inv c.in-Stuck.is c.left_at-in-Stuck.ensures
+    straight_sticks _ (turn a).loop-next.invariant a.straight_row.ensures
+    (outer (turn a)).run.invariant c.in-Stuck.is c.left_at-in-Stuck.ensures
 
 same_length_9 : tie.Need-shape_of-store-in-Out invariant_loop decreases_loop invariant_run decreases_run
 same_length_9 c =
     let a : Answered = search in
-    a.straight-row.kept.1.1.1.1.1.0 ∙ (turn a).loop.inv.lengths.store
-    ∙ (outer (turn a)).run.inv.lengths.store
+    a.straight_row.auto.store ∙ (turn a).loop-next.invariant.lengths.store
+    ∙ (outer (turn a)).run.invariant.lengths.store
 
 same_length_10 : tie.Need-shape_of-values-in-Out invariant_loop decreases_loop invariant_run decreases_run
 same_length_10 c =
     let a : Answered = search in
-    a.straight-row.kept.1.1.1.1.1.1.0 ∙ (turn a).loop.inv.lengths.values
-    ∙ (outer (turn a)).run.inv.lengths.values
+    a.straight_row.kept.1.1.1.1.1.1.0 ∙ (turn a).loop-next.invariant.lengths.values
+    ∙ (outer (turn a)).run.invariant.lengths.values
 
 same_length_11 : tie.Need-shape_of-turns-in-Out invariant_loop decreases_loop invariant_run decreases_run
 same_length_11 c =
     let a : Answered = search in
     c.block_row.auto.turns
-    ∙ a.straight-row.kept.1.1.1.1.1.1.1.0 ∙ (turn a).loop.inv.lengths.turns
-    ∙ (outer (turn a)).run.inv.lengths.turns
+    ∙ a.straight_row.kept.1.1.1.1.1.1.1.0 ∙ (turn a).loop-next.invariant.lengths.turns
+    ∙ (outer (turn a)).run.invariant.lengths.turns
 
 same_length_12 : tie.Need-shape_of-copied-in-Out invariant_loop decreases_loop invariant_run decreases_run
 same_length_12 c =
     let a : Answered = search in
-    a.straight-row.kept.1.1.1.1.1.1.1.1.0 ∙ (turn a).loop.inv.lengths.copied
-    ∙ (outer (turn a)).run.inv.lengths.copied
+    a.straight_row.kept.1.1.1.1.1.1.1.1.0 ∙ (turn a).loop-next.invariant.lengths.copied
+    ∙ (outer (turn a)).run.invariant.lengths.copied
 
 returns_3 : tie.Need-returns-in-Out invariant_loop decreases_loop invariant_run decreases_run
 returns_3 c =
     let a : Answered = search in
-    block_ends _ (turn a).loop.inv a.straight-row.ensures
-    (outer (turn a)).run.inv c.block_row.ensures
+    block_ends _ (turn a).loop-next.invariant a.straight_row.ensures
+    (outer (turn a)).run.invariant c.block_row.ensures
     c.in-Block.is
     c.in-Out.is c.left_at-in-Out.ensures
 

@@ -14,10 +14,14 @@ write_table-requires c =
     let lies = planned_lies made in
     let few = lies.few_rows in
     let right = all_right lies _ _ _ made.planned.noted in
-    let counted = counts_rows made in let whole = (
-      room_right _ right _ counted _ c.requires.table_fits,
-      (rows_numbered _ right _ counted (planned_few made), (readable lies _ (omega arith), (words_small lies, planned_few made))),
-    ) in record { room = whole.0; numbered = whole.1; readable = whole.2; small = whole.3; rows_few = whole.4 }
+    let counted = counts_rows made in
+    record {
+      room = room_right _ right _ counted _ c.requires.table_fits;
+      numbered = rows_numbered _ right _ counted (planned_few made);
+      readable = readable lies _ (omega arith);
+      small = words_small lies;
+      rows_few = planned_few made;
+    }
 
 pub returns : goal.returns
 returns c =

@@ -10,8 +10,7 @@ use Rattle.plain.proofs.cells.laid.Goals as goal
 pub loop-i-init : goal.loop-i-init
 loop-i-init c =
     let x = c.args in
-    let pre = c.requires in
-    laying_starts x.roles.now x.starts.now x.rates.now _ pre.0 pre.1.0 pre.1.1 refl
+    laying_starts x.roles.now x.starts.now x.rates.now _ c.requires.roles_few c.requires.starts_fit c.requires.rates_fit refl
 
 pub offset_bounds-starts-i : goal.offset_bounds-starts-i
 offset_bounds-starts-i c = omega arith

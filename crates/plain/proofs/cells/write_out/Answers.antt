@@ -10,8 +10,7 @@ use Rattle.plain.proofs.cells.write_out.Goals as goal
 
 pub loop-i-init : goal.loop-i-init
 loop-i-init c =
-    let pre = c.requires in
-    writing_starts _ _ _ pre.0 pre.1
+    writing_starts _ _ _ c.requires.cells_fit c.requires.result_fits
 
 pub offset_bounds-cells-i : goal.offset_bounds-cells-i
 offset_bounds-cells-i c = omega arith

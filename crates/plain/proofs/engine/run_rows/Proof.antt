@@ -69,7 +69,7 @@ module _ (c : tie.After-b-1 invariant_loop decreases_loop) where
   read = read_at.row_of-said.ensures
 
   abbrev running : let args = (start read_at).args in
-      Running args.words.now args.shape args.marks.now args.goes.now args.start at.loop-number.cells at.loop-number.to-come at.loop-number.number
+      Running args.words.now args.shape args.marks.now args.goes.now args.start at.loop-number.cells at.loop-number.to_come at.loop-number.number
       at.loop-number.depth at.loop-number.left
   running = at.loop-number.invariant
 

@@ -12,8 +12,7 @@ run_table-end-requires c =
 
 pub write_result-requires : goal.write_result-requires
 write_result-requires c =
-    let kept = c.run_table-end.auto.store in
-    result_fits_lem residues c.requires.room c.run_table-end.new.store (kept.0 ∙ c.copy_residues.auto.into) kept.1.1.1.0
+    result_fits_lem residues c.requires.room c.run_table-end.new.store (c.run_table-end.auto.store ∙ c.copy_residues.auto.into) c.run_table-end.auto.copied
 
 pub shape_of-values : goal.shape_of-values
 shape_of-values c = c.run_table-end.auto.values

@@ -13,12 +13,11 @@ run_table-end-requires c =
 
 pub offset_bounds-store-variables : goal.offset_bounds-store-variables
 offset_bounds-store-variables c =
-    omega (arith, c.??well-formed.1.1.1.1.1.1.1.0.1, c.requires.room.starts_fit)
+    omega (arith, c.requires.room.starts_fit)
 
 pub write_result-requires : goal.write_result-requires
 write_result-requires c =
-    let kept = c.run_table-end.auto.store in
-    result_fits_lem doubles c.requires.room c.run_table-end.new.store (kept.0 ∙ c.copy_doubles.auto.into) kept.1.1.1.0
+    result_fits_lem doubles c.requires.room c.run_table-end.new.store (c.run_table-end.auto.store ∙ c.copy_doubles.auto.into) c.run_table-end.auto.copied
 
 pub shape_of-values : goal.shape_of-values
 shape_of-values c = c.run_table-end.auto.values

@@ -24,5 +24,4 @@ shape_of-copied c = c.run_rows-ran.auto.copied
 
 pub returns : goal.returns
 returns c =
-    let kept = c.run_rows-ran.auto.values in
-    runs_table doubles _ _ c.clear_stacks.ensures c.run_rows-ran.ensures kept.0 kept.1.0 c.clear_stacks-2.ensures
+    runs_table doubles _ _ c.clear_stacks.ensures c.run_rows-ran.ensures c.run_rows-ran.auto.values c.run_rows-ran.auto.turns c.clear_stacks-2.ensures

@@ -66,7 +66,7 @@ returns c =
       due = c.partner_there-near.result.0;
       more = c.own_set.result ∪ first.args.reached.own;
       is_due = backward c.partner_there-near.ensures.0 (cc (both, first.pre.judging.in_hand)) more.0 more.1;
-      c.before.before.before.before = rw (sym c.settled_point.ensures) c.grow-own.ensures;
+      grown = rw (sym c.settled_point.ensures) c.grow-own.ensures;
       turns = ap (λ t. t + 1) c.row_in_turn-entered.ensures;
     }
 
@@ -115,7 +115,7 @@ returns_2 c =
             ap (set_at args.sets.now) c.partner_there-partner.ensures.0,
           ))
           (c.brings_more.ensures.nothing c.if-brings_more.false);
-      c.before.before.before = rw (sym c.settled_point-2.ensures) c.grow-own-2.ensures;
+      grown = rw (sym c.settled_point-2.ensures) c.grow-own-2.ensures;
       turns = ap (λ t. t + 1) first.pre.turns;
     }
 

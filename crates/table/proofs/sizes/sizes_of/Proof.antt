@@ -132,7 +132,7 @@ array_copy_out_form c = omega (arith, c.wide-kind.ensures.0, in_table_lem c)
 shared_slice_read_mark : tie.Need-bounds-marks-p invariant_loop decreases_loop
 shared_slice_read_mark c =
     let here = turn c.before.before in
-    omega (arith, (start here.before.before).requires.0.marked, here.if1.taken)
+    omega (arith, (start here.before.before).requires.0.marked, here.loop-p-test.true)
 
 row_count_requires : tie.Need-row_count-rows-requires invariant_loop decreases_loop
 row_count_requires c κs = said c.before.before

@@ -3,7 +3,7 @@ use borrow.Author.Rules.{rules}
 use native.Mathlib.Omega.{arith}
 use Prim.Native.Nat.{ℕ, ◌+◌}
 use mathlib.Core.Path.{◌≡◌, ap, ◌∙◌}
-use mathlib.Core.Bool.{Bool, true, false, cond, ◌&&◌}
+use mathlib.Core.Bool.{not, Bool, true, false, cond, ◌&&◌}
 use lib.Dec.{eqb}
 use Rattle.sheet.specs.Inner.RowLines.{line_of_row}
 use Rattle.sheet.specs.Answers.{row_said}
@@ -25,7 +25,7 @@ module _ (c : tie.Else-not-assigns) where
   divided : (eqb start.args.row.kind quotient_kind && c.bit-active.result) ≡ true
       → quotient_count c.bit-first.result c.bit-second.result + 1 ≡ count
   divided =
-      quotient_row start.requires _ c.assigns.ensures c.if-not-assigns.false c.bit-active.ensures
+      quotient_row start.requires _ c.assigns.ensures (ap not c.if-not-assigns.false) c.bit-active.ensures
       c.bit-first.ensures c.bit-second.ensures
 
   counted : (eqb start.args.row.kind quotient_kind && c.bit-active.result) ≡ false → {all : Bool}
@@ -33,7 +33,7 @@ module _ (c : tie.Else-not-assigns) where
       && c.bit-second.result) ≡ all
       → cond all 4 2 ≡ count
   counted =
-      assigned_row start.requires _ c.assigns.ensures c.if-not-assigns.false c.bit-active.ensures
+      assigned_row start.requires _ c.assigns.ensures (ap not c.if-not-assigns.false) c.bit-active.ensures
       c.bit-first.ensures c.bit-second.ensures
 
 bit_requires : tie.Need-bit-first-requires
@@ -50,7 +50,7 @@ assigns_requires c κs = search rules
 
 returns : tie.Need-returns-then-not-assigns
 returns c =
-    (block_row c.requires _ c.assigns.ensures c.if-not-assigns.true, omega arith)
+    (block_row c.requires _ c.assigns.ensures (ap not c.if-not-assigns.true), omega arith)
 
 quotient_count_requires : tie.Need-quotient_count-requires
 quotient_count_requires c κs = search rules

@@ -9,10 +9,11 @@ put-of_a-requires c =
     room_first (_ ∷ []) _ (rw (c.if-first.true, c.if-second.true) at c.requires.room)
 
 pub second_rates-of_b-requires : goal.second_rates-of_b-requires
-second_rates-of_b-requires c = let whole = (
-      room_first (_ ∷ _ ∷ _ ∷ []) _ (room_after {rs = _ ∷ []} _ c.put-of_a.ensures (rw (c.if-first.true, c.if-second.true) at c.requires.room)),
-      c.requires.small,
-    ) in record { room = whole.0; small = whole.1 }
+second_rates-of_b-requires c =
+    record {
+      room = room_first (_ ∷ _ ∷ _ ∷ []) _ (room_after {rs = _ ∷ []} _ c.put-of_a.ensures (rw (c.if-first.true, c.if-second.true) at c.requires.room));
+      small = c.requires.small;
+    }
 
 pub put-requires : goal.put-requires
 put-requires c =

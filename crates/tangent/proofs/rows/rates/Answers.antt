@@ -8,7 +8,12 @@ use Rattle.tangent.proofs.rows.rates.Goals as goal
 pub active_rates-requires : goal.active_rates-requires
 active_rates-requires c =
     let x = c.args in
-    let active = sym c.bit.ensures ∙ c.if-bit.true in let whole = (rw (when_active x.variables (row_said x.row) x.mark active) at c.requires.room, c.requires.small) in record { room = whole.0; small = whole.1; assigns = whole.2 }
+    let active = sym c.bit.ensures ∙ c.if-bit.true in
+    record {
+      room = rw (when_active x.variables (row_said x.row) x.mark active) at c.requires.room;
+      small = c.requires.small;
+      assigns = c.requires.assigns;
+    }
 
 pub returns-then-bit : goal.returns-then-bit
 returns-then-bit c =

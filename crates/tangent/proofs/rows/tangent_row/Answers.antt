@@ -9,7 +9,12 @@ use Rattle.tangent.proofs.rows.tangent_row.Goals as goal
 pub rates-next-requires : goal.rates-next-requires
 rates-next-requires c =
     let x = c.args in
-    let is = sym c.assigns.ensures ∙ c.if-assigns.true in record { room = room_first _ _ (rw (when_assigned c.requires.part_said x.variables x.mark is) at c.requires.room); small = (c.requires.small, says_assigns c.requires.part_said (is_assignment x.part is)); assigns =  }
+    let is = sym c.assigns.ensures ∙ c.if-assigns.true in
+    record {
+      room = room_first _ _ (rw (when_assigned c.requires.part_said x.variables x.mark is) at c.requires.room);
+      small = c.requires.small;
+      assigns = says_assigns c.requires.part_said (is_assignment x.part is);
+    }
 
 pub put-requires : goal.put-requires
 put-requires c =

@@ -15,10 +15,10 @@ put_if-added-requires c =
 pub over_divisor-requires : goal.over_divisor-requires
 over_divisor-requires c =
     let is_t = c.t_of-t.ensures in
-    let given = c.requires in let whole = (
-      room_after _ (rw is_t at c.put_if-added.ensures) (room_after {rs = _ ∷ []} _ (rw is_t at c.put-held.ensures) given.0),
-      (given.1.0, given.1.1.1),
-    ) in record { room = whole.0; small = whole.1 }
+    record {
+      room = room_after _ (rw is_t at c.put_if-added.ensures) (room_after {rs = _ ∷ []} _ (rw is_t at c.put-held.ensures) c.requires.room);
+      small = (c.requires.small.0, c.requires.small.1.1);
+    }
 
 pub returns : goal.returns
 returns c =

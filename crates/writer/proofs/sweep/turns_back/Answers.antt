@@ -22,4 +22,4 @@ returns-in-EndRepeat c =
     rw c.in-EndRepeat.is (c.turns_said.ensures ∙ opened)
 
 pub returns : goal.returns
-returns c = sym (not_end_repeat _ _ _ _ c.args.part c.in_default.in_default-own.keys2)
+returns c = sym (not_end_repeat _ _ _ _ c.args.part c.in_default.not-EndRepeat)

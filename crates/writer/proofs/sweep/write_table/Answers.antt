@@ -19,10 +19,13 @@ put-place-requires c =
 pub backward_part-requires : goal.backward_part-requires
 unfolding whole_rows
 backward_part-requires c =
-    let first = c.forward_part-turned.ensures.wrote in let whole = (
-      room_after _ c.put-place.ensures (room_after _ first (room_kept 0 _ c.requires.room)),
-      (numbered_after _ c.put-place.ensures (numbered_after _ first c.requires.numbered), (c.requires.readable, c.requires.walkable)),
-    ) in record { room = whole.0; numbered = whole.1; readable = whole.2; walkable = whole.3 }
+    let first = c.forward_part-turned.ensures.wrote in
+    record {
+      room = room_after _ c.put-place.ensures (room_after _ first (room_kept 0 _ c.requires.room));
+      numbered = numbered_after _ c.put-place.ensures (numbered_after _ first c.requires.numbered);
+      readable = c.requires.readable;
+      walkable = c.requires.walkable;
+    }
 
 pub shape_of-table : goal.shape_of-table
 shape_of-table c =
