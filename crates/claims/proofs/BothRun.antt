@@ -129,8 +129,8 @@ module _ (words starts seeds rates : List ℕ) (before after before' after' : Le
     (kept : length after.result ≡ length before.result) (kept' : length after'.result ≡ length before'.result) where
   pub both_long : adjoint.number ≡ 0 → tangent.number ≡ 0 → HalvesLong (length starts) seeds rates after.result after'.result
   both_long zero zero' =
-      let one = adjoint_lengths words starts seeds before after adjoint adjoint_ran zero in
-      let other = tangent_lengths words starts rates before' after' tangent tangent_ran zero' in
+      let one = adjoint_lengths words starts seeds before after adjoint adjoint_did zero in
+      let other = tangent_lengths words starts rates before' after' tangent tangent_did zero' in
       record {
         seed_values = one.given_values;
         rate_values = other.given_values;

@@ -124,7 +124,7 @@ module _ (A : Arithmetic) where
 
     end_within : (s : State A) (rest : List TableLine) (outer : List Repeat) (x : Attempt (Stop A) (Memory A)) → Through Fits x
         → FitsAfter (loop_ends A s rest outer x)
-    end_within s rest outer (through memory) h = jump_within s memory (one_more (seek_close 0 rest)) h
+    end_within s rest outer (through memory) h = jump_within (record { at = s.at; repeats = outer; memory = memory }) memory (one_more (seek_close 0 rest)) h
     end_within s rest outer (halted stop) h = tt
     end_within s rest outer stuck h = tt
 
@@ -144,7 +144,7 @@ module _ (A : Arithmetic) where
         → FitsAfter (on_count A s rest counts)
     count_within s rest [] t h = tt
     count_within s rest (zero ∷ counts) t h =
-        jump_within s (with_turns A s.memory counts) (one_more (seek_close 0 rest)) (record { values_fit = h.values_fit; turns_fit = omega arith })
+        jump_within (record { at = s.at; repeats = s.repeats; memory = with_turns A s.memory counts }) (with_turns A s.memory counts) (one_more (seek_close 0 rest)) (record { values_fit = h.values_fit; turns_fit = omega arith })
     count_within s rest (suc n ∷ counts) t h = record { values_fit = h.values_fit; turns_fit = omega arith }
 
     step_at_within : (s : State A) (here : List TableLine) → Fits s.memory → FitsAfter (step_at A setting s here)

@@ -254,7 +254,7 @@ module _ (words : List ℕ) (first : ℕ) (marks goes : List ℕ) (mark : ℕ �
 
     run_loop : (m : ℕ) (now : Carried doubles)
         → run_at (again (with_turns loop m) a t) p now ≡ loop_then loop m (run_at a (suc p)) (run_at t (suc end)) now
-    unfolding plain_run numbered
+    unfolding plain_run numbered while_then
     run_loop m now = by loop
       where
         by : (kind : Loop Test) → run_at (again (with_turns kind m) a t) p now ≡ loop_then kind m (run_at a (suc p)) (run_at t (suc end)) now

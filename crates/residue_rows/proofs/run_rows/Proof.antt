@@ -173,20 +173,20 @@ same_length_9 c =
 same_length_10 : tie.Need-shape_of-values-in-Out invariant_loop decreases_loop invariant_run decreases_run
 same_length_10 c =
     let a : Answered = search in
-    a.straight_row.kept.1.1.1.1.1.1.0 ∙ (turn a).loop-next.invariant.lengths.values
+    a.straight_row.auto.values ∙ (turn a).loop-next.invariant.lengths.values
     ∙ (outer (turn a)).run.invariant.lengths.values
 
 same_length_11 : tie.Need-shape_of-turns-in-Out invariant_loop decreases_loop invariant_run decreases_run
 same_length_11 c =
     let a : Answered = search in
     c.block_row.auto.turns
-    ∙ a.straight_row.kept.1.1.1.1.1.1.1.0 ∙ (turn a).loop-next.invariant.lengths.turns
+    ∙ a.straight_row.auto.turns ∙ (turn a).loop-next.invariant.lengths.turns
     ∙ (outer (turn a)).run.invariant.lengths.turns
 
 same_length_12 : tie.Need-shape_of-copied-in-Out invariant_loop decreases_loop invariant_run decreases_run
 same_length_12 c =
     let a : Answered = search in
-    a.straight_row.kept.1.1.1.1.1.1.1.1.0 ∙ (turn a).loop-next.invariant.lengths.copied
+    a.straight_row.auto.copied ∙ (turn a).loop-next.invariant.lengths.copied
     ∙ (outer (turn a)).run.invariant.lengths.copied
 
 returns_3 : tie.Need-returns-in-Out invariant_loop decreases_loop invariant_run decreases_run

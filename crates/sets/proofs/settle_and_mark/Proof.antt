@@ -17,16 +17,16 @@ abbrev at_start : tie.After-find_partners → tie.Start
 at_start c = c.before.before.before.before.before.before.before.before.before.before
 
 abbrev at_partners : tie.After-settle_varied → tie.After-find_partners
-at_partners c = c.before.before.before.before.before.before.before.before
+at_partners c = c.before.before.before.before.before.before
 
 abbrev at_varied : tie.After-settle_useful → tie.After-settle_varied
-at_varied c = c.before.before.before.before.before.before
+at_varied c = c.before.before.before.before
 
 abbrev at_useful : tie.After-settle_required → tie.After-settle_useful
-at_useful c = c.before.before.before.before.before.before.before.before.before
+at_useful c = c.before.before.before.before.before
 
 abbrev at_required : tie.After-ends_of → tie.After-settle_required
-at_required c = c.before.before.before.before.before.before.before
+at_required c = c.before.before.before.before.before
 
 -- ---- what was handed over, and the partners that were found
 
@@ -38,7 +38,7 @@ partners_are : (c : tie.After-find_partners) → let args = (at_start c).args in
     c.find_partners.new.goes
 partners_are c =
     let start = at_start c in
-    partners_right _ _ _ _ (handed start) _ _ _ _ c.find_partners.ensures start.pre.1.came_room start.pre.1.goes_room
+    partners_right _ _ _ _ (handed start) _ _ _ _ c.find_partners.ensures start.requires.1.came_room start.requires.1.goes_room
 
 came_room_lem : (c : tie.After-find_partners) → (at_start c).args.rows ≤ length c.find_partners.new.came
 came_room_lem c = omega (arith, c.find_partners.auto.came, (at_start c).requires.1.came_room)
@@ -51,12 +51,12 @@ goes_room_lem c = omega (arith, c.find_partners.auto.goes, (at_start c).requires
 varied_long : (c : tie.After-settle_varied) → (at_start (at_partners c)).args.rows < length c.settle_varied.new.sets
 varied_long c =
     let start = at_start (at_partners c) in
-    omega (arith, c.settle_varied.auto.sets, clear_length (suc start.args.rows) _ start.pre.1.varied_clear)
+    omega (arith, c.settle_varied.auto.sets, clear_length (suc start.args.rows) _ start.requires.1.varied_clear)
 
 useful_long : (c : tie.After-settle_useful) → (at_start (at_partners (at_varied c))).args.rows < length c.settle_useful.new.sets
 useful_long c =
     let start = at_start (at_partners (at_varied c)) in
-    omega (arith, c.settle_useful.auto.sets, clear_length (suc start.args.rows) _ start.pre.1.useful_clear)
+    omega (arith, c.settle_useful.auto.sets, clear_length (suc start.args.rows) _ start.requires.1.useful_clear)
 
 -- ---- the needs
 
@@ -68,30 +68,30 @@ find_partners_requires c κs =
 
 settle_varied_requires : tie.Need-settle_varied-requires
 settle_varied_requires c κs =
-    let start = at_start c.before.before.before.before.before.before.before in
-    settles_varied (handed start) (partners_are c.before.before.before.before.before.before.before) (came_room_lem c.before.before.before.before.before.before.before) (goes_room_lem c.before.before.before.before.before.before.before) _ start.pre.1.varied_clear
+    let start = at_start c.before.before.before.before.before in
+    settles_varied (handed start) (partners_are c.before.before.before.before.before) (came_room_lem c.before.before.before.before.before) (goes_room_lem c.before.before.before.before.before) _ start.requires.1.varied_clear
 
 settle_useful_requires : tie.Need-settle_useful-requires
 settle_useful_requires c κs =
-    let found = at_partners c.before.before.before.before.before in
+    let found = at_partners c.before.before.before in
     let start = at_start found in
-    settles_useful (handed start) (partners_are found) (came_room_lem found) (goes_room_lem found) _ start.pre.1.useful_clear
+    settles_useful (handed start) (partners_are found) (came_room_lem found) (goes_room_lem found) _ start.requires.1.useful_clear
 
 settle_required_requires : tie.Need-settle_required-requires
 settle_required_requires c κs =
-    let first = at_varied c.before.before.before.before.before.before.before.before in
+    let first = at_varied c.before.before.before.before in
     let found = at_partners first in
     let start = at_start found in (
-      settles_required (handed start) (partners_are found) (came_room_lem found) (goes_room_lem found) first.settle-varied.last.1.1.1.1.0
-          c.settle_useful.new.sets _ start.pre.1.required_clear,
+      settles_required (handed start) (partners_are found) (came_room_lem found) (goes_room_lem found) first.settle_varied.last.1.1.1.1.0
+          c.settle_useful.new.sets _ start.requires.1.required_clear,
       varied_long first,
-      useful_long c.before.before.before.before.before.before.before.before,
-      start.pre.1.marks_room,
+      useful_long c.before.before.before.before,
+      start.requires.1.marks_room,
     )
 
 ends_of_requires : tie.Need-ends_of-requires
 ends_of_requires c κs =
-    let second = at_useful c.before.before.before.before.before.before in
+    let second = at_useful c.before.before.before.before in
     (varied_long (at_varied second), omega (arith, useful_long second))
 
 same_length : tie.Need-shape_of-came
@@ -120,11 +120,11 @@ returns c =
     let found = at_partners first in
     let laid = handed (at_start found) in
     let right = partners_are found in
-    let vs = varied_settled laid _ _ right.came_from first.settle-varied.ensures in
-    let us = useful_settled laid _ _ right.goes_to second.settle-useful.ensures in
-    let rs = required_settled laid _ _ _ _ right.came_from vs us third.settle-required.ensures.0 in (
-      all_marked laid _ _ _ _ _ vs us rs third.settle-required.ensures.1,
-      found.find-partners.ensures,
+    let vs = varied_settled laid _ _ right.came_from first.settle_varied.ensures in
+    let us = useful_settled laid _ _ right.goes_to second.settle_useful.ensures in
+    let rs = required_settled laid _ _ _ _ right.came_from vs us third.settle_required.ensures.0 in (
+      all_marked laid _ _ _ _ _ vs us rs third.settle_required.ensures.1,
+      found.find_partners.ensures,
       ends_found laid _ _ _ vs us c.ends_of.ensures,
     )
 

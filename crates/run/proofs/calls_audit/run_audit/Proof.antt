@@ -55,7 +55,7 @@ write_planned_requires c κs =
 
 run_written_requires : tie.Need-run_written-requires
 run_written_requires c κs =
-    let room = subst (JudgedAs false needs_of _ _ _ _ _) c.in-HasRoom.is (c.judge.ensures false needs_of _ _ _ _ (allowed c.before.before.before.before.before.before.before.before.before.before.before.before.before.before.before)) in
+    let room = subst (JudgedAs false needs_of _ _ _ _ _) c.in-HasRoom.is (c.judge.ensures false needs_of _ _ _ _ (allowed c.before.before.before.before.before.before.before.before.before.before.before.before.before.before)) in
     (adjoint_indexed room.made c.write_planned.ensures, sheet_room _ _ _ room)
 
 returns : tie.Need-returns-in-No
@@ -77,7 +77,7 @@ same_length_4 c = search rules
 
 returns_2 : tie.Need-returns-in-HasRoom
 returns_2 c =
-    let room = subst (JudgedAs false needs_of _ _ _ _ _) c.in-HasRoom.is (c.judge.ensures false needs_of _ _ _ _ (allowed c.before.before.before.before.before.before.before.before.before.before.before.before.before.before.before.before.before.before.before.before.before.before)) in
+    let room = subst (JudgedAs false needs_of _ _ _ _ _) c.in-HasRoom.is (c.judge.ensures false needs_of _ _ _ _ (allowed c.before.before.before.before.before.before.before.before.before.before.before.before.before.before.before.before.before.before.before.before.before)) in
     adjoint_ran residues _ _ _ _ room (residues_admitted _ _) c.write_planned.ensures c.run_written.ensures
 
 pub run_audit_spec : {M : Type 1} → statement M

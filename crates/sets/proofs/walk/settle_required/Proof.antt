@@ -70,15 +70,15 @@ is_assigned c = sym (judged c).assigns.ensures ∙ c.if-assigns.true
 -- what is known of an assignment is what is known of its line, and so is its byte
 known_is : (c : tie.After-activity_at-known invariant_loop decreases_loop) → let here = looked (judged c.before) in let args = (start (loop here)).args in
     activity_by c.activity_at-known.result
-    ≡ known_from args.words.now args.extent.first args.varied.now args.useful.now here.before.row-in-turn.result.0
+    ≡ known_from args.words.now args.extent.first args.varied.now args.useful.now here.row_in_turn-row.result.0
 known_is c =
     let here = looked (judged c.before) in
     let args = (start (loop here)).args in
-    assigned_known args.varied.now args.useful.now here.before.row-in-turn.result.0
+    assigned_known args.varied.now args.useful.now here.row_in_turn-row.result.0
     (assigned (at here) (is_assigned c.before) c.operation_at-operation.ensures.0) c.activity_at-known.ensures
 
 byte_is : (c : tie.After-row_byte-byte invariant_loop decreases_loop) → let here = looked (judged c.before.before) in let args = (start (loop here)).args in
-    let p = here.before.row-in-turn.result.0 in
+    let p = here.row_in_turn-row.result.0 in
     c.row_byte-byte.result ≡ byte_at args.varied.now args.useful.now (loop here).loop-reached.sets p (line_in args.words.now args.extent.first p)
 unfolding own_point
 byte_is c =

@@ -73,7 +73,7 @@ returns_2 : tie.Need-returns-then-divides
 returns_2 c =
     record {
       within = omega (arith, few c.before.before.before);
-      is = λ v. let other = ne_eqb _ 5 c.if-row-eq-PRODUCT.false in omega (arith, rw (other, c.if-divides.true) at (counted c.before.before.before v));
+      is = λ v. let other = ne_eqb _ 5 c.if-row-eq-PRODUCT.false in omega (arith, rw (other, eq-eqb _ 18 c.if-divides.true) at (counted c.before.before.before v));
     }
 
 add_result_4 : tie.Need-overflow_add-result-2
@@ -83,7 +83,7 @@ returns_3 : tie.Need-returns
 returns_3 c =
     record {
       within = omega (arith, few c.before.before.before);
-      is = λ v. let other = ne_eqb _ 5 c.if-row-eq-PRODUCT.false in omega (arith, rw (other, c.if-divides.false) at (counted c.before.before.before v));
+      is = λ v. let other = ne_eqb _ 5 c.if-row-eq-PRODUCT.false in omega (arith, rw (other, ne_eqb _ 18 c.if-divides.false) at (counted c.before.before.before v));
     }
 
 pub parts_count_spec : {M : Type 1} → statement M

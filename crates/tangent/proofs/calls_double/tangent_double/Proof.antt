@@ -68,7 +68,7 @@ write_planned_requires c κs =
 
 run_written_requires : tie.Need-run_written-requires
 run_written_requires c κs =
-    let room = subst (JudgedAs true tangent_needs_of _ _ _ _ _) c.in-HasRoom.is (c.judge.ensures true tangent_needs_of _ _ _ _ (allowed c.before.before.before.before.before.before.before.before.before.before.before.before.before)) in
+    let room = subst (JudgedAs true tangent_needs_of _ _ _ _ _) c.in-HasRoom.is (c.judge.ensures true tangent_needs_of _ _ _ _ (allowed c.before.before.before.before.before.before.before.before.before.before.before.before)) in
     (tangent_indexed room.made c.write_planned.ensures, sheet_room _ _ _ room)
 
 returns_2 : tie.Need-returns-in-No
@@ -84,7 +84,7 @@ same_length_2 c = search rules
 
 returns_3 : tie.Need-returns-in_default
 returns_3 c =
-    let room = subst (JudgedAs true tangent_needs_of _ _ _ _ _) c.in-HasRoom.is (c.judge.ensures true tangent_needs_of _ _ _ _ (allowed c.before.before.before.before.before.before.before.before.before.before.before.before.before.before.before.before)) in
+    let room = subst (JudgedAs true tangent_needs_of _ _ _ _ _) c.in-HasRoom.is (c.judge.ensures true tangent_needs_of _ _ _ _ (allowed c.before.before.before.before.before.before.before.before.before.before.before.before.before.before.before)) in
     tangent_ran doubles _ _ _ _ _ room (said c.all_finite.ensures c.in_default.is) c.write_planned.ensures
     c.run_written.ensures
 

@@ -99,16 +99,16 @@ array_copy_out_form c = omega (arith, c.wide-kind.ensures.0, in_table_lem c)
 shared_slice_read_tangent_row : tie.Need-bounds-marks-p invariant_loop decreases_loop
 shared_slice_read_tangent_row c =
     let here = turn c.before.before.before in
-    omega (arith, (start here).requires.1.1.0.marked, here.loop-test.taken)
+    omega (arith, (start here).requires.1.1.0.marked, here.loop-p-test.true)
 
 tangent_row_requires : tie.Need-tangent_row-next-requires invariant_loop decreases_loop
 tangent_row_requires c κs =
     let here = turn c.before.before.before in
     let given = (start here).requires in (
-      room_first _ _ (rw (left c.before.before.before) at (underway_room here.before.loop.inv.1 (room_kept 0 _ given.0))),
+      room_first _ _ (rw (left c.before.before.before) at (underway_room here.loop-p.invariant.1 (room_kept 0 _ given.0))),
       (
         said c.before.before.before,
-        subst (SmallWords (shape here).variables) (sym c.row_of-row.ensures) (given.1.1.1.0.small _ here.loop-test.taken),
+        subst (SmallWords (shape here).variables) (sym c.row_of-row.ensures) (given.1.1.1.0.small _ here.loop-p-test.true),
       ),
     )
 
@@ -122,7 +122,7 @@ note_requires c κs =
 add_p : tie.Need-overflow_add-p invariant_loop decreases_loop
 add_p c =
     let here = turn c.before.before.before.before.before.before.before.before.before in
-    omega (arith, here.loop-test.taken, (start here).requires.1.1.0.few)
+    omega (arith, here.loop-p-test.true, (start here).requires.1.1.0.few)
 
 loop_less : tie.Need-loop-p-smaller invariant_loop decreases_loop
 loop_less c = omega (arith, (turn c.before.before.before.before.before.before.before.before.before).loop-p-test.true)
