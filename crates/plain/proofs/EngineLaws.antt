@@ -1,6 +1,6 @@
 -- The engine's way through a sheet: at each row, the rest of the block at hand and what follows the blocks around it give the whole run.
 use Prim.Native.Nat.{ℕ, zero, suc, ◌+◌, ◌*◌, ◌-◌, ◌≤◌, ◌<◌}
-use mathlib.Core.Path.{◌≡◌, refl, sym, ap, subst, ◌∙◌}
+use mathlib.Core.Path.{◌≡◌, refl, sym, ap, ap₂, subst, ◌∙◌}
 use mathlib.Core.Bool.{Bool, true, false, cond}
 use mathlib.Core.List.{List, [], ◌∷◌}
 use mathlib.Core.Option.{Option, some}
@@ -259,7 +259,11 @@ module _ (words : List ℕ) (first : ℕ) (marks goes : List ℕ) (mark : ℕ �
       where
         by : (kind : Loop Test) → run_at (again (with_turns kind m) a t) p now ≡ loop_then kind m (run_at a (suc p)) (run_at t (suc end)) now
         by (times all) = rw (past, opened_rows)
-        by (while f all) = rw (past, opened_rows)
+        by (while f all) =
+            ap₂
+            (λ x y. while_then (asks f) (plain_run doubles v constants (numbered mark a (suc p)) x) (λ n kept. through kept)
+            (plain_run doubles v constants (numbered mark t (suc end)) y) 0 (suc m) now)
+            opened_rows past
 
     -- what follows a turn, by those to come
     unfoldable follows : (m : ℕ) → Carried doubles → Result

@@ -9,6 +9,9 @@ use Rattle.plain.proofs.ReadyLaws.{found_lies}
 use Rattle.plain.proofs.CallLaws.{roles_long, roles_within, roles_few, finished, stopped}
 use Rattle.plain.proofs.carry.Goals as goal
 
+pub slice_bounds-laid-end : goal.slice_bounds-laid-end
+slice_bounds-laid-end c = omega (arith, roles_within c.requires.found)
+
 pub laid-start-requires : goal.laid-start-requires
 laid-start-requires c =
     let found = c.requires.found in
@@ -17,6 +20,9 @@ laid-start-requires c =
 pub run_rows-ran-requires : goal.run_rows-ran-requires
 run_rows-ran-requires c =
     let few = (found_lies c.requires.found).few_rows in record { ready = record { found = c.requires.found; marks_there = omega arith; goes_there = omega arith }; start_fits = c.laid-start.ensures.1 }
+
+pub slice_bounds-write_out-end : goal.slice_bounds-write_out-end
+slice_bounds-write_out-end c = omega (arith, roles_within c.requires.found)
 
 pub write_out-requires : goal.write_out-requires
 write_out-requires c =

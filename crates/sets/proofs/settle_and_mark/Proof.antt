@@ -82,7 +82,7 @@ settle_required_requires c κs =
     let first = at_varied c.before.before.before.before in
     let found = at_partners first in
     let start = at_start found in (
-      settles_required (handed start) (partners_are found) (came_room_lem found) (goes_room_lem found) first.settle_varied.last.1.1.1.1.0
+      settles_required (handed start) (partners_are found) (came_room_lem found) (goes_room_lem found) first.settle_varied.new.sets
           c.settle_useful.new.sets _ start.requires.1.required_clear,
       varied_long first,
       useful_long c.before.before.before.before,

@@ -51,12 +51,14 @@ enum_known_plan c = search rules
 
 write_planned_requires : tie.Need-write_planned-requires
 write_planned_requires c κs =
-    let room = subst (JudgedAs false tangent_needs_of _ _ _ _ _) c.in-HasRoom.is (c.judge.ensures false tangent_needs_of _ _ _ _ (allowed c.before.before.before.before.before)) in
+    let tested : tie.After-undivided-allowed = search in
+    let room = subst (JudgedAs false tangent_needs_of _ _ _ _ _) c.in-HasRoom.is (c.judge.ensures false tangent_needs_of _ _ _ _ (allowed tested)) in
     (record { came = _; goes = _; made = room.made }, room.table_fits)
 
 run_written_requires : tie.Need-run_written-requires
 run_written_requires c κs =
-    let room = subst (JudgedAs false tangent_needs_of _ _ _ _ _) c.in-HasRoom.is (c.judge.ensures false tangent_needs_of _ _ _ _ (allowed c.before.before.before.before.before.before.before.before.before.before.before)) in
+    let tested : tie.After-undivided-allowed = search in
+    let room = subst (JudgedAs false tangent_needs_of _ _ _ _ _) c.in-HasRoom.is (c.judge.ensures false tangent_needs_of _ _ _ _ (allowed tested)) in
     (tangent_indexed room.made c.write_planned.ensures, sheet_room _ _ _ room)
 
 returns : tie.Need-returns-in-No
@@ -72,7 +74,8 @@ same_length_2 c = search rules
 
 returns_2 : tie.Need-returns-in-HasRoom
 returns_2 c =
-    let room = subst (JudgedAs false tangent_needs_of _ _ _ _ _) c.in-HasRoom.is (c.judge.ensures false tangent_needs_of _ _ _ _ (allowed c.before.before.before.before.before.before.before.before.before.before.before.before.before.before)) in
+    let tested : tie.After-undivided-allowed = search in
+    let room = subst (JudgedAs false tangent_needs_of _ _ _ _ _) c.in-HasRoom.is (c.judge.ensures false tangent_needs_of _ _ _ _ (allowed tested)) in
     tangent_ran residues _ _ _ _ _ room (residues_admitted _ _) c.write_planned.ensures c.run_written.ensures
 
 pub tangent_audit_spec : {M : Type 1} → statement M
