@@ -1,5 +1,5 @@
 // Answer lines, put together in a buffer: each function answers how much of it is used.
-use libc::STDOUT_FILENO;
+use std::io::{Print, Stdout};
 use text::fields::{BITS_DIGITS, Form};
 use text::{lend, widths};
 
@@ -88,6 +88,6 @@ pub fn put_bad_line(out: &mut [u8; MAX_ANSWER]) -> usize {
     put_text(out, 0, b"bad line\n")
 }
 
-pub fn send(out: &[u8; MAX_ANSWER], used: usize) -> bool {
-    io::write_all(STDOUT_FILENO, lend::first_bytes(out, used))
+pub fn send(output: &Stdout, out: &[u8; MAX_ANSWER], used: usize) -> std::io::Result<()> {
+    output.write_all(lend::first_bytes(out, used))
 }

@@ -1,5 +1,6 @@
 // The lines of standard input, through a buffer of what was read and not yet taken.
-use libc::STDIN_FILENO;
+use std::io;
+use std::io::{Read, Stdin};
 use text::fields::MAX_LINE;
 
 pub const READ_AT_ONCE: usize = 65_536;
@@ -26,20 +27,23 @@ pub enum Line {
     End,
 }
 
-fn next_byte(read: &mut [u8; READ_AT_ONCE], waiting: Waiting) -> Byte {
+fn next_byte(
+    input: &mut Stdin,
+    read: &mut [u8; READ_AT_ONCE],
+    waiting: Waiting,
+) -> io::Result<Byte> {
     let at = waiting.at;
     let end = waiting.end;
     if at < end {
         if at < READ_AT_ONCE {
-            return Byte::Is(read[at], Waiting { at: at + 1, end });
+            return Ok(Byte::Is(read[at], Waiting { at: at + 1, end }));
         }
     }
-    let got = libc::read(STDIN_FILENO, read);
-    if got <= 0 {
-        return Byte::End;
+    let count = input.read(read)?;
+    if count == 0 {
+        return Ok(Byte::End);
     }
-    let count = io::count(got, read);
-    Byte::Is(read[0], Waiting { at: 1, end: count })
+    Ok(Byte::Is(read[0], Waiting { at: 1, end: count }))
 }
 
 // The length of the line with one byte more.
@@ -60,16 +64,21 @@ fn last_line(length: usize, waiting: Waiting) -> Line {
 }
 
 // A longer line is passed over to its end. Nothing says that a line ends, so the turns are counted down from a number that no run uses up.
-pub fn next_line(read: &mut [u8; READ_AT_ONCE], line: &mut [u8; MAX_LINE], first: Waiting) -> Line {
+pub fn next_line(
+    input: &mut Stdin,
+    read: &mut [u8; READ_AT_ONCE],
+    line: &mut [u8; MAX_LINE],
+    first: Waiting,
+) -> io::Result<Line> {
     let mut waiting = first;
     let mut length: usize = 0;
     let mut left = u64::MAX;
     while 0 < left {
-        match next_byte(read, waiting) {
-            Byte::End => return last_line(length, waiting),
+        match next_byte(input, read, waiting)? {
+            Byte::End => return Ok(last_line(length, waiting)),
             Byte::Is(byte, rest) => {
                 if byte == NEWLINE {
-                    return Line::Is(length, rest);
+                    return Ok(Line::Is(length, rest));
                 }
                 length = longer(line, length, byte);
                 waiting = rest;
@@ -77,5 +86,5 @@ pub fn next_line(read: &mut [u8; READ_AT_ONCE], line: &mut [u8; MAX_LINE], first
         }
         left -= 1;
     }
-    Line::End
+    Ok(Line::End)
 }
