@@ -25,7 +25,7 @@ use Rattle.sets.proofs.EquationsAlong.{forward_along, backward_along}
 use Rattle.machine.specs.Actions.{Attempt, through, Stop, counting}
 use Rattle.machine.proofs.AttemptLaws.{same_through, went}
 use Rattle.run.specs.Runs.{setting_of}
-use Rattle.claims.specs.IdealSweep.{Progress, beginning, execution, executed, swept, first_adjoints, Ideal, ideal}
+use Rattle.claims.specs.IdealSweep.{Progress, beginning, execution, swept, first_adjoints, Ideal, ideal}
 use Rattle.claims.specs.EquationTwo.{Instance, value_no, Trace, EquationTwo}
 use Rattle.claims.proofs.Runs.{runs}
 use Rattle.claims.proofs.ResiduesGo.{execution_goes}

@@ -17,7 +17,7 @@ use Rattle.sheet.specs.Reading.{read, undivided, read_in}
 use Rattle.sheet.proofs.NamesPresent.{section_length}
 use Rattle.sheet.proofs.RowsCounted.{rows_counted}
 use Rattle.table.proofs.QuotientLaws as quotient_laws
-use Rattle.claims.specs.ExactlyWhen.{First, constants, rows, variable_count, constant_count, row_count, first_item, row_place, row_no, Read, QuotientAt, Calculable}
+use Rattle.claims.specs.ExactlyWhen.{First, rows, variable_count, constant_count, row_count, first_item, row_place, row_no, Read, QuotientAt, Calculable}
 use Rattle.claims.proofs.FirstFailing.{each_judged, Fails, all_pass, first_refused, all_or_first}
 
 -- ---- rows in turn

@@ -17,7 +17,6 @@ use Rattle.sheet.specs.Rows.{Test, less, Row, row_of, while_kind}
 use Rattle.sheet.specs.Answers.{row_said}
 use Rattle.sheet.specs.Sheets.{row_at}
 use Rattle.sheet.specs.declared.RowWords.{RowWords}
-use Rattle.sheet.specs.declared.Variable.{Variable}
 use Rattle.table.specs.TableRows.{TableTest, whether, on_turn, TableLine, row_of_table_while, table_row_of}
 use Rattle.machine.specs.Actions.{through, stuck, Memory, Setting, count_kept, Stop, Verdict, compared, tested, verdict_on}
 use Rattle.machine.specs.Machine.{its_else, its_end, one_more, seek, seek_close, Repeat, back_to, State, Step, step, step_at, go_to, jump, after_test, after_turn, pending, loop_ends, asked, on_count}

@@ -8,7 +8,7 @@ use lib.ListN.{length, get_or, set, length-set}
 use Rattle.number.specs.Doubles.{doubles}
 use Rattle.sheet.specs.Bounds.{limit}
 use Rattle.sheet.specs.Judging.{given}
-use Rattle.sheet.specs.Tree.{basic, rows, longest_run}
+use Rattle.sheet.specs.Tree.{basic}
 use Rattle.sheet.specs.Rows.{Assignment, ◌≔◌, Source, copy, fixed, sum, difference, product, negation, quotient, Row, SheetLine, row_of, row_of_assignment, sheet_row_of, quotient_kind}
 use Rattle.sheet.specs.Names.{SourcePresent, AssignmentPresent}
 use Rattle.sheet.specs.Sheets.{Sheet, variables_of}

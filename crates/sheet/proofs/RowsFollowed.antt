@@ -14,7 +14,7 @@ use Rattle.sheet.specs.Refusals.{Refusal, bad_row, bad_block}
 use Rattle.sheet.specs.Rows.{SheetLine, Row}
 use Rattle.sheet.specs.Tree.{longest_run}
 use Rattle.sheet.specs.Sheets.{row_at, rows_at}
-use Rattle.sheet.specs.Reading.{Item, Block, RowsTaken, closed, line_of, taken, body_of}
+use Rattle.sheet.specs.Reading.{Item, Block, RowsTaken, line_of, taken, body_of}
 use Rattle.sheet.specs.Inner.Kinds.{part_of, part_for, turns_in}
 use Rattle.sheet.specs.Inner.Steps.{row_fits, saturated, step_of, body_said, after_rows_of, body_run}
 use Rattle.sheet.specs.declared.Level.{Level}

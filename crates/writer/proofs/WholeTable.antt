@@ -3,7 +3,7 @@ use Prim.Native.Nat.{ℕ}
 use mathlib.Core.Path.{◌≡◌, sym, ap, ◌∙◌}
 use mathlib.Core.Bool.{true, false}
 use mathlib.Core.List.{◌∷◌, ◌++◌, append_assoc}
-use Rattle.sheet.specs.Tree.{loop_by, Tree, done, one, fork, again, rows}
+use Rattle.sheet.specs.Tree.{loop_by, Tree, done, one, fork, again}
 use Rattle.sheet.specs.Rows.{Assignment, Test, tree_rows}
 use Rattle.sheet.specs.Sheets.{rows_at}
 use Rattle.sheet.proofs.RowsByNumber.{rows_of_tree}

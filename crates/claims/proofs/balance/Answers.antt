@@ -1,7 +1,6 @@
 -- `claims::balance` meets its contract: a seed or rate is a 32-bit number, hence a residue.
 use Rattle.claims.proofs.BothRun.{both_long}
 use Rattle.claims.proofs.BalanceHolds.{balance_meets}
-use borrow.Author.Rules.{rules}
 use native.Mathlib.Omega.{arith}
 use Rattle.claims.proofs.balance.Goals as goal
 

@@ -1,5 +1,4 @@
 -- `claims::check` meets demand 1.
-use borrow.Author.Rules.{rules}
 use Rattle.claims.proofs.DemandOneHolds.{check_call}
 use Rattle.claims.proofs.check.Goals as goal
 

@@ -1,8 +1,5 @@
 -- `claims::dot` meets its contract. The invariant: the products passed are summed.
-use Prim.Native.Nat.{◌-◌}
-use lib.ListN.{length}
-use Rattle.claims.proofs.BothRun.{Summing, summing_starts, summing_goes_on, summing_ends}
-use borrow.Author.Rules.{rules}
+use Rattle.claims.proofs.BothRun.{summing_starts, summing_goes_on, summing_ends}
 use native.Mathlib.Omega.{arith}
 use Rattle.claims.proofs.dot.Goals as goal
 

@@ -1,9 +1,7 @@
 -- `claims::dot` meets its contract. The invariant: the products passed are summed.
 use Prim.Native.Nat.{◌-◌}
 use lib.ListN.{length}
-use Rattle.claims.proofs.BothRun.{Summing, summing_starts, summing_goes_on, summing_ends}
-use borrow.Author.Rules.{rules}
-use native.Mathlib.Omega.{arith}
+use Rattle.claims.proofs.BothRun.{Summing}
 use Rattle.claims.proofs.dot.Given as goal
 
 abbrev pub invariant-loop-i : goal.invariant-loop-i

@@ -1,6 +1,5 @@
 -- `claims::run_audit` meets demands 1 and 2: a seed is a 32-bit number, hence a residue.
 use native.Mathlib.Omega.{arith}
-use borrow.Author.Rules.{rules}
 use Rattle.claims.proofs.DemandTwoHolds.{audit_meets}
 use Rattle.claims.proofs.run_audit.Goals as goal
 

@@ -1,5 +1,4 @@
 -- `claims::run_double` meets demands 1 and 2.
-use borrow.Author.Rules.{rules}
 use Rattle.number.specs.Doubles.{doubles}
 use Rattle.claims.proofs.DemandTwoHolds.{run_meets}
 use Rattle.claims.proofs.run_double.Goals as goal

@@ -1,6 +1,5 @@
 -- `claims::summed` meets its contract: a second half has a number for each variable.
 use Rattle.claims.proofs.BothRun.{sums_are}
-use borrow.Author.Rules.{rules}
 use Rattle.claims.proofs.summed.Goals as goal
 
 pub returns : goal.returns

@@ -1,5 +1,4 @@
 -- `claims::tangent_audit` meets what 02 asks of it.
-use borrow.Author.Rules.{rules}
 use Rattle.claims.proofs.TangentsHold.{tangent_audit_call}
 use Rattle.claims.proofs.tangent_audit.Goals as goal
 

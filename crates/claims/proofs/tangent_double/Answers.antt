@@ -1,5 +1,4 @@
 -- `claims::tangent_double` meets what 02 asks of it.
-use borrow.Author.Rules.{rules}
 use Rattle.number.specs.Doubles.{doubles}
 use Rattle.claims.proofs.TangentsHold.{tangent_call}
 use Rattle.claims.proofs.tangent_double.Goals as goal

@@ -1,5 +1,4 @@
 -- `claims::tangent_plain` meets what 02 asks of it.
-use borrow.Author.Rules.{rules}
 use Rattle.number.specs.Doubles.{doubles}
 use Rattle.claims.proofs.PlainHolds.{plain_call}
 use Rattle.claims.proofs.tangent_plain.Goals as goal

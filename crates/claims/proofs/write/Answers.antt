@@ -1,5 +1,4 @@
 -- `claims::write` meets demand 1.
-use borrow.Author.Rules.{rules}
 use Rattle.claims.proofs.DemandOneHolds.{write_call}
 use Rattle.claims.proofs.write.Goals as goal
 

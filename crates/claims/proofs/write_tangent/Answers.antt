@@ -1,5 +1,4 @@
 -- `claims::write_tangent` meets what 02 asks of it.
-use borrow.Author.Rules.{rules}
 use Rattle.claims.proofs.TangentsHold.{tangent_write_call}
 use Rattle.claims.proofs.write_tangent.Goals as goal
 

@@ -1,6 +1,5 @@
 -- `double_rows::assign` meets its contract.
 use Rattle.machine.proofs.RowLaws.{assign_goes, assign_stops}
-use borrow.Author.Rules.{rules}
 use Rattle.double_rows.proofs.assign.Goals as goal
 
 pub returns-in-Value : goal.returns-in-Value

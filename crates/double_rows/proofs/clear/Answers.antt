@@ -1,6 +1,5 @@
 -- `double_rows::clear` meets its contract.
 use Rattle.machine.proofs.RowLaws.{clear_goes}
-use borrow.Author.Rules.{rules}
 use Rattle.double_rows.proofs.clear.Goals as goal
 
 pub returns : goal.returns

@@ -1,6 +1,5 @@
 -- `double_rows::clear_ahead` meets its contract.
 use Rattle.machine.proofs.PeekLaws.{peeks_nothing, clear_there, peeks_clear}
-use borrow.Author.Rules.{rules}
 use Rattle.double_rows.proofs.clear_ahead.Goals as goal
 
 pub bounds-store-to : goal.bounds-store-to

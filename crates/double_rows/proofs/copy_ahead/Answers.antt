@@ -1,6 +1,5 @@
 -- `double_rows::copy_ahead` meets its contract.
 use Rattle.machine.proofs.PeekLaws.{peeks_nothing, copy_there, peeks_double_copy}
-use borrow.Author.Rules.{rules}
 use Rattle.double_rows.proofs.copy_ahead.Goals as goal
 
 pub returns-in_default : goal.returns-in_default

@@ -3,7 +3,6 @@ use mathlib.Core.Path.{sym}
 use lib.Ieee.{nan}
 use Rattle.machine.specs.Actions.{evaluated}
 use Rattle.machine.proofs.PlaceLaws.{look_there}
-use borrow.Author.Rules.{rules}
 use Rattle.double_rows.proofs.copy_of.Goals as goal
 
 pub returns : goal.returns

@@ -6,7 +6,6 @@ use Rattle.number.specs.Arithmetic.{Outcome}
 use Rattle.number.specs.Doubles.{Reason}
 use Rattle.machine.specs.Actions.{Attempt, ◌>>=◌, present, evaluated, from_outcome}
 use Rattle.machine.proofs.PlaceLaws.{look_there}
-use borrow.Author.Rules.{rules}
 use Rattle.double_rows.proofs.divided.Goals as goal
 
 -- what an outcome that is there comes to

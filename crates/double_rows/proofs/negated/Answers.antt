@@ -3,7 +3,6 @@ use mathlib.Core.Path.{ap}
 use lib.Ieee.{nan}
 use Rattle.machine.specs.Actions.{evaluated, from_outcome}
 use Rattle.machine.proofs.PlaceLaws.{look_there}
-use borrow.Author.Rules.{rules}
 use Rattle.double_rows.proofs.negated.Goals as goal
 
 pub returns : goal.returns

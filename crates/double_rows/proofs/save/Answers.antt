@@ -1,6 +1,5 @@
 -- `double_rows::save` meets its contract.
 use Rattle.machine.proofs.RowLaws.{save_goes, save_full}
-use borrow.Author.Rules.{rules}
 use Rattle.double_rows.proofs.save.Goals as goal
 
 pub returns-then-values-height : goal.returns-then-values-height

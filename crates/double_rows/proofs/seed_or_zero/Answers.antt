@@ -1,6 +1,5 @@
 -- `double_rows::seed_or_zero` meets its contract.
 use mathlib.Core.Path.{sym, ◌∙◌}
-use borrow.Author.Rules.{rules}
 use Rattle.double_rows.proofs.seed_or_zero.Goals as goal
 
 pub returns-then-is_dependent : goal.returns-then-is_dependent

@@ -1,7 +1,6 @@
 -- `double_rows::straight_row` meets its contract.
 use mathlib.Core.Path.{refl}
 use native.Mathlib.Omega.{arith}
-use borrow.Author.Rules.{rules}
 use Rattle.sheet.specs.Sheets.{row_at}
 use Rattle.machine.proofs.StraightLaws.{straight_acts, straight_over}
 use Rattle.double_rows.proofs.straight_row.Goals as goal

@@ -1,6 +1,5 @@
 -- `double_rows::sum_ahead` meets its contract.
 use Rattle.machine.proofs.PeekLaws.{peeks_nothing, sum_there, peeks_double_sum}
-use borrow.Author.Rules.{rules}
 use Rattle.double_rows.proofs.sum_ahead.Goals as goal
 
 pub returns-in_default : goal.returns-in_default

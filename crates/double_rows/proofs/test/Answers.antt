@@ -2,7 +2,6 @@
 use mathlib.Core.Path.{sym, ap, ◌∙◌}
 use mathlib.Core.Option.{some}
 use lib.Ieee.{nan}
-use borrow.Author.Rules.{rules}
 use Rattle.machine.proofs.RowLaws.{compares}
 use Rattle.double_rows.proofs.test.Goals as goal
 

@@ -1,10 +1,8 @@
 -- `double_rows::turn_round` meets its contract.
-use borrow.Author.Rules.{rules}
 use Prim.Native.Nat.{◌-◌}
-use native.Mathlib.Omega.{arith}
 use lib.ListN.{length}
 use Rattle.number.specs.Doubles.{doubles}
-use Rattle.machine.proofs.RoundLaws.{Turning, turning_starts, turning_goes_on, turning_ends, round_refused}
+use Rattle.machine.proofs.RoundLaws.{Turning}
 use Rattle.double_rows.proofs.turn_round.Given as goal
 
 abbrev pub invariant-loop-i : goal.invariant-loop-i

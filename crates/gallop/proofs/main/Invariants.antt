@@ -1,5 +1,4 @@
 -- `gallop::main` is safe and ends. The measure is the number of lines that are left.
-use borrow.Author.Rules.{rules}
 use Rattle.gallop.proofs.main.Given as goal
 
 abbrev pub invariant-loop-left : goal.invariant-loop-left

@@ -1,6 +1,5 @@
 -- `plain::carry` meets its contract.
 use mathlib.Core.Path.{sym, ap, subst, ◌∙◌}
-use borrow.Author.Rules.{rules}
 use native.Mathlib.Omega.{arith}
 use Prim.Native.Nat.{◌*◌, ◌≤◌}
 use Rattle.table.proofs.PlanLaws.{readable}

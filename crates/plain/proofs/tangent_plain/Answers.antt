@@ -1,5 +1,4 @@
 -- `plain::tangent_plain` meets its contract: the first refusal, or the engine's answer.
-use borrow.Author.Rules.{rules}
 use Rattle.sets.proofs.CallLaws.{marking_refuses, marking_shape}
 use Rattle.run.proofs.CallsJudged.{said}
 use Rattle.plain.proofs.CallLaws.{unread, lengths_refuse, lengths_fit_lem, numbers_refuse, carried, found_by}

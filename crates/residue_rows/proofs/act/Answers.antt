@@ -1,6 +1,5 @@
 -- `residue_rows::act` meets its contract: one law for each kind of row.
 use mathlib.Core.Path.{refl}
-use borrow.Author.Rules.{rules}
 use Rattle.machine.proofs.LineLaws.{says_copy, says_constant, says_sum, says_difference, says_product, says_negation, says_none}
 use Rattle.machine.proofs.LineLaws.{names_copy, names_constant, names_sum, names_difference, names_product, names_negation, names_save, names_take_back, names_clear}
 use Rattle.machine.specs.declared.Ahead.TheVariants as ahead

@@ -1,5 +1,4 @@
 -- `residue_rows::block_row` meets its contract.
-use borrow.Author.Rules.{rules}
 use Rattle.machine.proofs.CrossLaws.{first_there, second_there, block_leaves, block_crosses, block_asks}
 use Rattle.residue_rows.proofs.block_row.Goals as goal
 

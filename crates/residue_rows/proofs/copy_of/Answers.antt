@@ -2,7 +2,6 @@
 use mathlib.Core.Path.{sym}
 use Rattle.machine.specs.Actions.{evaluated}
 use Rattle.machine.proofs.PlaceLaws.{look_there}
-use borrow.Author.Rules.{rules}
 use Rattle.residue_rows.proofs.copy_of.Goals as goal
 
 pub returns : goal.returns

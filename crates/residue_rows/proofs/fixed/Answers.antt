@@ -2,7 +2,6 @@
 use mathlib.Core.Path.{ap}
 use Rattle.machine.specs.Actions.{evaluated, through}
 use Rattle.machine.proofs.PlaceLaws.{look_there}
-use borrow.Author.Rules.{rules}
 use Rattle.residue_rows.proofs.fixed.Goals as goal
 
 pub returns : goal.returns

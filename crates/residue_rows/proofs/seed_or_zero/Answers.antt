@@ -1,6 +1,5 @@
 -- `residue_rows::seed_or_zero` meets its contract.
 use mathlib.Core.Path.{sym, ◌∙◌}
-use borrow.Author.Rules.{rules}
 use Rattle.residue_rows.proofs.seed_or_zero.Goals as goal
 
 pub returns-then-is_dependent : goal.returns-then-is_dependent

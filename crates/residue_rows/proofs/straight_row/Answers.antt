@@ -1,6 +1,5 @@
 -- `residue_rows::straight_row` meets its contract.
 use native.Mathlib.Omega.{arith}
-use borrow.Author.Rules.{rules}
 use Rattle.machine.proofs.StraightLaws.{straight_acts, straight_over}
 use Rattle.residue_rows.proofs.straight_row.Goals as goal
 

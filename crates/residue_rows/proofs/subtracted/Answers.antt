@@ -2,7 +2,6 @@
 use mathlib.Core.Path.{ap}
 use Rattle.machine.specs.Actions.{evaluated, from_outcome}
 use Rattle.machine.proofs.PlaceLaws.{look_there}
-use borrow.Author.Rules.{rules}
 use Rattle.residue_rows.proofs.subtracted.Goals as goal
 
 pub returns : goal.returns

@@ -2,7 +2,6 @@
 use mathlib.Core.Path.{refl}
 use native.Mathlib.Omega.{arith}
 use Rattle.machine.proofs.RowLaws.{take_back_goes, take_back_empty, take_back_above}
-use borrow.Author.Rules.{rules}
 use Rattle.residue_rows.proofs.take_back.Goals as goal
 
 pub returns-then-height-eq0 : goal.returns-then-height-eq0

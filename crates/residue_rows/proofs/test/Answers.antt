@@ -1,7 +1,6 @@
 -- `residue_rows::test` meets its contract.
 use mathlib.Core.Path.{sym, ap, ◌∙◌}
 use mathlib.Core.Option.{some}
-use borrow.Author.Rules.{rules}
 use Rattle.machine.proofs.RowLaws.{compares}
 use Rattle.residue_rows.proofs.test.Goals as goal
 

@@ -1,10 +1,6 @@
 -- `residue_rows::turn_round` meets its contract.
-use borrow.Author.Rules.{rules}
-use Prim.Native.Nat.{◌-◌}
 use native.Mathlib.Omega.{arith}
-use lib.ListN.{length}
-use Rattle.number.specs.Residues.{residues}
-use Rattle.machine.proofs.RoundLaws.{Turning, turning_starts, turning_goes_on, turning_ends, round_refused}
+use Rattle.machine.proofs.RoundLaws.{turning_starts, turning_goes_on, turning_ends, round_refused}
 use Rattle.residue_rows.proofs.turn_round.Goals as goal
 
 pub returns-then-seeds-variables : goal.returns-then-seeds-variables

@@ -1,5 +1,4 @@
 -- `sets::ends_of` meets its contract: each of the two sets is the one that was read.
-use borrow.Author.Rules.{rules}
 use Rattle.sets.proofs.ends_of.Goals as goal
 
 pub returns : goal.returns

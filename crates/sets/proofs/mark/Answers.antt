@@ -1,5 +1,4 @@
 -- `sets::mark` meets its contract: the reader's answer, and by it the two sets and what is left in the lent lists.
-use borrow.Author.Rules.{rules}
 use mathlib.Core.Path.{refl, sym, ap, ◌∙◌}
 use Rattle.sheet.specs.Answers.{said}
 use Rattle.sheet.proofs.ReaderLaws.{refused_read}

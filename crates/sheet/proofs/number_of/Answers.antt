@@ -1,6 +1,5 @@
 -- `sheet::number_of` meets its contract: each refusal's number by its case.
 use Rattle.sheet.specs.Refusals.{number_of}
-use borrow.Author.Rules.{rules}
 use Rattle.sheet.proofs.number_of.Goals as goal
 
 pub returns-in-WordsEnd : goal.returns-in-WordsEnd

@@ -1,6 +1,5 @@
 -- `sheet::place_of` meets its contract: each refusal's place by its case.
 use Rattle.sheet.specs.Refusals.{place_of}
-use borrow.Author.Rules.{rules}
 use Rattle.sheet.proofs.place_of.Goals as goal
 
 pub returns-in-WordsEnd : goal.returns-in-WordsEnd

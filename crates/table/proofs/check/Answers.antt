@@ -1,5 +1,4 @@
 -- `table::check` meets its contract, by the case of the plan.
-use borrow.Author.Rules.{rules}
 use Rattle.table.specs.Computed.{needs_of}
 use Rattle.table.proofs.CallLaws.{when_refused, when_made, check_refused, check_made}
 use Rattle.table.proofs.check.Goals as goal

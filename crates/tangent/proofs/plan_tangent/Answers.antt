@@ -1,5 +1,4 @@
 -- `tangent::plan_tangent` meets its contract: the reader's refusal, or the plan of the sheet that it accepts, from what `sets::mark` promises.
-use borrow.Author.Rules.{rules}
 use Rattle.sets.proofs.CallLaws.{marking_refuses, marking_shape}
 use Rattle.table.proofs.NotedTree.{sheet_noted}
 use Rattle.tangent.proofs.plan_tangent.Goals as goal

@@ -1,5 +1,4 @@
 -- `tangent::write_planned` meets its contract: the plan's sheet is the words', so the rows that are written are its tangent table's.
-use borrow.Author.Rules.{rules}
 use mathlib.Core.Path.{sym, ◌∙◌}
 use native.Mathlib.Omega.{arith}
 use Rattle.sheet.proofs.ReadingParts.{same_given}

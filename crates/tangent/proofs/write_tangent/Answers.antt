@@ -1,5 +1,4 @@
 -- `tangent::write_tangent` meets its contract, by the case of the plan and by the buffer's room.
-use borrow.Author.Rules.{rules}
 use mathlib.Core.Path.{sym, ◌∙◌}
 use borrow.Author.Tests.{leb-true}
 use Rattle.sheet.specs.Refusals.{number_of}

@@ -1,6 +1,5 @@
 -- `writer::write` meets its contract, by the case of the plan and by the buffer's room.
 use mathlib.Core.Path.{sym, ◌∙◌}
-use borrow.Author.Rules.{rules}
 use borrow.Author.Tests.{leb-true}
 use Rattle.sheet.specs.Refusals.{number_of}
 use Rattle.table.specs.Computed.{needs_of}

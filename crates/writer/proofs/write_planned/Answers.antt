@@ -1,7 +1,6 @@
 -- `writer::write_planned` meets its contract: the plan's sheet is the words', so the rows that are written are its table's.
 use mathlib.Core.Path.{sym, ◌∙◌}
 use native.Mathlib.Omega.{arith}
-use borrow.Author.Rules.{rules}
 use Rattle.sheet.proofs.ReadingParts.{same_given}
 use Rattle.table.proofs.PlanLaws.{readable, planned_lies, planned_few}
 use Rattle.writer.proofs.PlanWritten.{walkable, whole_right, counts_rows}

@@ -1,7 +1,6 @@
 -- `gallop::answers::put_numbers` is safe and ends. The measure is the numbers that are left.
 use Prim.Native.Nat.{◌-◌}
 use lib.ListN.{length}
-use borrow.Author.Rules.{rules}
 use Rattle.gallop.proofs.answers.put_numbers.Given as goal
 
 abbrev pub invariant-loop-at : goal.invariant-loop-at

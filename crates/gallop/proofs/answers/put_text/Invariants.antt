@@ -1,7 +1,6 @@
 -- `gallop::answers::put_text` is safe and ends. The measure is what is left of the text.
 use Prim.Native.Nat.{◌-◌}
 use lib.ListN.{length}
-use borrow.Author.Rules.{rules}
 use Rattle.gallop.proofs.answers.put_text.Given as goal
 
 abbrev pub invariant-loop-at : goal.invariant-loop-at

@@ -1,7 +1,6 @@
 -- `gallop::answers::put_words` is safe and ends. The measure is the words that are left.
 use Prim.Native.Nat.{◌-◌}
 use lib.ListN.{length}
-use borrow.Author.Rules.{rules}
 use Rattle.gallop.proofs.answers.put_words.Given as goal
 
 abbrev pub invariant-loop-at : goal.invariant-loop-at

@@ -1,6 +1,5 @@
 -- `gallop::doubles::give_doubles` is safe and ends. The measure is the places that are left.
 use Prim.Native.Nat.{◌-◌}
-use borrow.Author.Rules.{rules}
 use Rattle.gallop.proofs.doubles.give_doubles.Given as goal
 
 abbrev pub invariant-loop-at : goal.invariant-loop-at

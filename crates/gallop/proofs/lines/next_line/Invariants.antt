@@ -1,5 +1,4 @@
 -- `gallop::lines::next_line` is safe and ends. The measure is the number of turns that are left.
-use borrow.Author.Rules.{rules}
 use Rattle.gallop.proofs.lines.next_line.Given as goal
 
 abbrev pub invariant-loop-left : goal.invariant-loop-left

@@ -2,7 +2,6 @@
 use mathlib.Core.Path.{sym}
 use native.Mathlib.Omega.{arith}
 use lib.Seq.{length-take-le}
-use borrow.Author.Rules.{rules}
 use Rattle.gallop.proofs.requests.taken_line.Goals as goal
 
 pub slice_bounds-verb_of-end : goal.slice_bounds-verb_of-end

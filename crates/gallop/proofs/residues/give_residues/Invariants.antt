@@ -1,6 +1,5 @@
 -- `gallop::residues::give_residues` is safe and ends. The measure is the places that are left.
 use Prim.Native.Nat.{◌-◌}
-use borrow.Author.Rules.{rules}
 use Rattle.gallop.proofs.residues.give_residues.Given as goal
 
 abbrev pub invariant-loop-at : goal.invariant-loop-at

@@ -2,7 +2,6 @@
 use Prim.Native.Nat.{◌-◌}
 use mathlib.Core.Path.{◌≡◌}
 use lib.ListN.{length}
-use borrow.Author.Rules.{rules}
 use Rattle.gallop.proofs.residues.take_residues.Given as goal
 
 abbrev pub invariant-loop-at : goal.invariant-loop-at

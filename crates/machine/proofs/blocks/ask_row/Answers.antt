@@ -1,6 +1,5 @@
 -- `machine::blocks::ask_row` meets its contract, in either arithmetic: an "if" goes by its branch, a loop with a test by its own function.
 use mathlib.Core.Path.{refl}
-use borrow.Author.Rules.{rules}
 use Rattle.machine.proofs.RowLaws.{in_both, in_both_by}
 use Rattle.machine.proofs.blocks.ask_row.Goals as goal
 

@@ -1,5 +1,4 @@
 -- `machine::blocks::branch_to` meets its contract.
-use borrow.Author.Rules.{rules}
 use Rattle.machine.proofs.blocks.branch_to.Goals as goal
 
 pub returns-in-First : goal.returns-in-First

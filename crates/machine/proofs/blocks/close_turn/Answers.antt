@@ -2,7 +2,6 @@
 use Prim.Native.Nat.{◌-◌}
 use native.Mathlib.Omega.{arith}
 use Rattle.machine.proofs.OpenedLaws.{closes_none, closes_beyond, closes_out, closes_back}
-use borrow.Author.Rules.{rules}
 use Rattle.machine.proofs.blocks.close_turn.Goals as goal
 
 pub returns-then-depth-eq0 : goal.returns-then-depth-eq0

@@ -2,7 +2,6 @@
 use mathlib.Core.Path.{refl}
 use Rattle.machine.proofs.RowLaws.{in_both_by}
 use Rattle.machine.proofs.CrossLaws.{ends_past, ends_stuck}
-use borrow.Author.Rules.{rules}
 use Rattle.machine.proofs.blocks.end_loop.Goals as goal
 
 pub returns-in-To : goal.returns-in-To

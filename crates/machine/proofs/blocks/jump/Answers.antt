@@ -3,7 +3,6 @@ use mathlib.Core.Path.{ap, ◌∙◌}
 use Prim.Native.Nat.{ℕ}
 use Rattle.machine.specs.Inner.RowSteps.{moved}
 use Rattle.machine.proofs.CrossLaws.{jump_goes, jump_nowhere}
-use borrow.Author.Rules.{rules}
 use Rattle.machine.proofs.blocks.jump.Goals as goal
 
 pub returns-then-row-beyond : goal.returns-then-row-beyond

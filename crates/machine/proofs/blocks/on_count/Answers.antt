@@ -4,7 +4,6 @@ use mathlib.Core.Path.{sym, ◌∙◌}
 use native.Mathlib.Omega.{arith}
 use Rattle.machine.proofs.RowLaws.{in_both}
 use Rattle.machine.proofs.CrossLaws.{counts_none, counts_past, counts_full, counts_in}
-use borrow.Author.Rules.{rules}
 use Rattle.machine.proofs.blocks.on_count.Goals as goal
 
 pub returns-in_default : goal.returns-in_default

@@ -2,7 +2,6 @@
 use Prim.Native.Nat.{◌-◌, ◌*◌}
 use mathlib.Core.Path.{ap}
 use Rattle.machine.proofs.OpenedLaws.{opens_none, opens_on}
-use borrow.Author.Rules.{rules}
 use Rattle.machine.proofs.blocks.open_repeat.Goals as goal
 
 pub returns-then-count-eq0 : goal.returns-then-count-eq0

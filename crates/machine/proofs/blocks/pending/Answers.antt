@@ -3,7 +3,6 @@ use Prim.Native.Nat.{◌-◌, ◌+◌, ◌*◌}
 use mathlib.Core.Path.{ap}
 use native.Mathlib.Omega.{arith}
 use Rattle.machine.proofs.OpenedLaws.{pends_none, pends_beyond, pends_again, pends_first}
-use borrow.Author.Rules.{rules}
 use Rattle.machine.proofs.blocks.pending.Goals as goal
 
 pub returns-then-depth-eq0 : goal.returns-then-depth-eq0

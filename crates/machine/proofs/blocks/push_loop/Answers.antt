@@ -1,6 +1,5 @@
 -- `machine::blocks::push_loop` meets its contract.
 use Rattle.machine.proofs.OpenedLaws.{pushes_full, pushes_on}
-use borrow.Author.Rules.{rules}
 use Rattle.machine.proofs.blocks.push_loop.Goals as goal
 
 pub returns-then-depth-ge-MAX_DEPTH : goal.returns-then-depth-ge-MAX_DEPTH

@@ -1,7 +1,6 @@
 -- `machine::blocks::turn_to` meets its contract.
 use mathlib.Core.Path.{ap}
 use Rattle.machine.specs.declared.Crossed.TheVariants as crossed
-use borrow.Author.Rules.{rules}
 use Rattle.machine.proofs.blocks.turn_to.Goals as goal
 
 pub returns-in-First : goal.returns-in-First

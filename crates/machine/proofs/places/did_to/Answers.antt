@@ -1,5 +1,4 @@
 -- `machine::places::did_to` meets its contract.
-use borrow.Author.Rules.{rules}
 use Rattle.machine.proofs.places.did_to.Goals as goal
 
 pub returns-in-On : goal.returns-in-On

@@ -2,7 +2,6 @@
 use mathlib.Core.Path.{ap}
 use Rattle.machine.specs.declared.Place.{Place}
 use Rattle.machine.specs.declared.Acted.TheVariants as acted
-use borrow.Author.Rules.{rules}
 use Rattle.machine.proofs.places.values_to.Goals as goal
 
 pub returns-in-To : goal.returns-in-To

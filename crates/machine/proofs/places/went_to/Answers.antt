@@ -1,5 +1,4 @@
 -- `machine::places::went_to` meets its contract.
-use borrow.Author.Rules.{rules}
 use Rattle.machine.proofs.places.went_to.Goals as goal
 
 pub returns-in-On : goal.returns-in-On

@@ -1,7 +1,6 @@
 -- `machine::rows::block_at` meets its contract.
 use mathlib.Core.Logic.{inl, inr}
 use native.Mathlib.Omega.{arith}
-use borrow.Author.Rules.{rules}
 use Rattle.machine.proofs.CrossLaws.{meets_row}
 use Rattle.machine.proofs.rows.block_at.Goals as goal
 

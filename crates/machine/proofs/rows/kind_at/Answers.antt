@@ -1,7 +1,6 @@
 -- `machine::rows::kind_at` meets its contract.
 use native.Mathlib.Omega.{arith}
 use Rattle.machine.proofs.CrossLaws.{meets_row}
-use borrow.Author.Rules.{rules}
 use Rattle.machine.proofs.rows.kind_at.Goals as goal
 
 pub returns : goal.returns

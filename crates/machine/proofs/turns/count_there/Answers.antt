@@ -1,7 +1,6 @@
 -- `machine::turns::count_there` meets its contract: the top is one below the height.
 use mathlib.Core.Logic.{inl, inr}
 use native.Mathlib.Omega.{arith}
-use borrow.Author.Rules.{rules}
 use Rattle.machine.proofs.turns.count_there.Goals as goal
 
 pub returns-then-height-eq0 : goal.returns-then-height-eq0

@@ -1,6 +1,5 @@
 -- `machine::turns::keep_count` meets its contract, in either arithmetic: by whether counts are kept.
 use Rattle.machine.proofs.RowLaws.{in_both, keeps_count, keeps_none}
-use borrow.Author.Rules.{rules}
 use Rattle.machine.proofs.turns.keep_count.Goals as goal
 
 pub returns-then-keeps : goal.returns-then-keeps

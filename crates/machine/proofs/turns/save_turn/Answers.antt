@@ -1,6 +1,5 @@
 -- `machine::turns::save_turn` meets its contract, in either arithmetic.
 use Rattle.machine.proofs.RowLaws.{in_both, saves_turn}
-use borrow.Author.Rules.{rules}
 use Rattle.machine.proofs.turns.save_turn.Goals as goal
 
 pub returns : goal.returns

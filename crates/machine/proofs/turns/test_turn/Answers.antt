@@ -1,7 +1,6 @@
 -- `machine::turns::test_turn` meets its contract, in either arithmetic: the top is one below the height.
 use mathlib.Core.Path.{sym, ◌∙◌}
 use native.Mathlib.Omega.{arith}
-use borrow.Author.Rules.{rules}
 use Rattle.machine.proofs.RowLaws.{in_both, take_turn_first, take_turn_second, take_turn_above, take_turn_empty}
 use Rattle.machine.proofs.turns.test_turn.Goals as goal
 

@@ -1,6 +1,5 @@
 -- `number::constant::above_two_to_52` meets its contract: the stated exact case.
 use native.Mathlib.Omega.{arith}
-use borrow.Author.Rules.{rules}
 use Rattle.number.proofs.WholeDoubles.{no_nan_bits, exact_from_bits}
 use Rattle.number.proofs.constant.above_two_to_52.Goals as goal
 

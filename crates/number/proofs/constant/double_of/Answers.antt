@@ -1,7 +1,6 @@
 -- `number::constant::double_of` meets its contract: every number of 32 bits is a double exactly, so the conversion rounds nothing.
-use mathlib.Core.Path.{◌≡◌, ap}
+use mathlib.Core.Path.{ap}
 use native.Mathlib.Omega.{arith}
-use borrow.Author.Rules.{rules}
 use lib.Ieee.{of_int, binary64}
 use mir.Syntax.{w32}
 use mir.ValLaws.{to_z-of_z}

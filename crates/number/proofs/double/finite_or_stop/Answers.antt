@@ -1,6 +1,5 @@
 -- `number::double::finite_or_stop` meets its contract, by what the test of finiteness answered.
 use mathlib.Core.Path.{sym, ◌∙◌}
-use borrow.Author.Rules.{rules}
 use Rattle.number.proofs.DoubleLaws.{value_when_finite, stop_when_not}
 use Rattle.number.proofs.double.finite_or_stop.Goals as goal
 

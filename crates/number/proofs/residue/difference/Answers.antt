@@ -1,6 +1,5 @@
 -- `number::residue::difference` meets its contract: the sum with the opposite.
 use mathlib.Core.Path.{◌≡◌}
-use borrow.Author.Rules.{rules}
 use Rattle.number.specs.Residues.{opposite}
 use Rattle.number.proofs.residue.difference.Goals as goal
 

@@ -1,7 +1,6 @@
 -- `number::residue::negation` meets its contract: a u32 is its own residue.
 use mathlib.Core.Path.{ap, ◌∙◌}
 use native.Mathlib.Omega.{arith}
-use borrow.Author.Rules.{rules}
 use Rattle.number.specs.Arithmetic.{value}
 use Rattle.number.proofs.ResidueLaws.{opposite_of_residue}
 use Rattle.number.proofs.residue.negation.Goals as goal

@@ -1,6 +1,5 @@
 -- `number::residue::reduced` meets its contract: the remainder is the definition.
 use mathlib.Core.Path.{refl}
-use borrow.Author.Rules.{rules}
 use Rattle.number.specs.Residues.{residue}
 use Rattle.number.proofs.residue.reduced.Goals as goal
 

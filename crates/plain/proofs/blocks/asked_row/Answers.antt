@@ -1,5 +1,4 @@
 -- `plain::blocks::asked_row` meets its contract.
-use borrow.Author.Rules.{rules}
 use Rattle.plain.proofs.blocks.asked_row.Goals as goal
 
 pub returns-in-EndRepeat : goal.returns-in-EndRepeat

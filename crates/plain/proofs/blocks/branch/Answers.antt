@@ -1,5 +1,4 @@
 -- `plain::blocks::branch` meets its contract.
-use borrow.Author.Rules.{rules}
 use Rattle.plain.proofs.blocks.branch.Goals as goal
 
 pub returns-then-holds : goal.returns-then-holds

@@ -1,5 +1,4 @@
 -- `plain::blocks::cross` meets its contract, by what the row is to the blocks.
-use borrow.Author.Rules.{rules}
 use mathlib.Core.Path.{subst}
 use lib.ListN.{length}
 use Rattle.sheet.specs.Answers.{row_said}

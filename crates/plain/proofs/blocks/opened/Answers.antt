@@ -1,5 +1,4 @@
 -- `plain::blocks::opened` meets its contract.
-use borrow.Author.Rules.{rules}
 use Rattle.plain.proofs.blocks.opened.Goals as goal
 
 pub returns-then-more : goal.returns-then-more

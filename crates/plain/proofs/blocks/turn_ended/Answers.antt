@@ -1,5 +1,4 @@
 -- `plain::blocks::turn_ended` meets its contract.
-use borrow.Author.Rules.{rules}
 use Rattle.plain.proofs.BlockLaws.{some_to_come, last_turn, one_more_lem}
 use Rattle.plain.proofs.blocks.turn_ended.Goals as goal
 

@@ -1,10 +1,7 @@
 -- `plain::cells::laid` meets its contract. The invariant: the variables passed are laid.
 use Prim.Native.Nat.{◌-◌}
-use mathlib.Core.Path.{refl, sym}
-use native.Mathlib.Omega.{arith}
 use lib.ListN.{length}
-use borrow.Author.Rules.{rules}
-use Rattle.plain.proofs.LayingLaws.{Laying, laying_starts, laying_goes_on, laying_ends}
+use Rattle.plain.proofs.LayingLaws.{Laying}
 use Rattle.plain.proofs.cells.laid.Given as goal
 
 abbrev pub invariant-loop-i : goal.invariant-loop-i

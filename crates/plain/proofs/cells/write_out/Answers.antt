@@ -1,11 +1,7 @@
 -- `plain::cells::write_out` meets its contract. The invariant: the variables passed are written, in both halves.
-use Prim.Native.Nat.{◌-◌}
 use mathlib.Core.Path.{sym}
 use native.Mathlib.Omega.{arith}
-use lib.ListN.{length}
-use lib.Seq.{lt-length-set}
-use borrow.Author.Rules.{rules}
-use Rattle.plain.proofs.LayingLaws.{Writing, writing_starts, writing_goes_on, writing_ends}
+use Rattle.plain.proofs.LayingLaws.{writing_starts, writing_goes_on, writing_ends}
 use Rattle.plain.proofs.cells.write_out.Goals as goal
 
 pub loop-i-init : goal.loop-i-init

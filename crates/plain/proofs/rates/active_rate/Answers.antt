@@ -1,5 +1,4 @@
 -- `plain::rates::active_rate` meets its contract.
-use borrow.Author.Rules.{rules}
 use mathlib.Core.Path.{sym}
 use Rattle.plain.proofs.WorkLaws.{moves}
 use Rattle.plain.proofs.rates.active_rate.Goals as goal

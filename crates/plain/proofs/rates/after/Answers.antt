@@ -1,5 +1,4 @@
 -- `plain::rates::after` meets its contract.
-use borrow.Author.Rules.{rules}
 use Rattle.plain.proofs.rates.after.Goals as goal
 
 pub returns-in-Value : goal.returns-in-Value

@@ -1,5 +1,4 @@
 -- `plain::rates::assigned` meets its contract.
-use borrow.Author.Rules.{rules}
 use mathlib.Core.Path.{sym}
 use native.Mathlib.Omega.{arith}
 use Rattle.sheet.specs.Answers.{row_said}

@@ -1,6 +1,5 @@
 -- `plain::rates::both_over` meets its contract.
 use mathlib.Core.Path.{ap, ◌∙◌}
-use borrow.Author.Rules.{rules}
 use Rattle.number.specs.Doubles.{doubles}
 use Rattle.plain.specs.Inner.Working.{after}
 use Rattle.plain.proofs.WorkLaws.{same_there, first_over_stops, then_second, asked_stops, asked_goes}

@@ -1,5 +1,4 @@
 -- `plain::rates::operand` meets its contract.
-use borrow.Author.Rules.{rules}
 use native.Mathlib.Omega.{arith}
 use borrow.Author.Tests.{eq-eqb, ne_eqb}
 use Rattle.plain.proofs.rates.operand.Goals as goal

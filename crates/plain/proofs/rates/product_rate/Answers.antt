@@ -1,7 +1,5 @@
 -- `plain::rates::product_rate` meets its contract.
-use borrow.Author.Rules.{rules}
 use mathlib.Core.Path.{sym}
-use borrow.Author.Tests.{not-true, not-false}
 use Rattle.plain.proofs.rates.product_rate.Goals as goal
 
 pub returns-then-not-vary_a : goal.returns-then-not-vary_a

@@ -1,7 +1,5 @@
 -- `plain::rates::quotient_rate` meets its contract.
 use mathlib.Core.Path.{sym}
-use borrow.Author.Rules.{rules}
-use borrow.Author.Tests.{not-true, not-false}
 use Rattle.plain.proofs.WorkLaws.{same_there}
 use Rattle.plain.proofs.rates.quotient_rate.Goals as goal
 

@@ -1,5 +1,4 @@
 -- `plain::rates::rate_of` meets its contract.
-use borrow.Author.Rules.{rules}
 use mathlib.Core.Path.{sym, ap, ◌∙◌}
 use Rattle.machine.specs.Actions.{through}
 use Rattle.plain.proofs.rates.rate_of.Goals as goal

@@ -1,5 +1,4 @@
 -- `plain::rates::second_over` meets its contract.
-use borrow.Author.Rules.{rules}
 use Rattle.plain.proofs.WorkLaws.{same_there, scaling_stops, over_stops, over_again}
 use Rattle.plain.proofs.rates.second_over.Goals as goal
 

@@ -1,6 +1,4 @@
 -- `plain::rates::sum_rate` meets its contract.
-use borrow.Author.Rules.{rules}
-use borrow.Author.Tests.{not-true, not-false}
 use Rattle.plain.proofs.rates.sum_rate.Goals as goal
 
 pub returns-then-not-vary_a : goal.returns-then-not-vary_a

@@ -1,5 +1,4 @@
 -- `plain::rates::two_terms` meets its contract.
-use borrow.Author.Rules.{rules}
 use Rattle.plain.proofs.WorkLaws.{first_stops, second_stops, terms_added}
 use Rattle.plain.proofs.rates.two_terms.Goals as goal
 

@@ -1,5 +1,4 @@
 -- `plain::rates::value_of` meets its contract.
-use borrow.Author.Rules.{rules}
 use Rattle.plain.proofs.WorkLaws.{moves, same_there}
 use Rattle.plain.proofs.rates.value_of.Goals as goal
 

@@ -1,5 +1,4 @@
 -- `plain::rates::work_out` meets its contract.
-use borrow.Author.Rules.{rules}
 use Rattle.table.specs.Inner.MarkedRows.{known_by}
 use Rattle.plain.proofs.WorkLaws.{rate_stops, value_stops, both_worked}
 use Rattle.plain.proofs.rates.work_out.Goals as goal

@@ -1,9 +1,7 @@
 -- `run::buffers::clear_doubles` meets its contract. The invariant: the cells passed hold zeros.
-use Prim.Native.Nat.{◌-◌}
-use lib.ListN.{length, length-set}
+use lib.ListN.{length-set}
 use Rattle.number.specs.Doubles.{doubles}
-use Rattle.run.proofs.FillingLaws.{Clearing, clearing_starts, clearing_goes_on, clearing_ends}
-use borrow.Author.Rules.{rules}
+use Rattle.run.proofs.FillingLaws.{clearing_starts, clearing_goes_on, clearing_ends}
 use native.Mathlib.Omega.{arith}
 use Rattle.run.proofs.buffers.clear_doubles.Goals as goal
 

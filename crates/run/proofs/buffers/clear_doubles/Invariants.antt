@@ -1,10 +1,8 @@
 -- `run::buffers::clear_doubles` meets its contract. The invariant: the cells passed hold zeros.
 use Prim.Native.Nat.{◌-◌}
-use lib.ListN.{length, length-set}
+use lib.ListN.{length}
 use Rattle.number.specs.Doubles.{doubles}
-use Rattle.run.proofs.FillingLaws.{Clearing, clearing_starts, clearing_goes_on, clearing_ends}
-use borrow.Author.Rules.{rules}
-use native.Mathlib.Omega.{arith}
+use Rattle.run.proofs.FillingLaws.{Clearing}
 use Rattle.run.proofs.buffers.clear_doubles.Given as goal
 
 abbrev pub invariant-loop-i : goal.invariant-loop-i

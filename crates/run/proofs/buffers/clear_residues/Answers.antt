@@ -1,9 +1,8 @@
 -- `run::buffers::clear_residues` meets its contract. The invariant: the cells passed hold zeros.
-use Prim.Native.Nat.{◌-◌}
 use mathlib.Core.Path.{refl}
-use lib.ListN.{length, length-set}
+use lib.ListN.{length-set}
 use Rattle.number.specs.Residues.{residues}
-use Rattle.run.proofs.FillingLaws.{Clearing, clearing_starts, clearing_goes_on, clearing_ends}
+use Rattle.run.proofs.FillingLaws.{clearing_starts, clearing_goes_on, clearing_ends}
 use native.Mathlib.Omega.{arith}
 use Rattle.run.proofs.buffers.clear_residues.Goals as goal
 

@@ -1,10 +1,7 @@
 -- `run::buffers::copy_doubles` meets its contract. The invariant: the numbers passed are copied.
 use Prim.Native.Nat.{◌-◌}
-use mathlib.Core.Path.{refl}
 use lib.ListN.{length}
-use lib.Ieee.{nan}
-use Rattle.run.proofs.FillingLaws.{Filling, filling_starts, filling_goes_on, filling_ends}
-use native.Mathlib.Omega.{arith}
+use Rattle.run.proofs.FillingLaws.{Filling}
 use Rattle.run.proofs.buffers.copy_doubles.Given as goal
 
 abbrev pub invariant-loop-i : goal.invariant-loop-i

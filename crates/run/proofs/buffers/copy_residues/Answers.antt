@@ -1,8 +1,6 @@
 -- `run::buffers::copy_residues` meets its contract. The invariant: the numbers passed are copied.
-use Prim.Native.Nat.{◌-◌}
 use mathlib.Core.Path.{refl}
-use lib.ListN.{length}
-use Rattle.run.proofs.FillingLaws.{Filling, filling_starts, filling_goes_on, filling_ends}
+use Rattle.run.proofs.FillingLaws.{filling_starts, filling_goes_on, filling_ends}
 use native.Mathlib.Omega.{arith}
 use Rattle.run.proofs.buffers.copy_residues.Goals as goal
 

@@ -1,5 +1,4 @@
 -- `run::buffers::counts` meets its contract.
-use borrow.Author.Rules.{rules}
 use Rattle.run.proofs.buffers.counts.Goals as goal
 
 pub returns-in-Independents : goal.returns-in-Independents

@@ -1,7 +1,6 @@
 -- `run::buffers::lay_doubles` meets its contract.
 use Rattle.number.specs.Doubles.{doubles}
 use Rattle.run.proofs.FillingLaws.{halves_laid}
-use borrow.Author.Rules.{rules}
 use Rattle.run.proofs.buffers.lay_doubles.Goals as goal
 
 pub returns : goal.returns

@@ -1,7 +1,6 @@
 -- `run::buffers::lay_residues` meets its contract.
 use Rattle.number.specs.Residues.{residues}
 use Rattle.run.proofs.FillingLaws.{halves_laid}
-use borrow.Author.Rules.{rules}
 use Rattle.run.proofs.buffers.lay_residues.Goals as goal
 
 pub returns : goal.returns

@@ -1,12 +1,9 @@
 -- `run::buffers::put_doubles` meets its contract. The invariant: the numbers passed are put.
 use Prim.Native.Nat.{◌-◌}
 use lib.ListN.{length}
-use lib.Ieee.{nan}
 use Rattle.number.specs.Doubles.{doubles}
 use Rattle.run.specs.Inner.CallSteps.{counts_of}
-use Rattle.run.proofs.FillingLaws.{Putting, putting_starts, putting_goes_on, putting_ends}
-use borrow.Author.Rules.{rules}
-use native.Mathlib.Omega.{arith}
+use Rattle.run.proofs.FillingLaws.{Putting}
 use Rattle.run.proofs.buffers.put_doubles.Given as goal
 
 abbrev pub invariant-loop-i : goal.invariant-loop-i

@@ -1,10 +1,6 @@
 -- `run::buffers::put_residues` meets its contract. The invariant: the numbers passed are put.
-use Prim.Native.Nat.{◌-◌}
-use lib.ListN.{length}
 use Rattle.number.specs.Residues.{residues}
-use Rattle.run.specs.Inner.CallSteps.{counts_of}
-use Rattle.run.proofs.FillingLaws.{Putting, putting_starts, putting_goes_on, putting_ends}
-use borrow.Author.Rules.{rules}
+use Rattle.run.proofs.FillingLaws.{putting_starts, putting_goes_on, putting_ends}
 use native.Mathlib.Omega.{arith}
 use Rattle.run.proofs.buffers.put_residues.Goals as goal
 

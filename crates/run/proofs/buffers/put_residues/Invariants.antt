@@ -3,9 +3,7 @@ use Prim.Native.Nat.{◌-◌}
 use lib.ListN.{length}
 use Rattle.number.specs.Residues.{residues}
 use Rattle.run.specs.Inner.CallSteps.{counts_of}
-use Rattle.run.proofs.FillingLaws.{Putting, putting_starts, putting_goes_on, putting_ends}
-use borrow.Author.Rules.{rules}
-use native.Mathlib.Omega.{arith}
+use Rattle.run.proofs.FillingLaws.{Putting}
 use Rattle.run.proofs.buffers.put_residues.Given as goal
 
 abbrev pub invariant-loop-i : goal.invariant-loop-i

@@ -3,7 +3,6 @@ use mathlib.Core.Path.{◌∙◌}
 use Rattle.number.specs.Residues.{residues}
 use Rattle.machine.proofs.RunLaws.{still_indexed}
 use Rattle.run.proofs.AdjointCalls.{result_fits_lem, adjoint_comes_to}
-use borrow.Author.Rules.{rules}
 use Rattle.run.proofs.calls_audit.run_in.Goals as goal
 
 pub run_table-end-requires : goal.run_table-end-requires

@@ -4,7 +4,6 @@ use lib.Seq.{length-take-le}
 use Rattle.number.specs.Residues.{residues}
 use Rattle.run.proofs.SectionLaws.{run_room, part_indexed, ready_to_run}
 use native.Mathlib.Omega.{arith}
-use borrow.Author.Rules.{rules}
 use Rattle.run.proofs.calls_audit.run_written.Goals as goal
 
 pub slice_bounds-run_in-end-3 : goal.slice_bounds-run_in-end-3

@@ -3,7 +3,6 @@ use mathlib.Core.Path.{◌∙◌}
 use Rattle.number.specs.Residues.{residues}
 use Rattle.run.specs.Inner.CallSteps.{result_at}
 use Rattle.run.proofs.FillingLaws.{halves_fit, result_laid}
-use borrow.Author.Rules.{rules}
 use Rattle.run.proofs.calls_audit.write_result.Goals as goal
 
 pub lay_residues-requires : goal.lay_residues-requires

@@ -3,7 +3,6 @@ use mathlib.Core.Path.{◌∙◌}
 use Rattle.number.specs.Doubles.{doubles}
 use Rattle.run.specs.Inner.CallSteps.{result_at}
 use Rattle.run.proofs.FillingLaws.{halves_fit, result_laid}
-use borrow.Author.Rules.{rules}
 use Rattle.run.proofs.calls_double.write_result.Goals as goal
 
 pub lay_doubles-requires : goal.lay_doubles-requires

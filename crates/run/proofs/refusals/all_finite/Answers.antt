@@ -4,7 +4,6 @@ use lib.ListN.{length}
 use Rattle.number.specs.Doubles.{doubles}
 use Rattle.run.proofs.AdmittedLaws.{admitted_append}
 use Rattle.run.proofs.CallsJudged.{said}
-use borrow.Author.Rules.{rules}
 use Rattle.run.proofs.refusals.all_finite.Goals as goal
 
 pub returns-in-No : goal.returns-in-No

@@ -1,6 +1,5 @@
 -- `run::refusals::answer_end` meets its contract.
 use Rattle.run.specs.Inner.CallSteps.{answer_at}
-use borrow.Author.Rules.{rules}
 use Rattle.run.proofs.refusals.answer_end.Goals as goal
 
 pub returns-in-Finished : goal.returns-in-Finished

@@ -1,7 +1,6 @@
 -- `run::refusals::answer_no` meets its contract.
 use mathlib.Core.Path.{refl}
 use Rattle.sheet.specs.Refusals.{number_of, place_of}
-use borrow.Author.Rules.{rules}
 use Rattle.run.proofs.refusals.answer_no.Goals as goal
 
 pub returns-in-SmallTable : goal.returns-in-SmallTable

@@ -2,7 +2,6 @@
 use mathlib.Core.Path.{subst}
 use Rattle.table.specs.Inner.Plans.{PlanSaysIn}
 use Rattle.run.proofs.CallsJudged.{said, unread, rooms_refuse, rooms_fit_lem}
-use borrow.Author.Rules.{rules}
 use Rattle.run.proofs.refusals.judge.Goals as goal
 
 pub returns-in-Refused : goal.returns-in-Refused

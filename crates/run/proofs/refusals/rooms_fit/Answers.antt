@@ -1,6 +1,5 @@
 -- `run::refusals::rooms_fit` meets its contract.
 use Rattle.run.proofs.CallsJudged.{said}
-use borrow.Author.Rules.{rules}
 use Rattle.run.proofs.refusals.rooms_fit.Goals as goal
 
 pub returns-in-No : goal.returns-in-No

@@ -1,6 +1,5 @@
 -- `run::refusals::table_fits` meets its contract.
 use mathlib.Core.Path.{sym, ◌∙◌}
-use borrow.Author.Rules.{rules}
 use Rattle.run.proofs.refusals.table_fits.Goals as goal
 
 pub returns-then-has_room : goal.returns-then-has_room

@@ -1,5 +1,4 @@
 -- `sets::equations::joins` meets its contract: by the set.
-use borrow.Author.Rules.{rules}
 use Rattle.sets.specs.Inner.RowEquations.{joins_by}
 use Rattle.sets.proofs.equations.joins.Goals as goal
 

@@ -1,5 +1,4 @@
 -- `sets::equations::own_point` meets its contract: by the set.
-use borrow.Author.Rules.{rules}
 use Rattle.sets.specs.Inner.RowEquations.{own_point}
 use Rattle.sets.proofs.equations.own_point.Goals as goal
 

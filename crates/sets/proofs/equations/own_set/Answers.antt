@@ -1,5 +1,4 @@
 -- `sets::equations::own_set` meets its contract: the set at the row's own point.
-use borrow.Author.Rules.{rules}
 use mathlib.Core.Path.{ap, ◌∙◌}
 use Rattle.sets.specs.Rounds.{set_at}
 use Rattle.sets.proofs.equations.own_set.Goals as goal

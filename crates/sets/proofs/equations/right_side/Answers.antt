@@ -1,5 +1,4 @@
 -- `sets::equations::right_side` meets its contract: each branch is one case of what the row is to the blocks.
-use borrow.Author.Rules.{rules}
 use mathlib.Core.Path.{sym, ◌∙◌}
 use Rattle.sets.proofs.RightSides.{asks_else, asks_joined}
 use Rattle.sets.proofs.equations.right_side.Goals as goal

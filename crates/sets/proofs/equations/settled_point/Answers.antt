@@ -1,5 +1,4 @@
 -- `sets::equations::settled_point` meets its contract: by the set.
-use borrow.Author.Rules.{rules}
 use Rattle.sets.specs.Inner.RowEquations.{settled_point}
 use Rattle.sets.proofs.equations.settled_point.Goals as goal
 

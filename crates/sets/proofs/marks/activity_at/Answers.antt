@@ -1,5 +1,4 @@
 -- `sets::marks::activity_at` meets its contract: what is known by the two sets that are read.
-use borrow.Author.Rules.{rules}
 use mathlib.Core.Path.{sym}
 use Rattle.sets.proofs.marks.activity_at.Goals as goal
 

@@ -1,5 +1,4 @@
 -- `sets::marks::row_byte` meets its contract: the weights of the four marks added up.
-use borrow.Author.Rules.{rules}
 use Rattle.sets.proofs.marks.row_byte.Goals as goal
 
 pub returns : goal.returns

@@ -1,5 +1,4 @@
 -- `sets::masks::has` meets its contract: a digit of the mask is the set's member.
-use borrow.Author.Rules.{rules}
 use mathlib.Core.Path.{refl}
 use Rattle.sets.specs.VariableSets.{has}
 use Rattle.sets.proofs.masks.has.Goals as goal

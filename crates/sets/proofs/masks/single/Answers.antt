@@ -1,5 +1,4 @@
 -- `sets::masks::single` meets its contract: one bit, below the mask's width.
-use borrow.Author.Rules.{rules}
 use Prim.Native.Nat.{◌^◌, ◌<◌}
 use lib.Pow.{pow-lt}
 use native.Mathlib.Nat.{mod-eq_of_lt}

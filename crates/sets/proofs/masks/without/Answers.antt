@@ -1,5 +1,4 @@
 -- `sets::masks::without` meets its contract: the bit is put in and turned off.
-use borrow.Author.Rules.{rules}
 use Rattle.sets.specs.VariableSets.{without}
 use Rattle.sets.proofs.masks.without.Goals as goal
 

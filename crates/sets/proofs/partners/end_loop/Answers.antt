@@ -1,5 +1,4 @@
 -- `sets::partners::end_loop` meets its contract: both rows are partners, then far ends.
-use borrow.Author.Rules.{rules}
 use mathlib.Core.Path.{ap}
 use Rattle.sets.specs.Inner.PartnerPass.{ended}
 use Rattle.sets.proofs.partners.end_loop.Goals as goal

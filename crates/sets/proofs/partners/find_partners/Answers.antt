@@ -1,9 +1,7 @@
 -- `sets::partners::find_partners` meets its contract: the loop's invariant: the rest of the pass from here ends where the whole pass does,
 -- and asks the lists for rows alone. The measure is what is left of the rows.
-use Prim.Native.Nat.{◌-◌}
 use native.Mathlib.Omega.{arith}
-use Rattle.sets.specs.Inner.RowEquations.{line_in}
-use Rattle.sets.proofs.PartnerPass.{Finding, finding_starts, both_listed, finding_on, found_all, part_read}
+use Rattle.sets.proofs.PartnerPass.{finding_starts, both_listed, finding_on, found_all, part_read}
 use Rattle.sets.proofs.SheetRows.{form_read}
 use Rattle.sets.proofs.partners.find_partners.Goals as goal
 

@@ -1,5 +1,4 @@
 -- `sets::partners::pair` meets its contract: what `goes` had for the open row, then both partners.
-use borrow.Author.Rules.{rules}
 use Rattle.sets.proofs.partners.pair.Goals as goal
 
 pub returns : goal.returns

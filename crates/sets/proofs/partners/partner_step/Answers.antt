@@ -1,5 +1,4 @@
 -- `sets::partners::partner_step` meets its contract: each arm is one case of what the row is to the blocks.
-use borrow.Author.Rules.{rules}
 use mathlib.Core.Path.{sym, ap}
 use Rattle.sets.specs.Inner.PartnerPass.{opened, found_by}
 use Rattle.sets.proofs.partners.partner_step.Goals as goal

@@ -1,5 +1,4 @@
 -- `sets::partners::partner_there` meets its contract: a 16-bit word.
-use borrow.Author.Rules.{rules}
 use native.Mathlib.Omega.{arith}
 use mathlib.Core.Path.{refl}
 use Rattle.sets.proofs.partners.partner_there.Goals as goal

@@ -1,6 +1,5 @@
 -- `sets::partners::put_ways_out` meets its contract: by whether the loop has a test.
 use native.Mathlib.Numerals.{add-one}
-use borrow.Author.Rules.{rules}
 use Rattle.sets.proofs.partners.put_ways_out.Goals as goal
 
 pub returns-then-tests : goal.returns-then-tests

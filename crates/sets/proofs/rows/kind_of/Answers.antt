@@ -1,5 +1,4 @@
 -- `sets::rows::kind_of` meets its contract: the first word of a row that is there, which is a kind of the table.
-use borrow.Author.Rules.{rules}
 use mathlib.Core.Path.{refl}
 use native.Mathlib.Omega.{arith}
 use Rattle.sheet.specs.Sheets.{row_at}

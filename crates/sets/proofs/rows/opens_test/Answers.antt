@@ -3,7 +3,6 @@ use mathlib.Core.Path.{sym, ap, ◌∙◌}
 use lib.Dec.{eqb}
 use Rattle.sheet.specs.Rows.{while_kind}
 use Rattle.sheet.proofs.LinesByPart.{row_tests}
-use borrow.Author.Rules.{rules}
 use Rattle.sets.proofs.rows.opens_test.Goals as goal
 
 pub returns : goal.returns

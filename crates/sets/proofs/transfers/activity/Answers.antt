@@ -1,5 +1,4 @@
 -- `sets::transfers::activity` meets its contract: useful after, and some read varied before.
-use borrow.Author.Rules.{rules}
 use Rattle.sets.proofs.OperationLaws.{activity_said}
 use Rattle.sets.proofs.transfers.activity.Goals as goal
 

@@ -1,5 +1,4 @@
 -- `sets::transfers::adjoint_use` meets its contract: an active product's or quotient's operands, each by its fellow's being varied, and the divisor.
-use borrow.Author.Rules.{rules}
 use Rattle.sets.proofs.OperationLaws.{use_said}
 use Rattle.sets.proofs.transfers.adjoint_use.Goals as goal
 

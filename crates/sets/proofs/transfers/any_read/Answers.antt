@@ -1,5 +1,4 @@
 -- `sets::transfers::any_read` meets its contract: some read variable is a member.
-use borrow.Author.Rules.{rules}
 use Rattle.sets.proofs.OperationLaws.{any_said}
 use Rattle.sets.proofs.transfers.any_read.Goals as goal
 

@@ -1,5 +1,4 @@
 -- `sets::transfers::recorded` meets its contract: required before, or in the row's own use.
-use borrow.Author.Rules.{rules}
 use Rattle.sets.proofs.OperationLaws.{recorded_said}
 use Rattle.sets.proofs.transfers.recorded.Goals as goal
 

@@ -1,5 +1,4 @@
 -- `sets::transfers::required_after` meets its contract: the use is the definition's by the contract of `adjoint_use`.
-use borrow.Author.Rules.{rules}
 use Rattle.sets.proofs.OperationLaws.{required_said}
 use Rattle.sets.proofs.transfers.required_after.Goals as goal
 

@@ -1,5 +1,4 @@
 -- `sets::transfers::transfer` meets its contract: each set's own transfer.
-use borrow.Author.Rules.{rules}
 use Rattle.sets.specs.Inner.RowEquations.{turn_of}
 use Rattle.sets.proofs.transfers.transfer.Goals as goal
 

@@ -1,5 +1,4 @@
 -- `sets::transfers::useful_before` meets its contract: the code's branch is the definition's.
-use borrow.Author.Rules.{rules}
 use mathlib.Core.Path.{sym}
 use Rattle.sets.proofs.OperationLaws.{useful_said}
 use Rattle.sets.proofs.transfers.useful_before.Goals as goal

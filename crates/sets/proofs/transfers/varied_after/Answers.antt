@@ -1,5 +1,4 @@
 -- `sets::transfers::varied_after` meets its contract: the code's branch is the definition's.
-use borrow.Author.Rules.{rules}
 use mathlib.Core.Path.{sym}
 use Rattle.sets.proofs.OperationLaws.{varied_said}
 use Rattle.sets.proofs.transfers.varied_after.Goals as goal

@@ -1,5 +1,4 @@
 -- `sets::walk::begin` meets its contract: the start point has the seed.
-use borrow.Author.Rules.{rules}
 use mathlib.Core.Path.{refl, sym}
 use Rattle.sets.proofs.RightSides.{start_below}
 use Rattle.sets.proofs.walk.begin.Goals as goal

@@ -1,5 +1,4 @@
 -- `sets::walk::ends_repeat` meets its contract: by the set.
-use borrow.Author.Rules.{rules}
 use Rattle.sets.specs.Inner.Walks.{ends_repeat}
 use Rattle.sets.proofs.walk.ends_repeat.Goals as goal
 

@@ -1,5 +1,4 @@
 -- `sets::walk::has_role` meets its contract: by the set.
-use borrow.Author.Rules.{rules}
 use Rattle.sets.proofs.walk.has_role.Goals as goal
 
 pub returns-in-Varied : goal.returns-in-Varied

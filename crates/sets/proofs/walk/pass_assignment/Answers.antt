@@ -1,5 +1,4 @@
 -- `sets::walk::pass_assignment` meets its contract: what it makes of its own set grows at the point that it settles.
-use borrow.Author.Rules.{rules}
 use mathlib.Core.Path.{refl, sym}
 use Rattle.sets.proofs.RightSides.{settled_below}
 use Rattle.sets.proofs.walk.pass_assignment.Goals as goal

@@ -1,5 +1,4 @@
 -- `sets::walk::row_in_turn` meets its contract: by the set.
-use borrow.Author.Rules.{rules}
 use native.Mathlib.Omega.{arith}
 use Rattle.sets.specs.Inner.RowEquations.{row_in_turn}
 use Rattle.sets.proofs.walk.row_in_turn.Goals as goal

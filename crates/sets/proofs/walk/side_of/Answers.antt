@@ -1,7 +1,6 @@
 -- `sets::walk::side_of` meets its contract: a loop's far end, or any other row of a block.
 use mathlib.Core.Path.{sym, ◌∙◌}
 use Rattle.sets.proofs.RightSides.{asks_beyond, asks_inside}
-use borrow.Author.Rules.{rules}
 use Rattle.sets.proofs.walk.side_of.Goals as goal
 
 pub set_at-requires : goal.set_at-requires

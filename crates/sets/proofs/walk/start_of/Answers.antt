@@ -1,5 +1,4 @@
 -- `sets::walk::start_of` meets its contract: by the set.
-use borrow.Author.Rules.{rules}
 use Rattle.sets.specs.Inner.RowEquations.{start_of}
 use Rattle.sets.proofs.walk.start_of.Goals as goal
 

@@ -1,5 +1,4 @@
 -- `sheet::blocks::capped` meets its contract.
-use borrow.Author.Rules.{rules}
 use native.Mathlib.Omega.{arith}
 use Rattle.sheet.specs.Inner.Steps.{saturated}
 use Rattle.sheet.proofs.blocks.capped.Goals as goal

@@ -1,5 +1,4 @@
 -- `sheet::blocks::counted` meets its contract.
-use borrow.Author.Rules.{rules}
 use Rattle.sheet.proofs.blocks.counted.Goals as goal
 
 pub returns : goal.returns

@@ -1,7 +1,6 @@
 -- `sheet::blocks::end_if` meets its contract.
 use Rattle.sheet.specs.Inner.Steps.{if_end_of}
 use Rattle.sheet.proofs.BlocksApart.{not_second}
-use borrow.Author.Rules.{rules}
 use Rattle.sheet.proofs.blocks.end_if.Goals as goal
 
 pub returns-in_default : goal.returns-in_default

@@ -1,6 +1,5 @@
 -- `sheet::blocks::follow` meets its contract.
 use Rattle.sheet.specs.Inner.Steps.{step_of}
-use borrow.Author.Rules.{rules}
 use Rattle.sheet.proofs.blocks.follow.Goals as goal
 
 pub returns-in-Assignment : goal.returns-in-Assignment

@@ -5,7 +5,6 @@ use lib.ListN.{get_or}
 use mathlib.Core.Path.{◌≡◌, refl, sym, ap, ◌∙◌}
 use mathlib.Core.Bool.{true}
 use borrow.Author.Rules.{rules}
-use borrow.Author.Tests.{not-true, not-false}
 use native.Mathlib.Omega.{arith}
 use Rattle.sheet.specs.Sheets.{row_at}
 use Rattle.sheet.specs.Answers.{row_said}

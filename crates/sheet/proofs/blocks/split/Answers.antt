@@ -1,7 +1,6 @@
 -- `sheet::blocks::split` meets its contract.
 use Rattle.sheet.specs.Inner.Steps.{split_of}
 use Rattle.sheet.proofs.BlocksApart.{not_first}
-use borrow.Author.Rules.{rules}
 use Rattle.sheet.proofs.blocks.split.Goals as goal
 
 pub returns-in_default : goal.returns-in_default

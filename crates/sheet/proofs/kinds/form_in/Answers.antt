@@ -2,7 +2,6 @@
 use mathlib.Core.Path.{ap, ◌∙◌}
 use Rattle.sheet.specs.Inner.Kinds.{form_for}
 use Rattle.sheet.proofs.PartsRead.{no_form_above, form_there}
-use borrow.Author.Rules.{rules}
 use Rattle.sheet.proofs.kinds.form_in.Goals as goal
 
 pub returns-then-number-gt-LAST : goal.returns-then-number-gt-LAST

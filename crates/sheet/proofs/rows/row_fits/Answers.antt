@@ -1,5 +1,4 @@
 -- `sheet::rows::row_fits` meets its contract.
-use borrow.Author.Rules.{rules}
 use Rattle.sheet.proofs.rows.row_fits.Goals as goal
 
 pub returns : goal.returns

@@ -1,5 +1,4 @@
 -- `sheet::rows::rule_of` meets its contract.
-use borrow.Author.Rules.{rules}
 use Rattle.sheet.proofs.rows.rule_of.Goals as goal
 
 pub returns : goal.returns

@@ -1,12 +1,8 @@
 -- `sheet::rows::rules_of` meets its contract. The invariant: the rules of the kinds so far are made.
-use Prim.Native.Nat.{suc, ◌-◌}
-use lib.ListN.{length}
 use mathlib.Core.Path.{refl, ap, ◌∙◌}
-use borrow.Author.Rules.{rules}
 use native.Mathlib.Omega.{arith}
-use Rattle.sheet.specs.Rows.{kinds}
 use Rattle.sheet.specs.Inner.Steps.{rule_of}
-use Rattle.sheet.proofs.PartsRead.{Made, made_starts, made_on}
+use Rattle.sheet.proofs.PartsRead.{made_starts, made_on}
 use Rattle.sheet.proofs.rows.rules_of.Goals as goal
 
 pub loop-kind-init : goal.loop-kind-init

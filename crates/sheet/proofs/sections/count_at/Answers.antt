@@ -1,6 +1,5 @@
 -- `sheet::sections::count_at` meets its contract: the tests in its order are the judgements of `count_at`.
 use mathlib.Core.Path.{sym}
-use borrow.Author.Rules.{rules}
 use native.Mathlib.Omega.{arith}
 use native.Mathlib.Nat.{mul-le-mul}
 use Rattle.sheet.proofs.CountsJudged.{no_count, count_low, count_high, items_missing_lem, count_is}

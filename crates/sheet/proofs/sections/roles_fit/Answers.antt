@@ -1,10 +1,6 @@
 -- `sheet::sections::roles_fit` meets its contract. The invariant: the roles from here on come to what all of them do.
-use Prim.Native.Nat.{◌+◌, ◌≤◌}
-use mathlib.Core.Path.{◌≡◌, refl, sym, ◌∙◌}
-use lib.ListN.{length, take, drop}
-use borrow.Author.Rules.{rules}
+use mathlib.Core.Path.{refl, sym, ◌∙◌}
 use native.Mathlib.Omega.{arith}
-use Rattle.sheet.specs.Reading.{roles_fit}
 use Rattle.sheet.proofs.RolesJudged.{no_role, role_high, role_fits}
 use Rattle.sheet.proofs.sections.roles_fit.Goals as goal
 
@@ -33,13 +29,12 @@ pub loop-left-smaller : goal.loop-left-smaller
 loop-left-smaller c = omega arith
 
 pub loop-left-preserved : goal.loop-left-preserved
-loop-left-preserved c =
-    (
-      omega arith,
-      sym (role_fits c.args.words.now c.loop-left.place _ c.wide-role.ensures.0 (omega arith) c.loop-left.left
-          c.loop-left-test.true c.if-role-gt-MAX_ROLE.false)
-          ∙ c.loop-left.invariant.1,
-    )
+loop-left-preserved c = (
+  omega arith,
+  sym (role_fits c.args.words.now c.loop-left.place _ c.wide-role.ensures.0 (omega arith) c.loop-left.left
+      c.loop-left-test.true c.if-role-gt-MAX_ROLE.false)
+      ∙ c.loop-left.invariant.1,
+)
 
 pub returns : goal.returns
 returns c =

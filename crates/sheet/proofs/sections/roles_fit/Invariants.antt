@@ -1,11 +1,8 @@
 -- `sheet::sections::roles_fit` meets its contract. The invariant: the roles from here on come to what all of them do.
 use Prim.Native.Nat.{◌+◌, ◌≤◌}
-use mathlib.Core.Path.{◌≡◌, refl, sym, ◌∙◌}
+use mathlib.Core.Path.{◌≡◌}
 use lib.ListN.{length, take, drop}
-use borrow.Author.Rules.{rules}
-use native.Mathlib.Omega.{arith}
 use Rattle.sheet.specs.Reading.{roles_fit}
-use Rattle.sheet.proofs.RolesJudged.{no_role, role_high, role_fits}
 use Rattle.sheet.proofs.sections.roles_fit.Given as goal
 
 abbrev pub invariant-loop-left : goal.invariant-loop-left

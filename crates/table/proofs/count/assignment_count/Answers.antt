@@ -1,5 +1,4 @@
 -- `table::count::assignment_count` meets its contract.
-use borrow.Author.Rules.{rules}
 use native.Mathlib.Omega.{arith}
 use mathlib.Core.Path.{sym, ◌∙◌}
 use Rattle.sheet.specs.Answers.{row_said}

@@ -6,7 +6,6 @@ use borrow.Author.Rules.{rules}
 use borrow.Author.Tests.{eq-eqb, ne_eqb}
 use native.Mathlib.Omega.{arith}
 use Rattle.sheet.specs.Answers.{row_said}
-use Rattle.sheet.specs.Rows.{quotient_kind}
 use Rattle.table.specs.Inner.MarkedRows.{part_rows}
 use Rattle.table.proofs.RowCounts.{first_of, second_of, part_count, parts_counted}
 use Rattle.table.proofs.count.parts_count.Statement.{statement}

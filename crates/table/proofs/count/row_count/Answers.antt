@@ -5,7 +5,6 @@ use Rattle.sheet.specs.Answers.{row_said}
 use Rattle.table.specs.Inner.MarkedRows.{row_with}
 use Rattle.table.proofs.LineRows.{says_assigns}
 use Rattle.table.proofs.RowCounts.{both_by, saved_first}
-use borrow.Author.Rules.{rules}
 use Rattle.table.proofs.count.row_count.Goals as goal
 
 pub assignment_count-backward-requires : goal.assignment_count-backward-requires

@@ -1,5 +1,4 @@
 -- `table::needs::after_if` meets its contract.
-use borrow.Author.Rules.{rules}
 use Rattle.table.proofs.needs.after_if.Goals as goal
 
 pub returns : goal.returns

@@ -1,6 +1,5 @@
 -- `table::needs::loop_opened` meets its contract.
 use mathlib.Core.Path.{◌∙◌}
-use borrow.Author.Rules.{rules}
 use Rattle.table.proofs.needs.loop_opened.Goals as goal
 
 pub returns : goal.returns

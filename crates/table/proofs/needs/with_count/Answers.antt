@@ -1,5 +1,4 @@
 -- `table::needs::with_count` meets its contract.
-use borrow.Author.Rules.{rules}
 use Rattle.table.proofs.needs.with_count.Goals as goal
 
 pub returns : goal.returns

@@ -1,5 +1,4 @@
 -- `table::needs::with_saved` meets its contract.
-use borrow.Author.Rules.{rules}
 use Rattle.table.proofs.needs.with_saved.Goals as goal
 
 pub returns : goal.returns

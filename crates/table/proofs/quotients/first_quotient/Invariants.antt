@@ -1,8 +1,5 @@
 -- `table::quotients::first_quotient` meets its contract. The invariant: what is still to be looked through comes to what all rows come to.
-use mathlib.Core.Path.{refl}
-use borrow.Author.Rules.{rules}
-use native.Mathlib.Omega.{arith}
-use Rattle.table.proofs.QuotientLaws.{Looking, looked_through, quotient_met, another_met}
+use Rattle.table.proofs.QuotientLaws.{Looking}
 use Rattle.table.proofs.quotients.first_quotient.Given as goal
 
 abbrev pub invariant-loop-left : goal.invariant-loop-left

@@ -1,6 +1,5 @@
 -- `table::quotients::undivided` meets its contract: a plan says of the arithmetic what its rows' kinds say.
 use mathlib.Core.Path.{sym, ap, subst, ◌∙◌}
-use borrow.Author.Rules.{rules}
 use Rattle.table.specs.Inner.Plans.{PlanSaysFor, RowsWithin, quotients_said}
 use Rattle.table.proofs.QuotientLaws.{plan_divided, plan_undivided, refused_in}
 use Rattle.table.proofs.quotients.undivided.Goals as goal

@@ -3,7 +3,6 @@ use mathlib.Core.Path.{◌∙◌}
 use Rattle.number.specs.Residues.{residues}
 use Rattle.machine.proofs.RunLaws.{still_indexed}
 use Rattle.tangent.proofs.TangentCalls.{start_fits, tangent_comes_to}
-use borrow.Author.Rules.{rules}
 use native.Mathlib.Omega.{arith}
 use Rattle.tangent.proofs.calls_audit.run_in.Goals as goal
 

@@ -3,7 +3,6 @@ use mathlib.Core.Path.{sym}
 use lib.Seq.{length-take-le}
 use Rattle.number.specs.Residues.{residues}
 use Rattle.tangent.proofs.TangentCalls.{rates_fit, rates_written}
-use borrow.Author.Rules.{rules}
 use native.Mathlib.Omega.{arith}
 use Rattle.tangent.proofs.calls_audit.write_rates.Goals as goal
 

@@ -3,7 +3,6 @@ use mathlib.Core.Path.{◌∙◌}
 use Rattle.number.specs.Doubles.{doubles}
 use Rattle.machine.proofs.RunLaws.{still_indexed}
 use Rattle.tangent.proofs.TangentCalls.{start_fits, tangent_comes_to}
-use borrow.Author.Rules.{rules}
 use native.Mathlib.Omega.{arith}
 use Rattle.tangent.proofs.calls_double.run_in.Goals as goal
 

@@ -5,7 +5,6 @@ use lib.Ieee.{of_bits}
 use Rattle.number.specs.Doubles.{doubles}
 use Rattle.run.proofs.SectionLaws.{run_room, part_indexed, ready_to_run}
 use native.Mathlib.Omega.{arith}
-use borrow.Author.Rules.{rules}
 use Rattle.tangent.proofs.calls_double.run_written.Goals as goal
 
 pub slice_bounds-run_in-end-3 : goal.slice_bounds-run_in-end-3

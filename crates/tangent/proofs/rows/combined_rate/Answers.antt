@@ -1,5 +1,4 @@
 -- `tangent::rows::combined_rate` meets its contract, by the operands that are varied.
-use borrow.Author.Rules.{rules}
 use Rattle.tangent.proofs.rows.combined_rate.Goals as goal
 
 pub put-requires : goal.put-requires

@@ -1,6 +1,5 @@
 -- `tangent::rows::quotient_rates` meets its contract, by the operands that are varied.
 use mathlib.Core.List.{[], ◌∷◌}
-use borrow.Author.Rules.{rules}
 use Rattle.writer.proofs.WritingLaws.{wrote_then, room_first, room_after}
 use Rattle.tangent.proofs.rows.quotient_rates.Goals as goal
 

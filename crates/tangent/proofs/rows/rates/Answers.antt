@@ -1,5 +1,4 @@
 -- `tangent::rows::rates` meets its contract, by whether the assignment is active.
-use borrow.Author.Rules.{rules}
 use mathlib.Core.Path.{sym, ◌∙◌}
 use Rattle.sheet.specs.Answers.{row_said}
 use Rattle.tangent.proofs.RateRows.{when_active, when_inactive}

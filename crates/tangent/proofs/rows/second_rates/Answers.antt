@@ -1,5 +1,4 @@
 -- `tangent::rows::second_rates` meets its contract.
-use borrow.Author.Rules.{rules}
 use Rattle.writer.proofs.WritingLaws.{wrote_then}
 use Rattle.tangent.proofs.rows.second_rates.Goals as goal
 

@@ -1,5 +1,4 @@
 -- `tangent::rows::tangent_row` meets its contract, by whether the row is an assignment.
-use borrow.Author.Rules.{rules}
 use mathlib.Core.Path.{sym, ◌∙◌}
 use Rattle.writer.proofs.WritingLaws.{wrote_then, room_first, room_after}
 use Rattle.table.proofs.LineRows.{says_assigns}

@@ -1,5 +1,4 @@
 -- `tangent::rows::term_rates` meets its contract, by the operands that are varied.
-use borrow.Author.Rules.{rules}
 use Rattle.writer.proofs.WritingLaws.{wrote_then, room_first, room_after}
 use Rattle.tangent.proofs.rows.term_rates.Goals as goal
 

@@ -1,7 +1,6 @@
 -- `text::fields::field_end` meets its contract. The invariant: the place lies between the field's start and the line's end.
 use Prim.Native.Nat.{◌≤◌, ◌-◌}
 use lib.ListN.{length}
-use borrow.Author.Rules.{rules}
 use Rattle.text.proofs.fields.field_end.Given as goal
 
 abbrev pub invariant-loop-at : goal.invariant-loop-at

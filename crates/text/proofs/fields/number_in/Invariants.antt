@@ -1,7 +1,6 @@
 -- `text::fields::number_in` is safe and ends. The measure is the digits that are left.
 use Prim.Native.Nat.{◌-◌}
 use lib.ListN.{length}
-use borrow.Author.Rules.{rules}
 use Rattle.text.proofs.fields.number_in.Given as goal
 
 abbrev pub invariant-loop-at : goal.invariant-loop-at

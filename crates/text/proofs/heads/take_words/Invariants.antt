@@ -1,6 +1,5 @@
 -- `text::heads::take_words` is safe and ends. The measure is the places that are left.
 use Prim.Native.Nat.{◌-◌}
-use borrow.Author.Rules.{rules}
 use Rattle.text.proofs.heads.take_words.Given as goal
 
 abbrev pub invariant-loop-at : goal.invariant-loop-at

@@ -1,6 +1,5 @@
 -- `text::pattern::numbers_stand` is safe and ends. The measure is the places that are left.
 use Prim.Native.Nat.{◌-◌}
-use borrow.Author.Rules.{rules}
 use Rattle.text.proofs.pattern.numbers_stand.Given as goal
 
 abbrev pub invariant-loop-at : goal.invariant-loop-at

@@ -1,7 +1,6 @@
 -- `text::pattern::words_stand` is safe and ends. The measure is the places that are left.
 use Prim.Native.Nat.{◌-◌}
 use lib.ListN.{length}
-use borrow.Author.Rules.{rules}
 use Rattle.text.proofs.pattern.words_stand.Given as goal
 
 abbrev pub invariant-loop-at : goal.invariant-loop-at

@@ -1,7 +1,6 @@
 -- `text::widths::to_double` is safe: bits whose magnitude is at most the infinity's are no NaN's.
 use lib.Ieee.Bits.{nan_bits_above}
 use lib.Ieee.{nan_bits, binary64}
-use borrow.Author.Rules.{rules}
 use borrow.Author.Tests.{le-ltb}
 use Rattle.text.proofs.widths.to_double.Goals as goal
 

@@ -1,5 +1,4 @@
 -- `writer::jumps::note` meets its contract: each arm is one case of what the row is to the blocks.
-use borrow.Author.Rules.{rules}
 use Rattle.writer.proofs.JumpLaws.{branch_opens, branch_splits, branch_closes, branch_passes}
 use Rattle.writer.proofs.jumps.note.Goals as goal
 

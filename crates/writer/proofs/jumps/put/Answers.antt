@@ -1,5 +1,4 @@
 -- `writer::jumps::put` meets its contract: beyond the end nothing is stored.
-use borrow.Author.Rules.{rules}
 use mathlib.Core.Path.{sym}
 use lib.Seq.{set_out}
 use Rattle.writer.proofs.jumps.put.Goals as goal

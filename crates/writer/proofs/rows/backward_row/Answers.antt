@@ -1,7 +1,6 @@
 -- `writer::rows::backward_row` meets its contract, by what the row is to the blocks.
 use mathlib.Core.Path.{sym}
 use Rattle.table.proofs.LineRows.{says_assigns, backward_by}
-use borrow.Author.Rules.{rules}
 use Rattle.writer.proofs.rows.backward_row.Goals as goal
 
 pub assignment_back-requires : goal.assignment_back-requires

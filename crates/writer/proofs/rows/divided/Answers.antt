@@ -1,6 +1,5 @@
 -- `writer::rows::divided` meets its contract.
 use mathlib.Core.List.{[], ◌∷◌}
-use borrow.Author.Rules.{rules}
 use Rattle.writer.proofs.WritingLaws.{wrote_then, room_first, room_after}
 use Rattle.writer.proofs.rows.divided.Goals as goal
 

@@ -2,7 +2,6 @@
 use mathlib.Core.Path.{refl}
 use Rattle.writer.proofs.WritingLaws.{wrote_then, room_first, room_after}
 use Rattle.table.proofs.LineRows.{forward_by}
-use borrow.Author.Rules.{rules}
 use Rattle.writer.proofs.rows.forward_row.Goals as goal
 
 pub put_if-next-requires : goal.put_if-next-requires

@@ -1,5 +1,4 @@
 -- `writer::rows::over_divisor` meets its contract.
-use borrow.Author.Rules.{rules}
 use Rattle.writer.proofs.WritingLaws.{wrote_then, room_first, room_after}
 use Rattle.writer.proofs.rows.over_divisor.Goals as goal
 

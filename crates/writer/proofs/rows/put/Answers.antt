@@ -1,5 +1,4 @@
 -- `writer::rows::put` meets its contract: its stores are the row's words.
-use borrow.Author.Rules.{rules}
 use native.Mathlib.Omega.{arith}
 use lib.ListN.{length-set}
 use Rattle.table.specs.TableRows.{words_of}

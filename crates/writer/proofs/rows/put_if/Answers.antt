@@ -1,5 +1,4 @@
 -- `writer::rows::put_if` meets its contract.
-use borrow.Author.Rules.{rules}
 use Rattle.writer.proofs.WritingLaws.{wrote_none}
 use Rattle.writer.proofs.rows.put_if.Goals as goal
 

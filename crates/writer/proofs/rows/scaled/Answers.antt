@@ -1,5 +1,4 @@
 -- `writer::rows::scaled` meets its contract.
-use borrow.Author.Rules.{rules}
 use Rattle.writer.proofs.WritingLaws.{wrote_then, room_first, room_after}
 use Rattle.writer.proofs.rows.scaled.Goals as goal
 

@@ -1,7 +1,6 @@
 -- `writer::sweep::step_back` meets its contract, by what the row is to the blocks.
 use mathlib.Core.Path.{ap}
 use Rattle.writer.specs.Inner.RowsWritten.{leads_on, step_back}
-use borrow.Author.Rules.{rules}
 use Rattle.writer.proofs.sweep.step_back.Goals as goal
 
 pub if_end-end-requires : goal.if_end-end-requires

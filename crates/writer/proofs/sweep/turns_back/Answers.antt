@@ -3,7 +3,6 @@ use mathlib.Core.Path.{sym, ap, ◌∙◌}
 use Rattle.sheet.specs.Inner.RowLines.{numbered_row}
 use Rattle.writer.specs.Inner.RowsWritten.{leads_on, turns_said_by, turns_back}
 use Rattle.writer.proofs.PartsApart.{not_end_repeat}
-use borrow.Author.Rules.{rules}
 use native.Mathlib.Omega.{arith}
 use Rattle.writer.proofs.sweep.turns_back.Goals as goal
 

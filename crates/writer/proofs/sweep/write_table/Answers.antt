@@ -1,5 +1,4 @@
 -- `writer::sweep::write_table` meets its contract: the parts one after another.
-use borrow.Author.Rules.{rules}
 use mathlib.Core.Path.{◌∙◌}
 use lib.ListN.{length-set}
 use Rattle.writer.specs.Inner.RowsWritten.{whole_rows}
