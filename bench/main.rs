@@ -11,10 +11,13 @@ use std::time::Instant;
 // So many bytes before all code that is timed: where a loop comes to lie moves its time by up to a tenth, so times are taken over several layouts.
 global_asm!(concat!(".section .text.pad,\"axR\",@progbits\n.skip ", env!("PAD"), "\n.text"));
 
+// The library takes a slice as a pointer and then a length. Each stands in two words, so six registers hold three of them and none is torn apart.
 #[repr(C)]
+#[derive(Clone, Copy)]
 struct Part<T>(*const T, usize);
 
 #[repr(C)]
+#[derive(Clone, Copy)]
 struct PartMut<T>(*mut T, usize);
 
 fn part<T>(s: &[T]) -> Part<T> {
@@ -26,19 +29,19 @@ fn part_mut<T>(s: &mut [T]) -> PartMut<T> {
 }
 
 extern "C" {
-    fn timed_read(words: &Part<u16>, out: &mut PartMut<u64>);
-    fn timed_mark(words: &Part<u16>, out: &mut PartMut<u64>);
-    fn timed_check(words: &Part<u16>, out: &mut PartMut<u64>);
-    fn timed_write(words: &Part<u16>, table: &mut PartMut<u16>, out: &mut PartMut<u64>);
+    fn timed_read(words: Part<u16>, out: PartMut<u64>);
+    fn timed_mark(words: Part<u16>, out: PartMut<u64>);
+    fn timed_check(words: Part<u16>, out: PartMut<u64>);
+    fn timed_write(words: Part<u16>, table: PartMut<u16>, out: PartMut<u64>);
     fn timed_run(
-        words: &Part<u16>,
-        table: &mut PartMut<u16>,
-        values: &mut PartMut<f64>,
-        turns: &mut PartMut<u16>,
-        starts: &Part<f64>,
-        seeds: &Part<f64>,
-        result: &mut PartMut<f64>,
-        out: &mut PartMut<u64>,
+        words: Part<u16>,
+        table: PartMut<u16>,
+        values: PartMut<f64>,
+        turns: PartMut<u16>,
+        starts: Part<f64>,
+        seeds: Part<f64>,
+        result: PartMut<f64>,
+        out: PartMut<u64>,
     );
 }
 
@@ -57,7 +60,7 @@ const NO: u64 = u64::MAX;
 
 fn ready(sheet: Sheet) -> Ready {
     let mut out = [NO; 8];
-    unsafe { timed_check(&part(&sheet.words), &mut part_mut(&mut out)) };
+    unsafe { timed_check(part(&sheet.words), part_mut(&mut out)) };
     assert_eq!(out[0], 0, "the sheet is refused by {} at {}", out[0], out[1]);
     let variables = sheet.starts.len();
     Ready {
@@ -75,14 +78,14 @@ fn ours(r: &mut Ready) -> u64 {
     let mut out = [NO; 8];
     unsafe {
         timed_run(
-            &part(&r.sheet.words),
-            &mut part_mut(&mut r.table),
-            &mut part_mut(&mut r.values),
-            &mut part_mut(&mut r.turns),
-            &part(&r.sheet.starts),
-            &part(&r.sheet.seeds),
-            &mut part_mut(&mut r.result),
-            &mut part_mut(&mut out),
+            part(&r.sheet.words),
+            part_mut(&mut r.table),
+            part_mut(&mut r.values),
+            part_mut(&mut r.turns),
+            part(&r.sheet.starts),
+            part(&r.sheet.seeds),
+            part_mut(&mut r.result),
+            part_mut(&mut out),
         )
     };
     out[0]
@@ -102,13 +105,13 @@ fn theirs(r: &Ready) -> Vec<f64> {
 fn layer(r: &mut Ready, which: usize) -> u64 {
     let mut out = [NO; 8];
     let words = part(&r.sheet.words);
-    let mut said = part_mut(&mut out);
+    let said = part_mut(&mut out);
     unsafe {
         match which {
-            0 => timed_read(&words, &mut said),
-            1 => timed_mark(&words, &mut said),
-            2 => timed_check(&words, &mut said),
-            _ => timed_write(&words, &mut part_mut(&mut r.table), &mut said),
+            0 => timed_read(words, said),
+            1 => timed_mark(words, said),
+            2 => timed_check(words, said),
+            _ => timed_write(words, part_mut(&mut r.table), said),
         }
     };
     out[0]
