@@ -31,7 +31,7 @@ module _ (words : List ℕ) where
       either (inl (sheet, is)) = inl (shape_of sheet, record { sheet = sheet; is = is; shaped = refl })
       either (inr rule) = inr rule
 
-  -- the contract of `read_sheet` is `said r ≡ shapeRead words`
+  -- the contract of `read_sheet` is `said result ≡ shape_read words`
   pub reader_exactly : (r : Reading) → said r ≡ shape_read words → ReaderExactly words r
   reader_exactly r contract =
       let settled : Settled (said r) (ReadingRefuses words) (ShapeOfRead words) =

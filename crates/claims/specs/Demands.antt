@@ -84,7 +84,7 @@ pub record RunExactly (A : Arithmetic) (needs : Sets → Sheet → Needs) (job :
 abbrev pub adjoint_by : (A : Arithmetic) → (starts seeds : List A.Carrier) → Lent A → Sets → Sheet → Job A
 adjoint_by A starts seeds lent sets sheet = job_of A (table_by sets sheet) sheet starts seeds (length lent.values) (length lent.turns)
 
--- ---- demand 2. Its least sets are in `Accepted`, the table in `WriteExactly.whenDone` and `RunExactly.whenDone`.
+-- ---- demand 2. Its least sets are in `Accepted`, the table in `WriteExactly.when_done` and `RunExactly.when_done`.
 
 -- "Run modulo 2^32 it yields equation (2) of "To Be Recorded Analysis" at every independent": the run answers 0, its first V numbers are
 -- the values of executing the sheet, and the other V each independent's adjoint by equation (2), which has one solution, 0 at the others.

@@ -5,7 +5,7 @@ use mathlib.Core.List.{List, [], ◌∷◌, ◌++◌}
 use Rattle.number.specs.Arithmetic.{Arithmetic}
 use Rattle.sheet.specs.Tree.{basic, if_line, else_line, end_if, repeat, end_repeat}
 use Rattle.sheet.specs.Rows.{◌≔◌, Source, copy, fixed, sum, difference, product, negation, quotient}
-use Rattle.table.specs.TableRows.{TableRow, TableLine, Action, assign, save, take_back, save_turn, clear, turn_round, Operation, saving, itself, turning, taking_back, holding, clearing, scaling_for_a, adding_to_a, scaling_for_b, adding_to_b, dividing, dividing_for_b, rating_a, rating_b, rating, rating_over_b, rating_over_bAgain, Origin, of_row, of_turning_round}
+use Rattle.table.specs.TableRows.{TableRow, TableLine, Action, assign, save, take_back, save_turn, clear, turn_round, Operation, saving, itself, turning, taking_back, holding, clearing, scaling_for_a, adding_to_a, scaling_for_b, adding_to_b, dividing, dividing_for_b, rating_a, rating_b, rating, rating_over_b, rating_over_b_again, Origin, of_row, of_turning_round}
 use Rattle.machine.specs.Actions.{Attempt, through, halted, stuck, Memory, Setting}
 use Rattle.machine.specs.Machine.{State, Step, goes_on, ended, stops, sticks, state_after}
 
@@ -27,7 +27,7 @@ is_derivative rating_a = true
 is_derivative rating_b = true
 is_derivative rating = true
 is_derivative rating_over_b = true
-is_derivative rating_over_bAgain = true
+is_derivative rating_over_b_again = true
 
 module _ (A : Arithmetic) where
   pub record Entry : Type 0 where

@@ -12,7 +12,7 @@ use Rattle.sheet.specs.Tree.{times, while, done, one, fork, again, rows, RowNumb
 use Rattle.sheet.specs.Rows.{Assignment, ◌≔◌, Source, copy, fixed, sum, difference, product, negation, quotient}
 use Rattle.sheet.specs.Names.{SourcePresent, AssignmentPresent, SourceFeasible, AssignmentFeasible}
 use Rattle.sets.specs.Transfers.{Activity}
-use Rattle.table.specs.TableRows.{t, u, Action, assign, clear, Operation, itself, rating_a, rating_b, rating, rating_over_b, rating_over_bAgain, Origin, of_row, Table}
+use Rattle.table.specs.TableRows.{t, u, Action, assign, clear, Operation, itself, rating_a, rating_b, rating, rating_over_b, rating_over_b_again, Origin, of_row, Table}
 use Rattle.table.specs.Adjoint.{Body, put}
 use Rattle.machine.specs.Actions.{Attempt, through, halted, stuck, ◌>>=◌, from_outcome, turns_then, while_then, replaced, Memory, Setting, Try, evaluated, with_store, count_kept, acted, Stop, compared, tested}
 use Rattle.machine.proofs.AttemptLaws.{bind_assoc, bind_same, Ready, gives, stops, from_outcome_ready}
@@ -201,7 +201,7 @@ module _ (A : Arithmetic) where
           (over_value_evaluated A v now sized z y setting.constants b second) (over_ready has z b second)
           (λ once. t_replaced A v now sized z y once)
           (λ once.
-          assignment_row row rating_over_bAgain (t v) (quotient (t v) b) after (suc (suc p)) (suc (suc (suc p))) (store_of A v now once y) (over_value A once b now)
+          assignment_row row rating_over_b_again (t v) (quotient (t v) b) after (suc (suc p)) (suc (suc (suc p))) (store_of A v now once y) (over_value A once b now)
           (λ twice. store_of A v now twice y) then refl
           (over_value_evaluated A v now sized once y setting.constants b second) (over_ready has once b second)
           (λ twice. t_replaced A v now sized once y twice) h)))

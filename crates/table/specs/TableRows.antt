@@ -51,7 +51,7 @@ pub data Operation : Type 0 where
   rating : Operation
   -- a quotient's besides, of its second term: t := t / b, and once more
   rating_over_b : Operation
-  rating_over_bAgain : Operation
+  rating_over_b_again : Operation
 
 -- "A stop is compared by the sheet row and the operation it comes from": row 17 comes from no sheet row
 pub data Origin : Type 0 where

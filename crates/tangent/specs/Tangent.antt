@@ -6,7 +6,7 @@ use Rattle.sheet.specs.Rows.{◌≔◌, Source, copy, fixed, sum, difference, pr
 use Rattle.sheet.specs.Sheets.{Sheet, variables_of}
 use Rattle.sets.specs.Transfers.{Activity}
 use Rattle.sets.specs.Marks.{Sets, Marked, marked_by}
-use Rattle.table.specs.TableRows.{t, u, assign, clear, whether, itself, rating_a, rating_b, rating, rating_over_b, rating_over_bAgain, Table}
+use Rattle.table.specs.TableRows.{t, u, assign, clear, whether, itself, rating_a, rating_b, rating, rating_over_b, rating_over_b_again, Table}
 use Rattle.table.specs.Adjoint.{Body, put}
 use Rattle.table.specs.Sizes.{Needs}
 
@@ -38,7 +38,7 @@ module _ (variables : ℕ) where
   second_term a b row rest =
       put row rating_b (assign (t variables ≔ product a (rate_of b)))
       (put row rating_over_b (assign (t variables ≔ quotient (t variables) b))
-      (put row rating_over_bAgain (assign (t variables ≔ quotient (t variables) b)) rest))
+      (put row rating_over_b_again (assign (t variables ≔ quotient (t variables) b)) rest))
 
   -- "u := ȧ / b, t := .., ḋ := u − t, each term only if varied; the first alone is ȧ / b straight into ḋ, the second alone the t rows, then ḋ := −t"
   abbrev pub both_quotients : (d a b : ℕ) → RowNumber → Table → Table
