@@ -1,5 +1,6 @@
 -- Demand 1 for the reader's call: whatever its contract permits, each refusal is answered exactly when 01's rule for it holds.
 use mathlib.Core.Path.{◌≡◌, refl, sym, ap, subst}
+use Rattle.std.specs.Prelude.{Ok, Result}
 use mathlib.Core.List.{List}
 use mathlib.Core.Logic.{◌⊎◌, inl, inr}
 use Prim.Native.Nat.{ℕ}
@@ -8,8 +9,6 @@ use Rattle.sheet.specs.Refusals.{Refusal}
 use Rattle.sheet.specs.Sheets.{Sheet}
 use Rattle.sheet.specs.Answers.{said, shape_of, shape_read}
 use Rattle.sheet.specs.declared.Shape.{Shape}
-use Rattle.sheet.specs.declared.Reading.{Reading}
-use Rattle.sheet.specs.declared.Reading.TheVariants.{Accepted}
 use Rattle.sheet.proofs.Settled.{Settled, given_exactly, named_exactly, done_exactly, numbers_within}
 use Rattle.sheet.proofs.ReaderLaws.{same_said}
 use Rattle.claims.specs.ExactlyWhen.{ReadingRefuses, Read}
@@ -32,7 +31,7 @@ module _ (words : List ℕ) where
       either (inr rule) = inr rule
 
   -- the contract of `read_sheet` is `said result ≡ shape_read words`
-  pub reader_exactly : (r : Reading) → said r ≡ shape_read words → ReaderExactly words r
+  pub reader_exactly : (r : Result Shape No) → said r ≡ shape_read words → ReaderExactly words r
   reader_exactly r contract =
       let settled : Settled (said r) (ReadingRefuses words) (ShapeOfRead words) =
       subst (λ answer. Settled answer (ReadingRefuses words) (ShapeOfRead words)) (sym contract) shape_settled in
@@ -40,7 +39,7 @@ module _ (words : List ℕ) where
         refuses = named_exactly settled;
         accepts = λ shape. (
           λ is. (given_exactly settled shape).0 (ap said is),
-          λ of. same_said r (Accepted shape) ((given_exactly settled shape).1 of),
+          λ of. same_said r (Ok shape) ((given_exactly settled shape).1 of),
         );
         done = done_exactly settled;
         numbers = numbers_within settled 7 (λ why rule. reading_numbers rule);

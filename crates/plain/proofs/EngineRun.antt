@@ -1,5 +1,6 @@
 -- The engine's loop: its state goes on from row to row, and ends as the run of the sheet does.
 use Prim.Native.Nat.{ℕ, suc, ◌+◌, ◌*◌, ◌-◌, ◌≤◌, ◌<◌}
+use Rattle.std.specs.Prelude.{Err, Ok, Result}
 use mathlib.Core.Path.{◌≡◌, refl, sym, ap, subst, ◌∙◌}
 use mathlib.Core.Bool.{Bool, true, false}
 use mathlib.Core.List.{List}
@@ -32,8 +33,6 @@ use Rattle.tangent.specs.Tangent.{rate_count}
 use Rattle.tangent.specs.Inner.TangentPlans.{line_count, table_rows_before}
 use Rattle.plain.specs.Plain.{Carried, StopAt, plain_run}
 use Rattle.plain.specs.declared.Rated.{Rated}
-use Rattle.plain.specs.declared.rates.Worked.{Worked}
-use Rattle.plain.specs.declared.rates.Worked.TheVariants as worked
 use Rattle.plain.specs.declared.blocks.At.{At}
 use Rattle.plain.specs.Inner.Working.{operand_on, worked_on, worked_said}
 use Rattle.plain.specs.Inner.Crossing.{Crossed, at_row, asked_row, crossing, Crossable}
@@ -208,7 +207,7 @@ module _ {words : List ℕ} {shape : Shape} {marks goes : List ℕ} {start cells
 
       -- what the code works out, and what it is to the whole
       module _ (x y z : Rated) (at_a : r.a < limit.variables → x ≡ get_or cells r.a z) (at_b : r.b < limit.variables → y ≡ get_or cells r.b z)
-          (answer : Worked)
+          (answer : Result Rated ℕ)
           (works : worked_said answer
           ≡ worked_on r.kind known (line_count known (line_of_row r) - 1) (operand_on words shape.first_constant r.kind r.a x) y) where
         abbrev its_row : Row
@@ -240,7 +239,7 @@ module _ {words : List ℕ} {shape : Shape} {marks goes : List ℕ} {start cells
             (subst (λ (s : Row). s.b < limit.variables → y ≡ get_or cells s.b z) row_is at_b)
             ∙ ap (λ w. stopping_from table_row w >>= λ pair. through (carried_in (vars mine) (set cells target pair))) (sym works_out))
 
-        pub goes_assigned : {pair : Rated} → answer ≡ worked.Is pair → (to : ℕ) → (r.d < limit.variables → to ≡ r.d)
+        pub goes_assigned : {pair : Rated} → answer ≡ Ok pair → (to : ℕ) → (r.d < limit.variables → to ≡ r.d)
             → RunningAt (set cells to pair) to_come (row + 1) depth
         unfolding AssignmentPresent
         goes_assigned {pair} told to names =
@@ -249,7 +248,7 @@ module _ {words : List ℕ} {shape : Shape} {marks goes : List ℕ} {start cells
             rw there
             (record { ready = mine; going = here.on (set cells target pair) (length-set cells target pair ∙ now.cells_room) (rw told at comes) })
 
-        pub stops_assigned : {n : ℕ} → answer ≡ worked.Stopped n → whole_from mine start ≡ halted (stop_at (table_row + n))
+        pub stops_assigned : {n : ℕ} → answer ≡ Err n → whole_from mine start ≡ halted (stop_at (table_row + n))
         stops_assigned told = rw told at comes
 
 -- ---- its end

@@ -1,5 +1,6 @@
 -- One assignment on the pairs that it reads, as the code works it out step by step.
 use Prim.Native.Nat.{ℕ, ◌+◌, ◌≤◌}
+use Rattle.std.specs.Prelude.{Err, Ok, Result}
 use mathlib.Core.Path.{◌≡◌, sym}
 use mathlib.Core.Option.{some}
 use native.Mathlib.Omega.{arith}
@@ -15,8 +16,6 @@ use Rattle.sets.specs.Transfers.{Activity}
 use Rattle.machine.specs.Actions.{Attempt, through, halted, ◌>>=◌}
 use Rattle.tangent.specs.Inner.TangentPlans.{line_count}
 use Rattle.plain.specs.declared.Rated.{Rated}
-use Rattle.plain.specs.declared.rates.Rate.{Rate}
-use Rattle.plain.specs.declared.rates.Rate.TheVariants as rate
 use Rattle.plain.specs.Inner.Working.{rate_said, after, by_kind, over_of, two_terms, second_over, both_over, rate_on, value_on, worked_on}
 
 -- a kind that is none of the five
@@ -39,7 +38,7 @@ module _ (a b : Rated) {first : Outcome} (is : outcome_of first ≡ doubles.prod
     pub second_stops : second ≡ outcome.Stop → halted 1 ≡ two_terms a b
     second_stops told_then = rw (sym is, told, sym then, told_then)
 
-    pub terms_added : {t : Float} (last : Outcome) (answer : Rate) → second ≡ outcome.Value t → outcome_of last ≡ doubles.sum u t
+    pub terms_added : {t : Float} (last : Outcome) (answer : Result Float ℕ) → second ≡ outcome.Value t → outcome_of last ≡ doubles.sum u t
         → rate_said answer ≡ after 2 (outcome_of last) → rate_said answer ≡ two_terms a b
     terms_added last answer told_then added said = rw (said, added, sym is, told, sym then, told_then)
 
@@ -53,7 +52,7 @@ module _ (rows : ℕ) (a b : Rated) {first : Outcome} (is : outcome_of first ≡
     pub over_stops : second ≡ outcome.Stop → halted (rows + 1) ≡ second_over rows a b
     over_stops told_then = rw (sym is, told, sym then, told_then)
 
-    pub over_again : {once : Float} (last : Outcome) (answer : Rate) → second ≡ outcome.Value once → outcome_of last ≡ over_of once b.value
+    pub over_again : {once : Float} (last : Outcome) (answer : Result Float ℕ) → second ≡ outcome.Value once → outcome_of last ≡ over_of once b.value
         → rate_said answer ≡ after (rows + 2) (outcome_of last) → rate_said answer ≡ second_over rows a b
     over_again last answer told_then over said = rw (said, over, sym is, told, sym then, told_then)
 
@@ -65,20 +64,20 @@ module _ (a b : Rated) {first : Outcome} (is : outcome_of first ≡ over_of a.ra
   then_second told = rw (sym is, told)
 
 -- what is answered after a rate that was worked out
-module _ {X : Type 0} {asked : Attempt ℕ Float} {answer : Rate} (is : rate_said answer ≡ asked) (next : Float → Attempt ℕ X) where
-  pub asked_stops : {n : ℕ} → answer ≡ rate.Stopped n → halted n ≡ (asked >>= next)
+module _ {X : Type 0} {asked : Attempt ℕ Float} {answer : Result Float ℕ} (is : rate_said answer ≡ asked) (next : Float → Attempt ℕ X) where
+  pub asked_stops : {n : ℕ} → answer ≡ Err n → halted n ≡ (asked >>= next)
   asked_stops told = rw (sym is, told)
 
-  pub asked_goes : {x : Float} → answer ≡ rate.Is x → next x ≡ (asked >>= next)
+  pub asked_goes : {x : Float} → answer ≡ Ok x → next x ≡ (asked >>= next)
   asked_goes told = rw (sym is, told)
 
 -- ---- the rate, then the value
 
-module _ (kind : ℕ) (known : Activity) (rows : ℕ) (a b : Rated) {answer : Rate} (is : rate_said answer ≡ rate_on kind known a b) where
-  pub rate_stops : {n : ℕ} → answer ≡ rate.Stopped n → halted n ≡ worked_on kind known rows a b
+module _ (kind : ℕ) (known : Activity) (rows : ℕ) (a b : Rated) {answer : Result Float ℕ} (is : rate_said answer ≡ rate_on kind known a b) where
+  pub rate_stops : {n : ℕ} → answer ≡ Err n → halted n ≡ worked_on kind known rows a b
   rate_stops told = rw (sym is, told)
 
-  module _ {x : Float} (told : answer ≡ rate.Is x) {last : Outcome} (then : outcome_of last ≡ value_on kind a.value b.value) where
+  module _ {x : Float} (told : answer ≡ Ok x) {last : Outcome} (then : outcome_of last ≡ value_on kind a.value b.value) where
     pub value_stops : last ≡ outcome.Stop → halted rows ≡ worked_on kind known rows a b
     value_stops stopped = rw (sym is, told, sym then, stopped)
 

@@ -4,7 +4,6 @@ ghost use Rattle.sheet.specs.Bounds.{limit};
 ghost use Rattle.plain.specs.Inner.Engine.{Ready, RunsTo};
 
 use super::blocks::At;
-use super::rates::Worked;
 use super::{Rated, blocks, rates};
 use number::double;
 use sheet::{MAX_VARIABLES, RowNumber, Shape, kinds};
@@ -65,8 +64,8 @@ pub fn run_rows(
         left -= 1;
         if kinds::assigns(part) {
             match rates::assigned(words, shape.first_constant, said, marks[number], a, b) {
-                Worked::Is(x) => cells[cell_of(said.d)] = x,
-                Worked::Stopped(after) => return Ran {
+                Ok(x) => cells[cell_of(said.d)] = x,
+                Err(after) => return Ran {
                     cells,
                     end: End::Stopped(row, after),
                 },

@@ -14,8 +14,7 @@ ghost use Rattle.plain.specs.Calls.{carried_to, plain};
 ghost use Rattle.plain.specs.Inner.Engine.{Found, CarryRoom};
 
 use engine::End;
-use run::{Fit, refusals};
-use sets::Marking;
+use run::refusals;
 use sheet::{MAX_ROWS, Shape};
 use table::Reply;
 
@@ -75,12 +74,12 @@ pub fn tangent_plain(words: &[u16], starts: &[f64], rates: &[f64], res: &mut [f6
     let mut came = [0u16; MAX_ROWS];
     let mut goes = [0u16; MAX_ROWS];
     match sets::mark(words, &mut marks, &mut came, &mut goes) {
-        Marking::Refused(why) => Reply {
+        Err(why) => Reply {
             number: sheet::number_of(why),
             place: sheet::place_of(why),
         },
-        Marking::Marked(shape, _) => {
-            if let Fit::No(why) = refusals::lengths_fit(
+        Ok((shape, _)) => {
+            if let Err(why) = refusals::lengths_fit(
                 shape.variables,
                 starts.len(),
                 rates.len(),
@@ -88,7 +87,7 @@ pub fn tangent_plain(words: &[u16], starts: &[f64], rates: &[f64], res: &mut [f6
             ) {
                 return refusals::answer_no(why);
             }
-            if let Fit::No(why) = refusals::all_finite(starts, rates) {
+            if let Err(why) = refusals::all_finite(starts, rates) {
                 return refusals::answer_no(why);
             }
             carry(words, shape, &marks, &goes, starts, rates, res)

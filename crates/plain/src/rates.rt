@@ -15,26 +15,12 @@ use sheet::{RowWords, kinds};
 use table::marks;
 use tangent::count;
 
-// A rate, or after how many of its row's table rows it stops.
-#[derive(Clone, Copy)]
-pub enum Rate {
-    Is(f64),
-    Stopped(u8),
-}
-
-// A number with its rate, or the same of either.
-#[derive(Clone, Copy)]
-pub enum Worked {
-    Is(Rated),
-    Stopped(u8),
-}
-
-fn after(rows: u8, outcome: Outcome) -> Rate
+fn after(rows: u8, outcome: Outcome) -> Result<f64, u8>
     ensures { rate_said result ≡ after rows (outcome_of outcome) }
 {
     match outcome {
-        Outcome::Value(x) => Rate::Is(x),
-        Outcome::Stop => Rate::Stopped(rows),
+        Outcome::Value(x) => Ok(x),
+        Outcome::Stop => Err(rows),
     }
 }
 
@@ -64,22 +50,22 @@ fn difference_rate(vary_a: bool, vary_b: bool, a: f64, b: f64) -> Outcome
 }
 
 // "u := b × ȧ, t := a × ḃ, ḋ := u + t"
-fn two_terms(a: Rated, b: Rated) -> Rate
+fn two_terms(a: Rated, b: Rated) -> Result<f64, u8>
     ensures { rate_said result ≡ two_terms a b }
 {
     let u = match double::product(b.value, a.rate) {
         Outcome::Value(u) => u,
-        Outcome::Stop => return Rate::Stopped(0),
+        Outcome::Stop => return Err(0),
     };
     let t = match double::product(a.value, b.rate) {
         Outcome::Value(t) => t,
-        Outcome::Stop => return Rate::Stopped(1),
+        Outcome::Stop => return Err(1),
     };
     after(2, double::sum(u, t))
 }
 
 // "or the one term alone"
-fn product_rate(vary_a: bool, vary_b: bool, a: Rated, b: Rated) -> Rate
+fn product_rate(vary_a: bool, vary_b: bool, a: Rated, b: Rated) -> Result<f64, u8>
     ensures { rate_said result ≡ product_rate vary_a vary_b a b }
 {
     if !vary_a {
@@ -92,46 +78,46 @@ fn product_rate(vary_a: bool, vary_b: bool, a: Rated, b: Rated) -> Rate
 }
 
 // A quotient's second term: "t := a × ḃ, t := t / b, t := t / b". So many of the row's table rows stand before it.
-fn second_over(rows: u8, a: Rated, b: Rated) -> Rate
+fn second_over(rows: u8, a: Rated, b: Rated) -> Result<f64, u8>
     requires { rows ≤ 1 }
     ensures { rate_said result ≡ second_over rows a b }
 {
     let scaled = match double::product(a.value, b.rate) {
         Outcome::Value(scaled) => scaled,
-        Outcome::Stop => return Rate::Stopped(rows),
+        Outcome::Stop => return Err(rows),
     };
     let once = match double::quotient(scaled, b.value) {
         Outcome::Value(once) => once,
-        Outcome::Stop => return Rate::Stopped(rows + 1),
+        Outcome::Stop => return Err(rows + 1),
     };
     after(rows + 2, double::quotient(once, b.value))
 }
 
 // "u := ȧ / b, .. ḋ := u − t"
-fn both_over(a: Rated, b: Rated) -> Rate
+fn both_over(a: Rated, b: Rated) -> Result<f64, u8>
     ensures { rate_said result ≡ both_over a b }
 {
     let u = match double::quotient(a.rate, b.value) {
         Outcome::Value(u) => u,
-        Outcome::Stop => return Rate::Stopped(0),
+        Outcome::Stop => return Err(0),
     };
     match second_over(1, a, b) {
-        Rate::Is(t) => after(4, double::difference(u, t)),
-        Rate::Stopped(rows) => Rate::Stopped(rows),
+        Ok(t) => after(4, double::difference(u, t)),
+        Err(rows) => Err(rows),
     }
 }
 
 // "the second alone the t rows, then ḋ := −t"
-fn second_alone(a: Rated, b: Rated) -> Rate
+fn second_alone(a: Rated, b: Rated) -> Result<f64, u8>
     ensures { rate_said result ≡ second_alone a b }
 {
     match second_over(0, a, b) {
-        Rate::Is(t) => after(3, double::negation(t)),
-        Rate::Stopped(rows) => Rate::Stopped(rows),
+        Ok(t) => after(3, double::negation(t)),
+        Err(rows) => Err(rows),
     }
 }
 
-fn quotient_rate(vary_a: bool, vary_b: bool, a: Rated, b: Rated) -> Rate
+fn quotient_rate(vary_a: bool, vary_b: bool, a: Rated, b: Rated) -> Result<f64, u8>
     ensures { rate_said result ≡ quotient_rate vary_a vary_b a b }
 {
     if !vary_a {
@@ -143,7 +129,7 @@ fn quotient_rate(vary_a: bool, vary_b: bool, a: Rated, b: Rated) -> Rate
     both_over(a, b)
 }
 
-fn active_rate(kind: u16, vary_a: bool, vary_b: bool, a: Rated, b: Rated) -> Rate
+fn active_rate(kind: u16, vary_a: bool, vary_b: bool, a: Rated, b: Rated) -> Result<f64, u8>
     ensures { rate_said result ≡ active_rate_of kind vary_a vary_b a b }
 {
     match kind {
@@ -152,12 +138,12 @@ fn active_rate(kind: u16, vary_a: bool, vary_b: bool, a: Rated, b: Rated) -> Rat
         kinds::PRODUCT => product_rate(vary_a, vary_b, a, b),
         kinds::NEGATION => after(0, double::negation(a.rate)),
         kinds::QUOTIENT => quotient_rate(vary_a, vary_b, a, b),
-        _ => Rate::Is(a.rate),
+        _ => Ok(a.rate),
     }
 }
 
 // "An inactive assignment's .. sets ḋ to 0."
-fn rate_of(kind: u16, mark: u8, a: Rated, b: Rated) -> Rate
+fn rate_of(kind: u16, mark: u8, a: Rated, b: Rated) -> Result<f64, u8>
     ensures { rate_said result ≡ rate_on kind (known_by mark) a b }
 {
     let vary_a = marks::bit(mark, sets::VARIED_A);
@@ -165,7 +151,7 @@ fn rate_of(kind: u16, mark: u8, a: Rated, b: Rated) -> Rate
     if marks::bit(mark, sets::ACTIVE) {
         return active_rate(kind, vary_a, vary_b, a, b);
     }
-    Rate::Is(double::zero())
+    Ok(double::zero())
 }
 
 fn value_of(kind: u16, a: f64, b: f64) -> Outcome
@@ -181,16 +167,16 @@ fn value_of(kind: u16, a: f64, b: f64) -> Outcome
     }
 }
 
-fn work_out(kind: u16, mark: u8, rate_rows: u8, a: Rated, b: Rated) -> Worked
+fn work_out(kind: u16, mark: u8, rate_rows: u8, a: Rated, b: Rated) -> Result<Rated, u8>
     ensures { worked_said result ≡ worked_on kind (known_by mark) rate_rows a b }
 {
     let rate = match rate_of(kind, mark, a, b) {
-        Rate::Is(rate) => rate,
-        Rate::Stopped(rows) => return Worked::Stopped(rows),
+        Ok(rate) => rate,
+        Err(rows) => return Err(rows),
     };
     match value_of(kind, a.value, b.value) {
-        Outcome::Value(value) => Worked::Is(Rated { value, rate }),
-        Outcome::Stop => Worked::Stopped(rate_rows),
+        Outcome::Value(value) => Ok(Rated { value, rate }),
+        Outcome::Stop => Err(rate_rows),
     }
 }
 
@@ -217,7 +203,7 @@ pub fn assigned(
     mark: u8,
     a: Rated,
     b: Rated,
-) -> Worked
+) -> Result<Rated, u8>
     requires constant_in { (row.kind ≡ 2 → first_constant + row.a < length words.now) }
     requires part_said { SaysPart (row_said row) Assignment }
     ensures { worked_said result ≡ worked_on row.kind (known_by mark) (line_count (known_by mark) (line_of_row (row_said row)) - 1)

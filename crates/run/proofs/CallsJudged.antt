@@ -1,5 +1,6 @@
 -- Refusals 1 to 11 in a call's order, and the run behind them.
 use Prim.Native.Nat.{ℕ}
+use Rattle.std.specs.Prelude.{Err, Ok, Result}
 use mathlib.Core.Path.{◌≡◌, sym, ap, ◌∙◌}
 use mathlib.Core.Bool.{Bool, true}
 use mathlib.Core.List.{List, ◌++◌}
@@ -20,27 +21,24 @@ use Rattle.table.specs.Calls.{read_for}
 use Rattle.table.specs.Inner.Plans.{PlanMadeFor, PlanSaysFor, PlanSaysIn}
 use Rattle.table.specs.declared.Reply as answered
 use Rattle.table.specs.declared.Plan.{Plan}
-use Rattle.table.specs.declared.Planned.{Planned}
-use Rattle.table.specs.declared.Planned.TheVariants as planned
 use Rattle.run.specs.Runs.{Lent, lent_of, ran_of, Job}
 use Rattle.run.specs.Calls.{all_admitted, read_to_run, ran_on, run_by}
 use Rattle.run.specs.declared.Rooms.{Rooms}
-use Rattle.run.specs.declared.Fit.{Fit}
 use Rattle.run.specs.Inner.CallSteps.{table_fits, stacks_fit, rooms_fit, fit_said, read_with_room, Answers, NoRoom, HasRoom}
 use Rattle.run.specs.Inner.CallAnswers.{TableInPlace, RanTo}
 
 -- what a judgement comes to, by the code's answer
-pub said : {judgement : Answer (Unit {0})} {fit answer : Fit} → fit_said fit ≡ judgement → fit ≡ answer → judgement ≡ fit_said answer
+pub said : {judgement : Answer (Unit {0})} {fit answer : Result (Unit {0}) Unfit} → fit_said fit ≡ judgement → fit ≡ answer → judgement ≡ fit_said answer
 said {judgement} {fit} {answer} is told = sym is ∙ ap fit_said told
 
 -- ---- 1 to 10, by a plan
 
 -- a plan says of an arithmetic that divides what it says of the words
-pub planned_in : (needs : Sheet → Needs) (words marks came goes : List ℕ) (plans : Planned) → PlanSaysFor needs words marks came goes plans
+pub planned_in : (needs : Sheet → Needs) (words marks came goes : List ℕ) (plans : Result Plan No) → PlanSaysFor needs words marks came goes plans
     → PlanSaysIn true needs words marks came goes plans
 unfolding read_in
-planned_in needs words marks came goes (planned.Refused why) says = says
-planned_in needs words marks came goes (planned.Made plan) made = (made, made.accepted)
+planned_in needs words marks came goes (Err why) says = says
+planned_in needs words marks came goes (Ok plan) made = (made, made.accepted)
 
 module _ (divides : Bool) {needs : Sheet → Needs} {words : List ℕ} (rooms : Rooms) where
   pub unread : {why : Refusal} {answer : answered.Reply} → read_in divides words ≡ refused why → Answers answer why

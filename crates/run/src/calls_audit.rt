@@ -12,7 +12,7 @@ ghost use Rattle.run.specs.Inner.CallSteps.{ResultFits, result_at, halves_of};
 ghost use Rattle.run.specs.Inner.TableRuns.{RunsTable};
 ghost use Rattle.run.specs.Inner.CallAnswers.{StacksCleared, RunRoom, Ready, SheetRoom, TableInPlace, AdjointRanTo};
 
-use super::{Counted, Judged, Rooms, buffers, refusals};
+use super::{Counted, Rooms, buffers, refusals};
 use machine::Ended;
 use sheet::{MAX_DEPTH, MAX_ROWS, MAX_VARIABLES};
 use table::{MAX_TABLE_ROWS, Plan, Reply};
@@ -196,8 +196,8 @@ pub fn run_audit(
     let planned = table::plan_sheet(words, &mut marks, &mut came, &mut goes);
     let allowed = table::undivided(words, planned);
     match refusals::judge(allowed, rooms) {
-        Judged::No(answer) => answer,
-        Judged::HasRoom(plan) => {
+        Err(answer) => answer,
+        Ok(plan) => {
             let mut beyond = [0u16; MAX_TABLE_ROWS];
             writer::write_planned(words, plan, &marks, &came, &goes, table, &mut beyond);
             run_written(

@@ -12,7 +12,7 @@ ghost use Rattle.run.specs.Inner.CallSteps.{ResultFits, result_at, halves_of};
 ghost use Rattle.run.specs.Inner.TableRuns.{RunsTable};
 ghost use Rattle.run.specs.Inner.CallAnswers.{StacksCleared, RunRoom, Ready, SheetRoom, TableInPlace, AdjointRanTo};
 
-use super::{Counted, Fit, Judged, Rooms, buffers, refusals};
+use super::{Counted, Rooms, buffers, refusals};
 use machine::Ended;
 use sheet::{MAX_DEPTH, MAX_ROWS, MAX_VARIABLES};
 use table::{MAX_TABLE_ROWS, Plan, Reply};
@@ -195,9 +195,9 @@ pub fn run_double(
     };
     let planned = table::plan_sheet(words, &mut marks, &mut came, &mut goes);
     match refusals::judge(planned, rooms) {
-        Judged::No(answer) => answer,
-        Judged::HasRoom(plan) => {
-            if let Fit::No(why) = refusals::all_finite(starts, seeds) {
+        Err(answer) => answer,
+        Ok(plan) => {
+            if let Err(why) = refusals::all_finite(starts, seeds) {
                 return refusals::answer_no(why);
             }
             let mut beyond = [0u16; MAX_TABLE_ROWS];

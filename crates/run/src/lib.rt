@@ -35,19 +35,6 @@ pub enum Unfit {
     NotFinite(usize),
 }
 
-#[derive(Clone, Copy)]
-pub enum Fit {
-    No(Unfit),
-    Fits,
-}
-
-// What refusals 1 to 10 come to: the first one's answer, or the plan of a sheet that has room.
-#[derive(Clone, Copy)]
-pub enum Judged {
-    No(Reply),
-    HasRoom(Plan),
-}
-
 // The roles at which numbers are read or put; the others' are 0.
 #[derive(Clone, Copy)]
 pub enum Counted {

@@ -7,10 +7,11 @@ ghost use Rattle.table.specs.Inner.Plans.{PlanSaysIn};
 ghost use Rattle.run.specs.Calls.{all_admitted};
 ghost use Rattle.run.specs.Inner.CallSteps.{fit_said, unfit_refusal, table_fits, stacks_fit, lengths_fit, rooms_fit, Answers, JudgedAs, answer_at};
 
-use super::{Fit, Judged, Rooms, Unfit};
+use super::{Rooms, Unfit};
 use machine::Ended;
 use number::double;
-use table::{Plan, Planned, Reply};
+use sheet::No;
+use table::{Plan, Reply};
 
 // The numbers of these refusals, 8 apart, and of a run that stops.
 const SMALL_STACK: u16 = 9;
@@ -25,80 +26,80 @@ pub const NOT_FINITE_RESULT: u16 = 12;
 pub const STUCK: u16 = 65535;
 
 // 8
-fn table_fits(rows: usize, room: usize) -> Fit
+fn table_fits(rows: usize, room: usize) -> Result<(), Unfit>
     ensures { fit_said result ≡ table_fits rows room }
 {
     if writer::has_room(rows, room) {
-        return Fit::Fits;
+        return Ok(());
     }
-    Fit::No(Unfit::SmallTable)
+    Err(Unfit::SmallTable)
 }
 
 // 9
-fn stacks_fit(values: usize, value_room: usize, turns: usize, turn_room: usize) -> Fit
+fn stacks_fit(values: usize, value_room: usize, turns: usize, turn_room: usize) -> Result<(), Unfit>
     ensures { fit_said result ≡ stacks_fit values value_room turns turn_room }
 {
     if value_room < values {
-        return Fit::No(Unfit::SmallValueStack);
+        return Err(Unfit::SmallValueStack);
     }
     if turn_room < turns {
-        return Fit::No(Unfit::SmallTurnStack);
+        return Err(Unfit::SmallTurnStack);
     }
-    Fit::Fits
+    Ok(())
 }
 
 // 10
-pub fn lengths_fit(variables: usize, starts: usize, seeds: usize, res: usize) -> Fit
+pub fn lengths_fit(variables: usize, starts: usize, seeds: usize, res: usize) -> Result<(), Unfit>
     ensures { fit_said result ≡ lengths_fit variables starts seeds res }
 {
     if starts != variables {
-        return Fit::No(Unfit::WrongStarts);
+        return Err(Unfit::WrongStarts);
     }
     if seeds != variables {
-        return Fit::No(Unfit::WrongSeeds);
+        return Err(Unfit::WrongSeeds);
     }
     if res % 2 != 0 {
-        return Fit::No(Unfit::WrongResult);
+        return Err(Unfit::WrongResult);
     }
     if res / 2 != variables {
-        return Fit::No(Unfit::WrongResult);
+        return Err(Unfit::WrongResult);
     }
-    Fit::Fits
+    Ok(())
 }
 
 // 11: the numbers are judged in their order, the first one at this place.
-fn finite_from(numbers: &[f64], place: usize) -> Fit
+fn finite_from(numbers: &[f64], place: usize) -> Result<(), Unfit>
     requires { place + length numbers.now < 2 ^ 64 }
     ensures { fit_said result ≡ all_admitted doubles numbers.now place }
 {
     let mut i: usize = 0;
     while i < numbers.len() {
         if !double::is_finite(numbers[i]) {
-            return Fit::No(Unfit::NotFinite(place + i));
+            return Err(Unfit::NotFinite(place + i));
         }
         i += 1;
     }
-    Fit::Fits
+    Ok(())
 }
 
-pub fn all_finite(starts: &[f64], seeds: &[f64]) -> Fit
+pub fn all_finite(starts: &[f64], seeds: &[f64]) -> Result<(), Unfit>
     ensures { fit_said result ≡ all_admitted doubles (starts.now ++ seeds.now) 0 }
 {
-    if let Fit::No(why) = finite_from(starts, 0) {
-        return Fit::No(why);
+    if let Err(why) = finite_from(starts, 0) {
+        return Err(why);
     }
     finite_from(seeds, starts.len())
 }
 
 // 8 to 10
-fn rooms_fit(plan: Plan, rooms: Rooms) -> Fit
+fn rooms_fit(plan: Plan, rooms: Rooms) -> Result<(), Unfit>
     ensures { fit_said result ≡ rooms_fit plan rooms }
 {
-    if let Fit::No(why) = table_fits(plan.rows, rooms.table) {
-        return Fit::No(why);
+    if let Err(why) = table_fits(plan.rows, rooms.table) {
+        return Err(why);
     }
-    if let Fit::No(why) = stacks_fit(plan.values, rooms.values, plan.turns, rooms.turns) {
-        return Fit::No(why);
+    if let Err(why) = stacks_fit(plan.values, rooms.values, plan.turns, rooms.turns) {
+        return Err(why);
     }
     let shape = plan.shape;
     lengths_fit(shape.variables, rooms.starts, rooms.seeds, rooms.result)
@@ -140,18 +141,18 @@ pub fn answer_no(why: Unfit) -> Reply
 }
 
 // 1 to 10, and 13 where the plan says it: what is lent is held against the sheet's plan, whatever its table needs.
-pub fn judge(planned: Planned, rooms: Rooms) -> Judged
+pub fn judge(planned: Result<Plan, No>, rooms: Rooms) -> Result<Plan, Reply>
     ensures { (divides : Bool) (needs : Sheet → Needs) (words marks came goes : List ℕ) → PlanSaysIn divides needs words marks came goes planned
         → JudgedAs divides needs words rooms marks came goes result }
 {
     match planned {
-        Planned::Refused(why) => Judged::No(Reply {
+        Err(why) => Err(Reply {
             number: sheet::number_of(why),
             place: sheet::place_of(why),
         }),
-        Planned::Made(plan) => match rooms_fit(plan, rooms) {
-            Fit::No(why) => Judged::No(answer_no(why)),
-            Fit::Fits => Judged::HasRoom(plan),
+        Ok(plan) => match rooms_fit(plan, rooms) {
+            Err(why) => Err(answer_no(why)),
+            Ok(()) => Ok(plan),
         },
     }
 }

@@ -1,6 +1,7 @@
 -- What mark says, from the reader's answer and from what marking an accepted sheet finds and leaves; what the reader's answer then is; and that it
 -- says one thing only.
 use Prim.Native.Nat.{ℕ, suc, ◌+◌, ◌≤◌, ◌<◌}
+use Rattle.std.specs.Prelude.{Err, Ok, Result}
 use native.Mathlib.Omega.{arith}
 use native.Mathlib.Numerals.{add-one}
 use mathlib.Core.Path.{◌≡◌, sym, ap, subst, ◌∙◌}
@@ -14,13 +15,9 @@ use Rattle.sheet.specs.Reading.{read}
 use Rattle.sheet.specs.Answers.{refusal_of, said, shape_of, shape_read}
 use Rattle.sheet.specs.declared.No.{No}
 use Rattle.sheet.specs.declared.Shape.{Shape}
-use Rattle.sheet.specs.declared.Reading.{Reading}
-use Rattle.sheet.specs.declared.Reading.TheVariants as reading
 use Rattle.sheet.proofs.ReadingParts.{bound, same_given}
 use Rattle.sheet.proofs.ReaderLaws.{accepted_shape, same_said}
 use Rattle.sets.specs.declared.Ends.{Ends}
-use Rattle.sets.specs.declared.Marking.{Marking}
-use Rattle.sets.specs.declared.Marking.TheVariants as marking
 use Rattle.sets.specs.VariableSets.{VariableSet, empty}
 use Rattle.sets.specs.MarkBytes.{mark_bytes}
 use Rattle.sets.specs.Calls.{Lent, lent, SheetMarks, MarksSaid, ends_of, ShapeAndEnds, marking_said, marking_read}
@@ -33,7 +30,7 @@ use Rattle.sets.proofs.Seeds.{clear_first}
 use Rattle.sets.proofs.SheetMarked.{facts, partners_right}
 
 -- an accepted shape says where its sheet is laid
-pub accepted_laid : (words : List ℕ) (r : Reading) (shape : Shape) → said r ≡ shape_read words → r ≡ reading.Accepted shape
+pub accepted_laid : (words : List ℕ) (r : Result Shape No) (shape : Shape) → said r ≡ shape_read words → r ≡ Ok shape
     → Laid words shape.variables shape.first_row shape.rows
 accepted_laid words r shape contract is =
     let shaped = accepted_shape words r shape contract is in
@@ -79,19 +76,19 @@ module _ {words : List ℕ} {variables first count : ℕ} (laid : Laid words var
 -- ---- the answer
 
 module _ (words : List ℕ) where
-  pub refused_marking : (why : No) → read words ≡ refused (refusal_of why) → marking_said (marking.Refused why) ≡ marking_read words
+  pub refused_marking : (why : No) → read words ≡ refused (refusal_of why) → marking_said (Err why) ≡ marking_read words
   unfolding marking_read
   refused_marking why e = rw e
 
   pub accepted_marking : (shape : Shape) (ends : Ends) (sheet : Sheet) → read words ≡ given sheet → given shape ≡ shape_read words → ends ≡ ends_of sheet
-      → marking_said (marking.Marked shape ends) ≡ marking_read words
+      → marking_said (Ok (shape, ends)) ≡ marking_read words
   unfolding marking_read shape_read
   accepted_marking shape ends sheet e shaped found =
       let shapes : ◌≡◌ {A = Answer Shape} (given shape) (given (shape_of sheet)) = rw e at shaped in
       rw (e, same_given shapes, found)
 
   -- what the reader's answer then is
-  pub marking_refuses : (r : Marking) (why : No) → marking_said r ≡ marking_read words → r ≡ marking.Refused why → read words ≡ refused (refusal_of why)
+  pub marking_refuses : (r : Result (Shape × Ends) No) (why : No) → marking_said r ≡ marking_read words → r ≡ Err why → read words ≡ refused (refusal_of why)
   unfolding marking_read
   marking_refuses r why contract is = stopped (read words) (sym contract ∙ ap marking_said is)
     where
@@ -100,7 +97,7 @@ module _ (words : List ℕ) where
       stopped (refused r) e = cc
       stopped (given sheet) e = let z : ◌≡◌ {A = ℕ} 0 1 = cc in absurd (omega arith)
 
-  pub marking_shape : (r : Marking) (shape : Shape) (ends : Ends) → marking_said r ≡ marking_read words → r ≡ marking.Marked shape ends
+  pub marking_shape : (r : Result (Shape × Ends) No) (shape : Shape) (ends : Ends) → marking_said r ≡ marking_read words → r ≡ Ok (shape, ends)
       → shape_read words ≡ given shape
   unfolding marking_read shape_read
   marking_shape r shape ends contract is =
@@ -123,18 +120,18 @@ same_lent (refused r) before after after' s s' = s ∙ sym s'
 same_lent (given sheet) before after after' s s' =
     same_lists _ _ _ _ _ _ (s.marks ∙ sym s'.marks) (s.came ∙ sym s'.came) (s.goes ∙ sym s'.goes)
 
-same_marking : (r r' : Marking) → marking_said r ≡ marking_said r' → r ≡ r'
-same_marking (marking.Refused why) (marking.Refused why') e =
+same_marking : (r r' : Result (Shape × Ends) No) → marking_said r ≡ marking_said r' → r ≡ r'
+same_marking (Err why) (Err why') e =
     let same : refusal_of why ≡ refusal_of why' = cc in
-    let readings = same_said (reading.Refused why) (reading.Refused why') (ap refused same) in
+    let readings = same_said (Err why) (Err why') (ap refused same) in
     let whys : why ≡ why' = cc in
-    ap marking.Refused whys
-same_marking (marking.Refused why) (marking.Marked shape ends) e = let z : ◌≡◌ {A = ℕ} 0 1 = cc in absurd (omega arith)
-same_marking (marking.Marked shape ends) (marking.Refused why) e = let z : ◌≡◌ {A = ℕ} 0 1 = cc in absurd (omega arith)
-same_marking (marking.Marked shape ends) (marking.Marked shape' ends') e = ap (λ s. marking.Marked s.shape s.ends) (same_given e)
+    ap Err whys
+same_marking (Err why) (Ok (shape, ends)) e = let z : ◌≡◌ {A = ℕ} 0 1 = cc in absurd (omega arith)
+same_marking (Ok (shape, ends)) (Err why) e = let z : ◌≡◌ {A = ℕ} 0 1 = cc in absurd (omega arith)
+same_marking (Ok (shape, ends)) (Ok (shape', ends')) e = ap (λ s. Ok (s.shape, s.ends)) (same_given e)
 
 pub record Left : Type 0 where
-  pub answer : Marking
+  pub answer : Result (Shape × Ends) No
   pub lists : Lent
 
 pub one_marking : (words : List ℕ) (before : Lent) (left left' : Left)

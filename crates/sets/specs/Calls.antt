@@ -1,5 +1,6 @@
 -- What the call mark answers, and what it leaves in the lent lists.
 use Rattle.std.specs.Prelude.{ℕ, ◌≡◌, List, ◌++◌, drop}
+use Rattle.std.specs.Prelude.{Err, Ok, Result}
 use Rattle.sheet.specs.Judging.{Answer, refused, given, ◌>>=◌}
 use Rattle.sheet.specs.Tree.{rows}
 use Rattle.sheet.specs.Sheets.{Sheet}
@@ -7,8 +8,6 @@ use Rattle.sheet.specs.Reading.{read}
 use Rattle.sheet.specs.Answers.{refusal_of, shape_of}
 use Rattle.sheet.specs.declared.Shape.{Shape}
 use Rattle.sets.specs.declared.Ends.{Ends}
-use Rattle.sets.specs.declared.Marking.{Marking}
-use Rattle.sets.specs.declared.Marking.TheVariants as marking
 use Rattle.sets.specs.VariableSets.{VariableSet}
 use Rattle.sets.specs.Rounds.{varied, useful, sets_of}
 use Rattle.sets.specs.MarkBytes.{mark_bytes}
@@ -30,9 +29,9 @@ pub record ShapeAndEnds : Type 0 where
   pub shape : Shape
   pub ends : Ends
 
-abbrev pub marking_said : Marking → Answer ShapeAndEnds
-marking_said (marking.Refused why) = refused (refusal_of why)
-marking_said (marking.Marked shape ends) = given (record { shape = shape; ends = ends })
+abbrev pub marking_said : Result (Shape × Ends) No → Answer ShapeAndEnds
+marking_said (Err why) = refused (refusal_of why)
+marking_said (Ok (shape, ends)) = given (record { shape = shape; ends = ends })
 
 -- of the sheet that the words are, or the refusal
 unfoldable pub marking_read : List ℕ → Answer ShapeAndEnds

@@ -52,12 +52,6 @@ pub struct Ends {
     pub varied_last: u64,
 }
 
-#[derive(Clone, Copy)]
-pub enum Marking {
-    Refused(sheet::No),
-    Marked(sheet::Shape, Ends),
-}
-
 fn ends_of(varied: &[u64], useful: &[u64], rows: usize) -> Ends
     requires { (rows < length varied.now) × (0 < length useful.now) }
     ensures { result ≡ ends_at (set_at varied.now) (set_at useful.now) rows }
@@ -141,16 +135,16 @@ pub fn mark(
     marks: &mut [u8; sheet::MAX_ROWS],
     came: &mut [u16; sheet::MAX_ROWS],
     goes: &mut [u16; sheet::MAX_ROWS],
-) -> Marking
+) -> Result<(sheet::Shape, Ends), sheet::No>
     ensures { (marking_said result ≡ marking_read words.now)
         × MarksSaid (read words.now) (lent marks.old came.old goes.old)
         (lent marks.new came.new goes.new) }
 {
     match sheet::read_sheet(words) {
-        sheet::Reading::Refused(why) => Marking::Refused(why),
-        sheet::Reading::Accepted(shape) => {
+        Err(why) => Err(why),
+        Ok(shape) => {
             let ends = mark_accepted(words, shape, marks, came, goes);
-            Marking::Marked(shape, ends)
+            Ok((shape, ends))
         }
     }
 }

@@ -1,6 +1,7 @@
 -- What the reader's answer settles, for the layers above: its contract permits one answer only, and an accepted shape is that of the sheet
 -- that the words are.
 use Prim.Native.Nat.{ℕ, ◌+◌, ◌*◌, ◌≤◌}
+use Rattle.std.specs.Prelude.{Err, Ok, Result}
 use mathlib.Core.Path.{◌≡◌, refl, sym, ap, subst, ◌∙◌}
 use mathlib.Core.List.{List, []}
 use mathlib.Core.Option.{Option, none, some}
@@ -20,8 +21,6 @@ use Rattle.sheet.specs.Answers.{refusal_of, said, shape_of, shape_read}
 use Rattle.sheet.specs.declared.No.{No}
 use Rattle.sheet.specs.declared.No.TheVariants.{WordsEnd, WordsLeft, CountBeyond, RoleAbove, BadRow, BadBlock, TooLong, HoldsQuotient}
 use Rattle.sheet.specs.declared.Shape.{Shape}
-use Rattle.sheet.specs.declared.Reading.{Reading}
-use Rattle.sheet.specs.declared.Reading.TheVariants as reading
 use Rattle.sheet.proofs.ReadingParts.{bound, same_given, accepted}
 use Rattle.sheet.proofs.NamesPresent.{count_judged, counts, names_present}
 use Rattle.sheet.proofs.RowsCounted.{lines_counted, rows_counted}
@@ -62,15 +61,15 @@ no_back (HoldsQuotient place) = refl
 same_no : (why why' : No) → refusal_of why ≡ refusal_of why' → why ≡ why'
 same_no why why' e = cc (no_back why, no_back why', ap no_of e)
 
-pub same_said : (r r' : Reading) → said r ≡ said r' → r ≡ r'
-same_said (reading.Refused why) (reading.Refused why') e =
-    let same : refusal_of why ≡ refusal_of why' = cc in ap reading.Refused (same_no why why' same)
-same_said (reading.Refused why) (reading.Accepted shape) e = let z : ◌≡◌ {A = ℕ} 0 1 = cc in absurd (omega arith)
-same_said (reading.Accepted shape) (reading.Refused why) e = let z : ◌≡◌ {A = ℕ} 0 1 = cc in absurd (omega arith)
-same_said (reading.Accepted shape) (reading.Accepted shape') e = let same : shape ≡ shape' = cc in ap reading.Accepted same
+pub same_said : (r r' : Result Shape No) → said r ≡ said r' → r ≡ r'
+same_said (Err why) (Err why') e =
+    let same : refusal_of why ≡ refusal_of why' = cc in ap Err (same_no why why' same)
+same_said (Err why) (Ok shape) e = let z : ◌≡◌ {A = ℕ} 0 1 = cc in absurd (omega arith)
+same_said (Ok shape) (Err why) e = let z : ◌≡◌ {A = ℕ} 0 1 = cc in absurd (omega arith)
+same_said (Ok shape) (Ok shape') e = let same : shape ≡ shape' = cc in ap Ok same
 
 -- any two results that the contract of `read_sheet` permits coincide
-pub one_reading : (words : List ℕ) (r r' : Reading) → said r ≡ shape_read words → said r' ≡ shape_read words → r ≡ r'
+pub one_reading : (words : List ℕ) (r r' : Result Shape No) → said r ≡ shape_read words → said r' ≡ shape_read words → r ≡ r'
 one_reading words r r' e e' = same_said r r' (e ∙ sym e')
 
 -- ---- an accepted shape
@@ -121,7 +120,7 @@ shaped words sheet e =
       present = names_present words sheet e;
     }
 
-pub accepted_shape : (words : List ℕ) (r : Reading) (shape : Shape) → said r ≡ shape_read words → r ≡ reading.Accepted shape → Shaped words shape
+pub accepted_shape : (words : List ℕ) (r : Result Shape No) (shape : Shape) → said r ≡ shape_read words → r ≡ Ok shape → Shaped words shape
 unfolding shape_read
 accepted_shape words r shape contract is =
     let found = bound (read words) _ shape (sym contract ∙ ap said is) in
@@ -129,7 +128,7 @@ accepted_shape words r shape contract is =
 
 -- ---- refused words
 
-pub refused_read : (words : List ℕ) (r : Reading) (why : No) → said r ≡ shape_read words → r ≡ reading.Refused why
+pub refused_read : (words : List ℕ) (r : Result Shape No) (why : No) → said r ≡ shape_read words → r ≡ Err why
     → read words ≡ refused (refusal_of why)
 unfolding shape_read
 refused_read words r why contract is = stopped (read words) (sym contract ∙ ap said is)

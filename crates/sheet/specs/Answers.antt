@@ -1,5 +1,6 @@
 -- What the reader's answer says: each case of its enum as the refusal with 01's number and place (`number_in`, `place_in`), or as the sheet's shape.
 use Rattle.std.specs.Prelude.{ℕ, ◌+◌, List, length}
+use Rattle.std.specs.Prelude.{Err, Ok, Result}
 use Rattle.sheet.specs.Judging.{Answer, refused, given, ◌>>=◌}
 use Rattle.sheet.specs.Refusals.{Refusal, words_end, words_left, count_beyond, role_above, bad_row, bad_block, too_long, holds_quotient}
 use Rattle.sheet.specs.Rows.{Row}
@@ -10,8 +11,6 @@ use Rattle.sheet.specs.declared.No.{No}
 use Rattle.sheet.specs.declared.No.TheVariants.{WordsEnd, WordsLeft, CountBeyond, RoleAbove, BadRow, BadBlock, TooLong, HoldsQuotient}
 use Rattle.sheet.specs.declared.Shape.{Shape}
 use Rattle.sheet.specs.declared.RowWords.{RowWords}
-use Rattle.sheet.specs.declared.Reading.{Reading}
-use Rattle.sheet.specs.declared.Reading.TheVariants as reading
 
 abbrev pub refusal_of : No → Refusal
 refusal_of (WordsEnd place) = words_end place
@@ -23,9 +22,9 @@ refusal_of (BadBlock place) = bad_block place
 refusal_of TooLong = too_long
 refusal_of (HoldsQuotient place) = holds_quotient place
 
-abbrev pub said : Reading → Answer Shape
-said (reading.Refused why) = refused (refusal_of why)
-said (reading.Accepted shape) = given shape
+abbrev pub said : Result Shape No → Answer Shape
+said (Err why) = refused (refusal_of why)
+said (Ok shape) = given shape
 
 -- V, K, N, where the constants and the rows start, and W: after V stand the roles, then K and the constants, then N and the rows
 unfoldable pub shape_of : Sheet → Shape

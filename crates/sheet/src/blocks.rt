@@ -7,7 +7,7 @@ ghost use Rattle.sheet.specs.Inner.Steps.{body_said, after_rows_of, body_run};
 
 use super::kinds::Part;
 use super::{
-    Body, Level, MAX_DEPTH, MAX_LONGEST, No, Open, ROW_WORDS, Step, kinds, row_at, rows, wide,
+    Level, MAX_DEPTH, MAX_LONGEST, No, Open, ROW_WORDS, Step, kinds, row_at, rows, wide,
 };
 
 const OUTERMOST: Level = Level {
@@ -103,13 +103,13 @@ fn follow(part: Part, turns: u16, depth: usize, inner: Level, outer: Level) -> S
 }
 
 // After the rows: W, unless a block was never closed.
-fn after_rows(depth: usize, longest: u16, place: usize) -> Body
+fn after_rows(depth: usize, longest: u16, place: usize) -> Result<u16, No>
     ensures { result ≡ after_rows_of depth longest place }
 {
     if depth == 0 {
-        return Body::Longest(longest);
+        return Ok(longest);
     }
-    Body::Refused(No::BadBlock(place))
+    Err(No::BadBlock(place))
 }
 
 // The rows, each judged as it is followed: the W of what they are. Entry n of the levels, from 1 on, is the level outside the block n deep,
@@ -120,7 +120,7 @@ pub fn rows_read(
     count: usize,
     variables: usize,
     constants: usize,
-) -> Body
+) -> Result<u16, No>
     requires { (first + count * limit.row_words ≤ length words.now)
         × (variables ≤ limit.variables) × (constants ≤ limit.constants) }
     ensures { body_said result ≡ body_run variables constants (rows_at words.now first count) first [] [] }
@@ -135,11 +135,11 @@ pub fn rows_read(
         let row = row_at(words, place);
         let kind = wide(row.kind);
         if kinds::LAST < kind {
-            return Body::Refused(No::BadRow(place));
+            return Err(No::BadRow(place));
         }
         let rule = rules[kind];
         if !rows::row_fits(rule, row) {
-            return Body::Refused(No::BadRow(place));
+            return Err(No::BadRow(place));
         }
         let part = rule.part;
         let next = place + ROW_WORDS;
@@ -148,7 +148,7 @@ pub fn rows_read(
             inner = counted(inner, 1);
         } else {
             match follow(part, kinds::turns_of(row), depth, inner, levels[depth]) {
-                Step::BadBlock => return Body::Refused(No::BadBlock(place)),
+                Step::BadBlock => return Err(No::BadBlock(place)),
                 Step::Stay(level) => inner = level,
                 Step::Enter(level) => {
                     depth = depth + 1;

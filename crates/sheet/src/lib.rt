@@ -66,12 +66,6 @@ pub struct Shape {
     pub longest: usize,
 }
 
-#[derive(Clone, Copy)]
-pub enum Reading {
-    Refused(No),
-    Accepted(Shape),
-}
-
 // The roles besides 0, a parameter.
 const INDEPENDENT: u16 = 1;
 
@@ -99,36 +93,11 @@ pub struct RowWords {
     pub b: u16,
 }
 
-// What a judged count, the roles, all counts and the rows come to.
-#[derive(Clone, Copy)]
-enum Count {
-    Refused(No),
-    Is(usize),
-}
-
-#[derive(Clone, Copy)]
-enum Roles {
-    Refused(No),
-    Fit,
-}
-
 #[derive(Clone, Copy)]
 struct Counts {
     pub variables: usize,
     pub constants: usize,
     pub rows: usize,
-}
-
-#[derive(Clone, Copy)]
-enum Counting {
-    Refused(No),
-    Done(Counts),
-}
-
-#[derive(Clone, Copy)]
-enum Body {
-    Refused(No),
-    Longest(u16),
 }
 
 // What a row of a kind must be, in a sheet with so many variables and constants: each word from the least that it may be to below what it may not
@@ -176,33 +145,33 @@ pub fn wide(x: u16) -> usize
 }
 
 // What is judged after the rows: words that are left, then W.
-fn finish(shape: Shape, after: usize, length: usize) -> Reading
+fn finish(shape: Shape, after: usize, length: usize) -> Result<Shape, No>
     ensures { result ≡ finish_of shape after length }
 {
     if after < length {
-        return Reading::Refused(No::WordsLeft(after));
+        return Err(No::WordsLeft(after));
     }
     if MAX_LONGEST < shape.longest {
-        return Reading::Refused(No::TooLong);
+        return Err(No::TooLong);
     }
-    Reading::Accepted(shape)
+    Ok(shape)
 }
 
 // Any words: the shape of the sheet that they are, or the first refusal.
-pub fn read_sheet(words: &[u16]) -> Reading
+pub fn read_sheet(words: &[u16]) -> Result<Shape, No>
     ensures { said result ≡ shape_read words.now }
 {
     let counts = match sections::counts_read(words) {
-        Counting::Refused(why) => return Reading::Refused(why),
-        Counting::Done(counts) => counts,
+        Err(why) => return Err(why),
+        Ok(counts) => counts,
     };
     let variables = counts.variables;
     let constants = counts.constants;
     let rows = counts.rows;
     let first_row = 3 + variables + constants;
     let longest = match blocks::rows_read(words, first_row, rows, variables, constants) {
-        Body::Refused(why) => return Reading::Refused(why),
-        Body::Longest(longest) => wide(longest),
+        Err(why) => return Err(why),
+        Ok(longest) => wide(longest),
     };
     let after = first_row + rows * ROW_WORDS;
     let shape = Shape {

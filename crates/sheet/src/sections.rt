@@ -5,35 +5,35 @@ ghost use Rattle.sheet.specs.Reading.{count_at, roles_fit};
 ghost use Rattle.sheet.specs.Inner.Steps.{count_said, roles_said, CountsSaid};
 
 use super::{
-    Count, Counting, Counts, MAX_CONSTANTS, MAX_ROLE, MAX_ROWS, MAX_VARIABLES, MIN_VARIABLES, No,
-    ROW_WORDS, Roles, wide,
+    Counts, MAX_CONSTANTS, MAX_ROLE, MAX_ROWS, MAX_VARIABLES, MIN_VARIABLES, No,
+    ROW_WORDS, wide,
 };
 
 // The count at a place, from low to high, of items of so many words each.
-fn count_at(words: &[u16], place: usize, low: usize, high: usize, width: usize) -> Count
+fn count_at(words: &[u16], place: usize, low: usize, high: usize, width: usize) -> Result<usize, No>
     requires { width ≤ limit.row_words }
     ensures { count_said result ≡ count_at words.now place low high width }
 {
     if words.len() <= place {
-        return Count::Refused(No::WordsEnd(place));
+        return Err(No::WordsEnd(place));
     }
     let count = wide(words[place]);
     if count < low {
-        return Count::Refused(No::CountBeyond(place));
+        return Err(No::CountBeyond(place));
     }
     if high < count {
-        return Count::Refused(No::CountBeyond(place));
+        return Err(No::CountBeyond(place));
     }
     let first = place + 1;
     let size = count * width;
     if words.len() - first < size {
-        return Count::Refused(No::WordsEnd(first));
+        return Err(No::WordsEnd(first));
     }
-    Count::Is(count)
+    Ok(count)
 }
 
 // The V roles, from word 1 on.
-fn roles_fit(words: &[u16], count: usize) -> Roles
+fn roles_fit(words: &[u16], count: usize) -> Result<(), No>
     requires { 1 + count ≤ length words.now }
     ensures { roles_said result ≡ roles_fit (take count (drop 1 words.now)) 1 }
 {
@@ -42,33 +42,33 @@ fn roles_fit(words: &[u16], count: usize) -> Roles
     while 0 < left {
         let role = wide(words[place]);
         if MAX_ROLE < role {
-            return Roles::Refused(No::RoleAbove(place));
+            return Err(No::RoleAbove(place));
         }
         place = place + 1;
         left = left - 1;
     }
-    Roles::Fit
+    Ok(())
 }
 
-pub fn counts_read(words: &[u16]) -> Counting
+pub fn counts_read(words: &[u16]) -> Result<Counts, No>
     ensures { CountsSaid words.now result }
 {
     let variables = match count_at(words, 0, MIN_VARIABLES, MAX_VARIABLES, 1) {
-        Count::Refused(why) => return Counting::Refused(why),
-        Count::Is(count) => count,
+        Err(why) => return Err(why),
+        Ok(count) => count,
     };
-    if let Roles::Refused(why) = roles_fit(words, variables) {
-        return Counting::Refused(why);
+    if let Err(why) = roles_fit(words, variables) {
+        return Err(why);
     }
     let constant_count = 1 + variables;
     let constants = match count_at(words, constant_count, 0, MAX_CONSTANTS, 1) {
-        Count::Refused(why) => return Counting::Refused(why),
-        Count::Is(count) => count,
+        Err(why) => return Err(why),
+        Ok(count) => count,
     };
     let row_count = constant_count + 1 + constants;
     match count_at(words, row_count, 0, MAX_ROWS, ROW_WORDS) {
-        Count::Refused(why) => Counting::Refused(why),
-        Count::Is(rows) => Counting::Done(Counts {
+        Err(why) => Err(why),
+        Ok(rows) => Ok(Counts {
             variables,
             constants,
             rows,

@@ -1,5 +1,6 @@
 -- What check answers, from what planning says.
 use Prim.Native.Nat.{ℕ}
+use Rattle.std.specs.Prelude.{Err, Ok, Result}
 use mathlib.Core.Path.{◌≡◌, ap, subst}
 use mathlib.Core.List.{List}
 use Rattle.sheet.specs.Judging.{refused, number_in, place_in}
@@ -9,19 +10,17 @@ use Rattle.sheet.specs.Reading.{read}
 use Rattle.sheet.specs.Answers.{refusal_of, shape_of}
 use Rattle.sheet.specs.declared.No.{No}
 use Rattle.table.specs.declared.Plan.{Plan}
-use Rattle.table.specs.declared.Planned.{Planned}
-use Rattle.table.specs.declared.Planned.TheVariants as planned
 use Rattle.table.specs.Sizes.{Needs, Checked, no_sizes}
 use Rattle.table.specs.Calls.{sizes_in, check}
 use Rattle.table.specs.Inner.Plans.{PlanMadeFor, PlanSaysFor, PlanMade}
 
 -- ---- by the case of a plan, whatever it is for
 
-module _ (needs : Sheet → Needs) (words marks came goes : List ℕ) {r : Planned} where
-  pub when_refused : (why : No) → r ≡ planned.Refused why → PlanSaysFor needs words marks came goes r → read words ≡ refused (refusal_of why)
+module _ (needs : Sheet → Needs) (words marks came goes : List ℕ) {r : Result Plan No} where
+  pub when_refused : (why : No) → r ≡ Err why → PlanSaysFor needs words marks came goes r → read words ≡ refused (refusal_of why)
   when_refused why is says = subst (PlanSaysFor needs words marks came goes) is says
 
-  pub when_made : (plan : Plan) → r ≡ planned.Made plan → PlanSaysFor needs words marks came goes r → PlanMadeFor needs words plan marks came goes
+  pub when_made : (plan : Plan) → r ≡ Ok plan → PlanSaysFor needs words marks came goes r → PlanMadeFor needs words plan marks came goes
   when_made plan is says = subst (PlanSaysFor needs words marks came goes) is says
 
 -- ---- check

@@ -1,5 +1,6 @@
 -- Any two results that the contracts of check and plan_sheet permit coincide.
 use Prim.Native.Nat.{ℕ}
+use Rattle.std.specs.Prelude.{Err, Ok, Result}
 use mathlib.Core.Path.{◌≡◌, sym, ap, ◌∙◌}
 use mathlib.Core.List.{List}
 use native.Mathlib.Omega.{arith}
@@ -8,7 +9,6 @@ use Rattle.sheet.specs.Sheets.{Sheet, variables_of}
 use Rattle.sheet.specs.Reading.{read}
 use Rattle.sheet.specs.Answers.{refusal_of, shape_of}
 use Rattle.sheet.specs.declared.Shape.{Shape}
-use Rattle.sheet.specs.declared.Reading.TheVariants as reading
 use Rattle.sheet.proofs.ReadingParts.{same_given}
 use Rattle.sheet.proofs.ReaderLaws.{same_said}
 use Rattle.sets.specs.Rounds.{marked}
@@ -16,8 +16,6 @@ use Rattle.sets.specs.Calls.{Lent, MarksSaid}
 use Rattle.sets.proofs.CallLaws.{same_lent}
 use Rattle.table.specs.declared.Checked as declared
 use Rattle.table.specs.declared.Plan.{Plan}
-use Rattle.table.specs.declared.Planned.{Planned}
-use Rattle.table.specs.declared.Planned.TheVariants as planned
 use Rattle.table.specs.Sizes.{table_rows, values_needed, turns_needed, Checked, checked_said}
 use Rattle.table.specs.Calls.{check}
 use Rattle.table.specs.Inner.Plans.{PlanMade, PlanSays}
@@ -58,25 +56,25 @@ same_plan made made' =
     (first.values ∙ ap (λ s. values_needed (marked s)) same ∙ sym second.values)
     (first.turns ∙ ap (λ s. turns_needed (marked s)) same ∙ sym second.turns)
 
-same_planned : (words marks came goes marks' came' goes' : List ℕ) (r r' : Planned) → PlanSays words marks came goes r
+same_planned : (words marks came goes marks' came' goes' : List ℕ) (r r' : Result Plan No) → PlanSays words marks came goes r
     → PlanSays words marks' came' goes' r' → r ≡ r'
-same_planned words marks came goes marks' came' goes' (planned.Refused why) (planned.Refused why') e e' =
+same_planned words marks came goes marks' came' goes' (Err why) (Err why') e e' =
     let both : ◌≡◌ {A = Judged Sheet} (refused (refusal_of why)) (refused (refusal_of why')) = sym e ∙ e' in
     let same : refusal_of why ≡ refusal_of why' = cc in
-    let readings = same_said (reading.Refused why) (reading.Refused why') (ap refused same) in
+    let readings = same_said (Err why) (Err why') (ap refused same) in
     let whys : why ≡ why' = cc in
-    ap planned.Refused whys
-same_planned words marks came goes marks' came' goes' (planned.Refused why) (planned.Made plan) e made =
+    ap Err whys
+same_planned words marks came goes marks' came' goes' (Err why) (Ok plan) e made =
     let both : ◌≡◌ {A = Judged Sheet} (refused (refusal_of why)) (given made.sheet) = sym e ∙ made.accepted in
     let z : ◌≡◌ {A = ℕ} 0 1 = cc in
     absurd (omega arith)
-same_planned words marks came goes marks' came' goes' (planned.Made plan) (planned.Refused why) made e =
+same_planned words marks came goes marks' came' goes' (Ok plan) (Err why) made e =
     let both : ◌≡◌ {A = Judged Sheet} (refused (refusal_of why)) (given made.sheet) = sym e ∙ made.accepted in
     let z : ◌≡◌ {A = ℕ} 0 1 = cc in
     absurd (omega arith)
-same_planned words marks came goes marks' came' goes' (planned.Made plan) (planned.Made plan') made made' = ap planned.Made (same_plan made made')
+same_planned words marks came goes marks' came' goes' (Ok plan) (Ok plan') made made' = ap Ok (same_plan made made')
 
-pub one_plan : (words : List ℕ) (before after after' : Lent) (r r' : Planned)
+pub one_plan : (words : List ℕ) (before after after' : Lent) (r r' : Result Plan No)
     → PlanSays words after.marks after.came after.goes r × MarksSaid (read words) before after
     → PlanSays words after'.marks after'.came after'.goes r' × MarksSaid (read words) before after' → (r ≡ r') × (after ≡ after')
 one_plan words before after after' r r' says says' =

@@ -1,5 +1,6 @@
 -- Looking for the first row of kind 18: what is still to be looked through comes to what all rows come to; and what a plan then says.
 use Prim.Native.Nat.{ℕ, zero, suc, ◌+◌, ◌*◌, ◌-◌, ◌≤◌, ◌<◌}
+use Rattle.std.specs.Prelude.{Err, Ok, Result}
 use mathlib.Core.Path.{◌≡◌, sym, ◌∙◌}
 use mathlib.Core.Bool.{false}
 use mathlib.Core.Logic.{◌≢◌}
@@ -17,8 +18,6 @@ use Rattle.sheet.specs.Answers.{shape_of}
 use Rattle.sheet.proofs.TreeOfRows.{tree_of_rows}
 use Rattle.table.specs.Sizes.{Needs}
 use Rattle.table.specs.declared.Plan.{Plan}
-use Rattle.table.specs.declared.Planned.{Planned}
-use Rattle.table.specs.declared.Planned.TheVariants as planned
 use Rattle.table.specs.Inner.Plans.{PlanMadeFor, PlanSaysFor, RowsWithin}
 use Rattle.table.proofs.SheetLaid.{sheet_lies}
 
@@ -71,11 +70,11 @@ module _ {needs : Sheet → Needs} {words : List ℕ} {plan : Plan} {marks came 
   unfolding read_in
   plan_undivided e = rw (made.accepted, ← planned_rows, ← e)
 
-pub rows_within : (needs : Sheet → Needs) (words marks came goes : List ℕ) (plans : Planned) → PlanSaysFor needs words marks came goes plans
+pub rows_within : (needs : Sheet → Needs) (words marks came goes : List ℕ) (plans : Result Plan No) → PlanSaysFor needs words marks came goes plans
     → RowsWithin words plans
 unfolding shape_of
-rows_within needs words marks came goes (planned.Refused why) says = tt
-rows_within needs words marks came goes (planned.Made plan) made = rw made.planned.shape (sheet_lies words made.sheet made.accepted).there
+rows_within needs words marks came goes (Err why) says = tt
+rows_within needs words marks came goes (Ok plan) made = rw made.planned.shape (sheet_lies words made.sheet made.accepted).there
 
 pub refused_in : (words : List ℕ) (why : Refusal) → read words ≡ refused why → read_in false words ≡ refused why
 unfolding read_in

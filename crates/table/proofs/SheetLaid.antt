@@ -1,5 +1,6 @@
 -- Where an accepted sheet's rows lie in its words, what the passes over them ask, and how large its table gets at most.
 use Prim.Native.Nat.{ℕ, ◌+◌, ◌*◌, ◌≤◌, ◌<◌}
+use Rattle.std.specs.Prelude.{Ok}
 use native.Mathlib.Omega.{arith}
 use mathlib.Core.Path.{◌≡◌, refl, sym, ap, subst, ◌∙◌}
 use mathlib.Core.List.{List, []}
@@ -13,7 +14,6 @@ use Rattle.sheet.specs.Reading.{read}
 use Rattle.sheet.specs.Answers.{shape_of, shape_read}
 use Rattle.sheet.specs.Inner.RowLines.{numbered_row}
 use Rattle.sheet.specs.declared.Shape.{Shape}
-use Rattle.sheet.specs.declared.Reading.TheVariants as reading
 use Rattle.sheet.proofs.ReadingParts.{bound, same_given, accepted}
 use Rattle.sheet.proofs.TreeOfRows.{tree_of_rows}
 use Rattle.sheet.proofs.RowsByNumber.{rows_of_tree}
@@ -53,7 +53,7 @@ sheet_lies words sheet e =
     let lines = flat sheet.body [] in
     let first = 3 + length sheet.roles + length sheet.constants in
     let shaped : Shaped words (shape_of sheet) =
-    accepted_shape words (reading.Accepted (shape_of sheet)) (shape_of sheet) (sym (shape_read_lem words sheet e)) refl in
+    accepted_shape words (Ok (shape_of sheet)) (shape_of sheet) (sym (shape_read_lem words sheet e)) refl in
     let stands = body_stands words sheet e in
     let begins : first + 0 * limit.row_words ≡ first = omega arith in
     let many : length lines ≡ length sheet.rows = sym (length-map lines sheet_row_of) ∙ ap length (tree_of_rows words sheet e).says in

@@ -64,12 +64,6 @@ pub struct Plan {
     pub turns: usize,
 }
 
-#[derive(Clone, Copy)]
-pub enum Planned {
-    Refused(sheet::No),
-    Made(Plan),
-}
-
 // The plan of an accepted sheet, from its rows' marks. The partners are there for what the plan says of them.
 fn plan_of(
     words: &[u16],
@@ -98,14 +92,14 @@ pub fn plan_sheet(
     marks: &mut [u8; sheet::MAX_ROWS],
     came: &mut [u16; sheet::MAX_ROWS],
     goes: &mut [u16; sheet::MAX_ROWS],
-) -> Planned
+) -> Result<Plan, sheet::No>
     ensures { PlanSays words.now marks.new came.new goes.new result
         × MarksSaid (read words.now) (lent marks.old came.old goes.old)
         (lent marks.new came.new goes.new) }
 {
     match sets::mark(words, marks, came, goes) {
-        sets::Marking::Refused(why) => Planned::Refused(why),
-        sets::Marking::Marked(shape, _) => Planned::Made(plan_of(words, shape, marks, came, goes)),
+        Err(why) => Err(why),
+        Ok((shape, _)) => Ok(plan_of(words, shape, marks, came, goes)),
     }
 }
 
@@ -117,7 +111,7 @@ pub fn check(words: &[u16]) -> Checked
     let mut came = [0u16; sheet::MAX_ROWS];
     let mut goes = [0u16; sheet::MAX_ROWS];
     match plan_sheet(words, &mut marks, &mut came, &mut goes) {
-        Planned::Refused(why) => Checked {
+        Err(why) => Checked {
             number: sheet::number_of(why),
             place: sheet::place_of(why),
             longest: 0,
@@ -125,7 +119,7 @@ pub fn check(words: &[u16]) -> Checked
             values: 0,
             turns: 0,
         },
-        Planned::Made(plan) => {
+        Ok(plan) => {
             let shape = plan.shape;
             Checked {
                 number: DONE,

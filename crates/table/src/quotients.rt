@@ -6,17 +6,11 @@ ghost use Rattle.sheet.specs.Reading.{undivided};
 ghost use Rattle.table.specs.Sizes.{Needs};
 ghost use Rattle.table.specs.Inner.Plans.{PlanSaysFor, PlanSaysIn, RowsWithin, quotients_said};
 
-use super::Planned;
+use super::Plan;
 use sheet::{No, ROW_WORDS, kinds};
 
-#[derive(Clone, Copy)]
-enum Quotients {
-    Nowhere,
-    At(usize),
-}
-
 // Among so many rows from a place on.
-fn first_quotient(words: &[u16], first: usize, rows: usize) -> Quotients
+fn first_quotient(words: &[u16], first: usize, rows: usize) -> Option<usize>
     requires { first + rows * limit.row_words ≤ length words.now }
     ensures { quotients_said result ≡ undivided (rows_at words.now first rows) first }
 {
@@ -24,27 +18,27 @@ fn first_quotient(words: &[u16], first: usize, rows: usize) -> Quotients
     let mut left = rows;
     while 0 < left {
         if words[place] == kinds::QUOTIENT {
-            return Quotients::At(place);
+            return Some(place);
         }
         place += ROW_WORDS;
         left -= 1;
     }
-    Quotients::Nowhere
+    None
 }
 
 // A plan, whoever made it, for an arithmetic without quotients: a sheet that holds one is refused.
-pub fn undivided(words: &[u16], planned: Planned) -> Planned
+pub fn undivided(words: &[u16], planned: Result<Plan, No>) -> Result<Plan, No>
     requires { RowsWithin words.now planned }
     ensures { (needs : Sheet → Needs) (marks came goes : List ℕ) → PlanSaysFor needs words.now marks came goes planned
         → PlanSaysIn false needs words.now marks came goes result }
 {
     match planned {
-        Planned::Refused(why) => Planned::Refused(why),
-        Planned::Made(plan) => {
+        Err(why) => Err(why),
+        Ok(plan) => {
             let shape = plan.shape;
             match first_quotient(words, shape.first_row, shape.rows) {
-                Quotients::Nowhere => Planned::Made(plan),
-                Quotients::At(place) => Planned::Refused(No::HoldsQuotient(place)),
+                None => Ok(plan),
+                Some(place) => Err(No::HoldsQuotient(place)),
             }
         }
     }

@@ -12,7 +12,7 @@ ghost use Rattle.tangent.specs.Calls.{tangent_of, run_tangent};
 ghost use Rattle.tangent.specs.Inner.TangentAnswers.{rates_from, TangentRanTo};
 
 use machine::Ended;
-use run::{Counted, Judged, Rooms, buffers, calls_audit, refusals};
+use run::{Counted, Rooms, buffers, calls_audit, refusals};
 use sheet::{MAX_ROWS, MAX_VARIABLES};
 use table::{MAX_TABLE_ROWS, Plan, Reply};
 
@@ -136,8 +136,8 @@ pub fn tangent_audit(
     let planned = super::plan_tangent(words, &mut marks, &mut came, &mut goes);
     let allowed = table::undivided(words, planned);
     match refusals::judge(allowed, rooms) {
-        Judged::No(answer) => answer,
-        Judged::HasRoom(plan) => {
+        Err(answer) => answer,
+        Ok(plan) => {
             let mut beyond = [0u16; MAX_TABLE_ROWS];
             super::write_planned(words, plan, &marks, table, &mut beyond);
             run_written(words, plan, table, &beyond, starts, rates, res)

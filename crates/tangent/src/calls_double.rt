@@ -12,7 +12,7 @@ ghost use Rattle.tangent.specs.Calls.{tangent_of, run_tangent};
 ghost use Rattle.tangent.specs.Inner.TangentAnswers.{rates_from, TangentRanTo};
 
 use machine::Ended;
-use run::{Counted, Fit, Judged, Rooms, buffers, calls_double, refusals};
+use run::{Counted, Rooms, buffers, calls_double, refusals};
 use sheet::{MAX_ROWS, MAX_VARIABLES};
 use table::{MAX_TABLE_ROWS, Plan, Reply};
 
@@ -135,9 +135,9 @@ pub fn tangent_double(
     };
     let planned = super::plan_tangent(words, &mut marks, &mut came, &mut goes);
     match refusals::judge(planned, rooms) {
-        Judged::No(answer) => answer,
-        Judged::HasRoom(plan) => {
-            if let Fit::No(why) = refusals::all_finite(starts, rates) {
+        Err(answer) => answer,
+        Ok(plan) => {
+            if let Err(why) = refusals::all_finite(starts, rates) {
                 return refusals::answer_no(why);
             }
             let mut beyond = [0u16; MAX_TABLE_ROWS];

@@ -14,7 +14,7 @@ ghost use Rattle.tangent.specs.Calls.{tangent_of, tangent_needs_of, write_tangen
 ghost use Rattle.tangent.specs.Inner.TangentPlans.{TangentPlanned};
 
 use sheet::RowNumber;
-use table::{MAX_TABLE_ROWS, Plan, Planned, Reply};
+use table::{MAX_TABLE_ROWS, Plan, Reply};
 
 mod calls_audit;
 mod calls_double;
@@ -53,12 +53,12 @@ pub fn plan_tangent(
     marks: &mut [u8; sheet::MAX_ROWS],
     came: &mut [u16; sheet::MAX_ROWS],
     goes: &mut [u16; sheet::MAX_ROWS],
-) -> Planned
+) -> Result<Plan, sheet::No>
     ensures { PlanSaysFor tangent_needs_of words.now marks.new came.new goes.new result }
 {
     match sets::mark(words, marks, came, goes) {
-        sets::Marking::Refused(why) => Planned::Refused(why),
-        sets::Marking::Marked(shape, _) => Planned::Made(plan_of(words, shape, marks, came, goes)),
+        Err(why) => Err(why),
+        Ok((shape, _)) => Ok(plan_of(words, shape, marks, came, goes)),
     }
 }
 
@@ -86,11 +86,11 @@ pub fn write_tangent(words: &[u16], table: &mut [u16]) -> Reply
     let mut came = [0u16; sheet::MAX_ROWS];
     let mut goes = [0u16; sheet::MAX_ROWS];
     match plan_tangent(words, &mut marks, &mut came, &mut goes) {
-        Planned::Refused(why) => Reply {
+        Err(why) => Reply {
             number: sheet::number_of(why),
             place: sheet::place_of(why),
         },
-        Planned::Made(plan) => {
+        Ok(plan) => {
             if !writer::has_room(plan.rows, table.len()) {
                 return Reply {
                     number: table::SMALL_TABLE,

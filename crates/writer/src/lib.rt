@@ -12,7 +12,7 @@ ghost use Rattle.table.specs.Calls.{write};
 ghost use Rattle.table.specs.Inner.Plans.{PlanSays};
 ghost use Rattle.writer.specs.Inner.JumpsNoted.{TableNoted};
 
-use table::{MAX_TABLE_ROWS, Plan, Planned, Reply};
+use table::{MAX_TABLE_ROWS, Plan, Reply};
 
 pub mod jumps;
 mod partners;
@@ -29,7 +29,7 @@ pub fn write_planned(
     table: &mut [u16],
     beyond: &mut [u16; MAX_TABLE_ROWS],
 )
-    requires planned { PlanSays words.now marks.now came.now goes.now (Planned.Made plan) }
+    requires planned { PlanSays words.now marks.now came.now goes.now (Ok plan) }
     requires table_fits { table_room plan.rows ≤ length table.old }
     ensures { (sheet : Sheet) → read words.now ≡ given sheet
         → TableNoted (table_of sheet) table.old table.new beyond.old beyond.new }
@@ -58,11 +58,11 @@ pub fn write(words: &[u16], table: &mut [u16]) -> Reply
     let mut came = [0u16; sheet::MAX_ROWS];
     let mut goes = [0u16; sheet::MAX_ROWS];
     match table::plan_sheet(words, &mut marks, &mut came, &mut goes) {
-        Planned::Refused(why) => Reply {
+        Err(why) => Reply {
             number: sheet::number_of(why),
             place: sheet::place_of(why),
         },
-        Planned::Made(plan) => {
+        Ok(plan) => {
             if !has_room(plan.rows, table.len()) {
                 return Reply {
                     number: table::SMALL_TABLE,

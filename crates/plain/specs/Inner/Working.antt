@@ -1,5 +1,6 @@
 -- One assignment on the pairs that it reads: its rate first, then its value, or after how many of its table rows it stops.
 use Rattle.std.specs.Prelude.{ℕ, ◌+◌, Bool, cond, List, get_or, eqb, Float}
+use Rattle.std.specs.Prelude.{Err, Ok, Result}
 use Rattle.std.specs.Float.{binary64}
 use Rattle.std.specs.Float.Ieee.{div}
 use Rattle.number.specs.Arithmetic.{Outcome, value, stop, signed}
@@ -8,20 +9,16 @@ use Rattle.sheet.specs.Rows.{quotient_kind}
 use Rattle.sets.specs.Transfers.{Activity}
 use Rattle.machine.specs.Actions.{Attempt, through, halted, ◌>>=◌}
 use Rattle.plain.specs.declared.Rated.{Rated}
-use Rattle.plain.specs.declared.rates.Rate.{Rate}
-use Rattle.plain.specs.declared.rates.Rate.TheVariants as rate
-use Rattle.plain.specs.declared.rates.Worked.{Worked}
-use Rattle.plain.specs.declared.rates.Worked.TheVariants as worked
 
 -- ---- what the code's answers say
 
-abbrev pub rate_said : Rate → Attempt ℕ Float
-rate_said (rate.Is x) = through x
-rate_said (rate.Stopped rows) = halted rows
+abbrev pub rate_said : Result Float ℕ → Attempt ℕ Float
+rate_said (Ok x) = through x
+rate_said (Err rows) = halted rows
 
-abbrev pub worked_said : Worked → Attempt ℕ Rated
-worked_said (worked.Is x) = through x
-worked_said (worked.Stopped rows) = halted rows
+abbrev pub worked_said : Result Rated ℕ → Attempt ℕ Rated
+worked_said (Ok x) = through x
+worked_said (Err rows) = halted rows
 
 -- an operation that so many rows stand before
 abbrev pub after : {X : Type 0} → (rows : ℕ) → Outcome X Reason → Attempt ℕ X

@@ -1,5 +1,6 @@
 -- The steps of a call: refusals 1 to 11 one by one, an answer's number and place, and what is laid into and read out of whole buffers.
 use Rattle.std.specs.Prelude.{ℕ, ◌*◌, ◌≤◌, ◌≡◌, Bool, List, ◌++◌, length, leb, eqb}
+use Rattle.std.specs.Prelude.{Err, Ok, Result}
 use Rattle.number.specs.Arithmetic.{Arithmetic}
 use Rattle.number.specs.Doubles.{doubles}
 use Rattle.sheet.specs.Judging.{Answer, refused, given, ◌>>=◌, unless}
@@ -17,14 +18,10 @@ use Rattle.machine.specs.declared.Ended.{Ended}
 use Rattle.machine.specs.declared.Ended.TheVariants as ended
 use Rattle.run.specs.Calls.{stuck_number}
 use Rattle.run.specs.declared.Rooms.{Rooms}
-use Rattle.run.specs.declared.Judged.{Judged}
-use Rattle.run.specs.declared.Judged.TheVariants as judged
 use Rattle.run.specs.declared.Unfit.{Unfit}
 use Rattle.run.specs.declared.Unfit.TheVariants as unfit
 use Rattle.run.specs.declared.Counted.{Counted}
 use Rattle.run.specs.declared.Counted.TheVariants as counted
-use Rattle.run.specs.declared.Fit.{Fit}
-use Rattle.run.specs.declared.Fit.TheVariants as fit
 
 -- ---- refusals
 
@@ -71,9 +68,9 @@ unfit_refusal unfit.WrongSeeds = wrong_seeds
 unfit_refusal unfit.WrongResult = wrong_result
 unfit_refusal (unfit.NotFinite place) = not_finite_given place
 
-abbrev pub fit_said : Fit → Answer (Unit {0})
-fit_said (fit.No why) = refused (unfit_refusal why)
-fit_said fit.Fits = given tt
+abbrev pub fit_said : Result (Unit {0}) Unfit → Answer (Unit {0})
+fit_said (Err why) = refused (unfit_refusal why)
+fit_said (Ok _) = given tt
 
 -- a refusal's number and place
 pub record Answers (answer : answered.Reply) (why : Refusal) : Type 0 where
@@ -95,9 +92,9 @@ pub record HasRoom (divides : Bool) (needs : Sheet → Needs) (words : List ℕ)
   pub seeds_fit : rooms.seeds ≡ plan.shape.variables
   pub result_fits : rooms.result ≡ 2 * plan.shape.variables
 
-abbrev pub JudgedAs : (divides : Bool) (needs : Sheet → Needs) (words : List ℕ) → Rooms → (marks came goes : List ℕ) → Judged → Type 0
-JudgedAs divides needs words rooms marks came goes (judged.No answer) = NoRoom divides needs words rooms answer
-JudgedAs divides needs words rooms marks came goes (judged.HasRoom plan) = HasRoom divides needs words rooms marks came goes plan
+abbrev pub JudgedAs : (divides : Bool) (needs : Sheet → Needs) (words : List ℕ) → Rooms → (marks came goes : List ℕ) → Result Plan Reply → Type 0
+JudgedAs divides needs words rooms marks came goes (Err answer) = NoRoom divides needs words rooms answer
+JudgedAs divides needs words rooms marks came goes (Ok plan) = HasRoom divides needs words rooms marks came goes plan
 
 -- ---- a run's end
 

@@ -1,6 +1,7 @@
 -- What the reader's inner functions answer: counts and roles, a row as the blocks see it, the open blocks by their W alone, and W kept from
 -- growing beyond its bound. Nothing here needs to be believed: the contract of `read_sheet` cites none of it.
 use Rattle.std.specs.Prelude.{ℕ, suc, ◌+◌, ◌*◌, ◌≤◌, min, max, ◌≡◌, Bool, true, false, ◌&&◌, List, length, get_or, take, drop, leb, ltb, eqb}
+use Rattle.std.specs.Prelude.{Err, Ok, Result}
 use Rattle.std.proofs.Math.Option.{Option, none, some}
 use Rattle.sheet.specs.Bounds.{limit}
 use Rattle.sheet.specs.Judging.{Answer, refused, given, ◌>>=◌}
@@ -10,15 +11,7 @@ use Rattle.sheet.specs.Tree.{longest_run}
 use Rattle.sheet.specs.Answers.{refusal_of, shape_read}
 use Rattle.sheet.specs.declared.No.TheVariants.{WordsLeft, BadBlock, TooLong}
 use Rattle.sheet.specs.declared.Shape.{Shape}
-use Rattle.sheet.specs.declared.Reading.{Reading}
-use Rattle.sheet.specs.declared.Reading.TheVariants as reading
-use Rattle.sheet.specs.declared.Count.{Count}
-use Rattle.sheet.specs.declared.Count.TheVariants as count
-use Rattle.sheet.specs.declared.Roles.{Roles}
-use Rattle.sheet.specs.declared.Roles.TheVariants as roles
 use Rattle.sheet.specs.declared.Counts.{Counts}
-use Rattle.sheet.specs.declared.Counting.{Counting}
-use Rattle.sheet.specs.declared.Counting.TheVariants as counting
 use Rattle.sheet.specs.declared.kinds.Slot.{Slot}
 use Rattle.sheet.specs.declared.kinds.Slot.TheVariants as slot
 use Rattle.sheet.specs.declared.kinds.Form.{Form}
@@ -31,8 +24,6 @@ use Rattle.sheet.specs.declared.Open.TheVariants as block
 use Rattle.sheet.specs.declared.Level.{Level}
 use Rattle.sheet.specs.declared.Step.{Step}
 use Rattle.sheet.specs.declared.Step.TheVariants as step
-use Rattle.sheet.specs.declared.Body.{Body}
-use Rattle.sheet.specs.declared.Body.TheVariants as body
 
 abbrev pub pick : {A : Type 0} → Bool → A → A → A
 pick true a b = a
@@ -40,13 +31,13 @@ pick false a b = b
 
 -- ---- counts and roles
 
-abbrev pub count_said : Count → Answer ℕ
-count_said (count.Refused why) = refused (refusal_of why)
-count_said (count.Is n) = given n
+abbrev pub count_said : Result ℕ No → Answer ℕ
+count_said (Err why) = refused (refusal_of why)
+count_said (Ok n) = given n
 
-abbrev pub roles_said : Roles → Answer (Unit {0})
-roles_said (roles.Refused why) = refused (refusal_of why)
-roles_said roles.Fit = given tt
+abbrev pub roles_said : Result (Unit {0}) No → Answer (Unit {0})
+roles_said (Err why) = refused (refusal_of why)
+roles_said (Ok _) = given tt
 
 -- each judgement on V, K and N was passed
 pub record CountsJudged (words : List ℕ) (counts : Counts) : Type 0 where
@@ -56,9 +47,9 @@ pub record CountsJudged (words : List ℕ) (counts : Counts) : Type 0 where
   pub rows : count_at words (1 + counts.variables + 1 + counts.constants) 0 limit.rows limit.row_words ≡ given counts.rows
 
 -- the counts refuse the words as a whole, or are judged
-abbrev pub CountsSaid : List ℕ → Counting → Type 0
-CountsSaid words (counting.Refused why) = refused (refusal_of why) ≡ shape_read words
-CountsSaid words (counting.Done counts) = CountsJudged words counts
+abbrev pub CountsSaid : List ℕ → Result Counts No → Type 0
+CountsSaid words (Err why) = refused (refusal_of why) ≡ shape_read words
+CountsSaid words (Ok counts) = CountsJudged words counts
 
 -- ---- what a row of each kind must be
 
@@ -156,13 +147,13 @@ step_of part.EndRepeat turns depth inner outer = repeat_end_of inner.block inner
 
 -- ---- all rows
 
-abbrev pub body_said : Body → Answer ℕ
-body_said (body.Refused why) = refused (refusal_of why)
-body_said (body.Longest longest) = given longest
+abbrev pub body_said : Result ℕ No → Answer ℕ
+body_said (Err why) = refused (refusal_of why)
+body_said (Ok longest) = given longest
 
 -- "After the rows: 6 for never closed"
-unfoldable pub after_rows_of : (depth longest place : ℕ) → Body
-after_rows_of depth longest place = pick (eqb depth 0) (body.Longest longest) (body.Refused (BadBlock place))
+unfoldable pub after_rows_of : (depth longest place : ℕ) → Result ℕ No
+after_rows_of depth longest place = pick (eqb depth 0) (Ok longest) (Err (BadBlock place))
 
 -- W of what the rows are after what has been read, up to one above its bound
 unfoldable pub body_run : (variables constants : ℕ) → List Row → (place : ℕ) → List Block → List Item → Answer ℕ
@@ -172,8 +163,8 @@ body_run v k rows place blocks items = do
   given (saturated (longest_run tree))
 
 -- what is judged after the rows
-unfoldable pub finish_of : Shape → (after length : ℕ) → Reading
+unfoldable pub finish_of : Shape → (after length : ℕ) → Result Shape No
 finish_of shape after length =
     pick (leb length after)
-    (pick (leb shape.longest limit.longest_run) (reading.Accepted shape) (reading.Refused TooLong))
-    (reading.Refused (WordsLeft after))
+    (pick (leb shape.longest limit.longest_run) (Ok shape) (Err TooLong))
+    (Err (WordsLeft after))

@@ -1,5 +1,6 @@
 -- What is found out of a sheet before its table is written: R, S and T, every row's marks and every block row's partners.
 use Rattle.std.specs.Prelude.{ℕ, ◌+◌, ◌*◌, ◌≤◌, ◌≡◌, Bool, List, length}
+use Rattle.std.specs.Prelude.{Err, None, Ok, Option, Result, Some}
 use Rattle.sheet.specs.Judging.{Answer, refused, given}
 use Rattle.sheet.specs.Bounds.{limit}
 use Rattle.sheet.specs.Refusals.{holds_quotient}
@@ -9,10 +10,6 @@ use Rattle.sheet.specs.Answers.{refusal_of, shape_of}
 use Rattle.sets.specs.Marks.{mark_by}
 use Rattle.sets.specs.Rounds.{sets_of}
 use Rattle.table.specs.declared.Plan.{Plan}
-use Rattle.table.specs.declared.Planned.{Planned}
-use Rattle.table.specs.declared.Planned.TheVariants as planned
-use Rattle.table.specs.declared.quotients.Quotients.{Quotients}
-use Rattle.table.specs.declared.quotients.Quotients.TheVariants as quotients
 use Rattle.table.specs.Sizes.{Needs}
 use Rattle.table.specs.Computed.{needs_of}
 use Rattle.table.specs.Inner.MarkedRows.{Noted}
@@ -35,25 +32,25 @@ pub record PlanMadeFor (needs : Sheet → Needs) (words : List ℕ) (plan : Plan
   pub accepted : read words ≡ given sheet
   pub planned : PlanFor needs sheet plan marks came goes
 
-abbrev pub PlanSaysFor : (needs : Sheet → Needs) (words marks came goes : List ℕ) → Planned → Type 0
-PlanSaysFor needs words marks came goes (planned.Refused why) = read words ≡ refused (refusal_of why)
-PlanSaysFor needs words marks came goes (planned.Made plan) = PlanMadeFor needs words plan marks came goes
+abbrev pub PlanSaysFor : (needs : Sheet → Needs) (words marks came goes : List ℕ) → Result Plan No → Type 0
+PlanSaysFor needs words marks came goes (Err why) = read words ≡ refused (refusal_of why)
+PlanSaysFor needs words marks came goes (Ok plan) = PlanMadeFor needs words plan marks came goes
 
 -- the same, planned for an arithmetic that divides or doesn't
-abbrev pub PlanSaysIn : (divides : Bool) (needs : Sheet → Needs) (words marks came goes : List ℕ) → Planned → Type 0
-PlanSaysIn divides needs words marks came goes (planned.Refused why) = read_in divides words ≡ refused (refusal_of why)
-PlanSaysIn divides needs words marks came goes (planned.Made plan) =
+abbrev pub PlanSaysIn : (divides : Bool) (needs : Sheet → Needs) (words marks came goes : List ℕ) → Result Plan No → Type 0
+PlanSaysIn divides needs words marks came goes (Err why) = read_in divides words ≡ refused (refusal_of why)
+PlanSaysIn divides needs words marks came goes (Ok plan) =
     (made : PlanMadeFor needs words plan marks came goes) × (read_in divides words ≡ given made.sheet)
 
 -- a planned sheet's rows lie within the words
-abbrev pub RowsWithin : (words : List ℕ) → Planned → Type 0
-RowsWithin words (planned.Refused why) = Unit {0}
-RowsWithin words (planned.Made plan) = plan.shape.first_row + plan.shape.rows * limit.row_words ≤ length words
+abbrev pub RowsWithin : (words : List ℕ) → Result Plan No → Type 0
+RowsWithin words (Err why) = Unit {0}
+RowsWithin words (Ok plan) = plan.shape.first_row + plan.shape.rows * limit.row_words ≤ length words
 
 -- 13, by the code's answer
-abbrev pub quotients_said : Quotients → Answer (Unit {0})
-quotients_said quotients.Nowhere = given tt
-quotients_said (quotients.At place) = refused (holds_quotient place)
+abbrev pub quotients_said : Option ℕ → Answer (Unit {0})
+quotients_said None = given tt
+quotients_said (Some place) = refused (holds_quotient place)
 
 -- of the adjoint table
 abbrev pub PlanOf : (sheet : Sheet) (plan : Plan) (marks came goes : List ℕ) → Type 0
@@ -62,5 +59,5 @@ PlanOf = PlanFor needs_of
 abbrev pub PlanMade : (words : List ℕ) (plan : Plan) (marks came goes : List ℕ) → Type 0
 PlanMade = PlanMadeFor needs_of
 
-abbrev pub PlanSays : (words marks came goes : List ℕ) → Planned → Type 0
+abbrev pub PlanSays : (words marks came goes : List ℕ) → Result Plan No → Type 0
 PlanSays = PlanSaysFor needs_of

@@ -1,5 +1,6 @@
 -- `sheet::sections::counts_read` meets its contract: each judgement that was passed is kept by name, and each refusal is the whole sheet's.
 use Prim.Native.Nat.{ℕ, ◌+◌}
+use Rattle.std.specs.Prelude.{Result}
 use mathlib.Core.List.{List}
 use mathlib.Core.Path.{◌≡◌, sym, ap, ◌∙◌}
 use lib.ListN.{take, drop}
@@ -8,14 +9,13 @@ use Rattle.sheet.specs.Bounds.{limit}
 use Rattle.sheet.specs.Judging.{Answer, given}
 use Rattle.sheet.specs.Reading.{count_at, roles_fit}
 use Rattle.sheet.specs.Inner.Steps.{count_said, roles_said}
-use Rattle.sheet.specs.declared.Count.{Count}
 use Rattle.sheet.proofs.ShapeRead.{variables_refused, roles_refused, constants_refused, rows_refused}
 use Rattle.sheet.proofs.NamesPresent.{Counted, count_judged}
 use borrow.Author.Rules.{rules}
 use Rattle.sheet.proofs.sections.counts_read.Statement.{statement}
 use Rattle.sheet.proofs.sections.counts_read.Tie as tie
 
-told : {r s : Count} {answer : Answer ℕ} → count_said r ≡ answer → r ≡ s → answer ≡ count_said s
+told : {r s : Result ℕ No} {answer : Answer ℕ} → count_said r ≡ answer → r ≡ s → answer ≡ count_said s
 told says is = sym says ∙ ap count_said is
 
 -- ---- where each judgement was passed
