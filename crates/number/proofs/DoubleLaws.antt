@@ -11,9 +11,9 @@ use lib.Ieee.Bits.{to_bits-lt}
 use lib.Ieee.Fits.{neg-fits}
 use Rattle.number.specs.Arithmetic.{value, stop, over}
 use Rattle.number.specs.Doubles.{doubles, finite, finite_or_stop, not_finite}
-use Rattle.number.specs.Answers.{outcome_of}
-use Rattle.number.specs.declared.Outcome.{Outcome}
-use Rattle.number.specs.declared.Outcome.TheVariants.{Value, Stop}
+use Rattle.std.specs.Prelude.{Result, Ok, Err}
+use Rattle.number.specs.Answers.{outcome_of, why_not_finite}
+use Rattle.number.specs.declared.NotFinite.{NotFinite}
 
 -- ---- the test of finiteness
 
@@ -51,11 +51,11 @@ pub not_finite_lem : (doubles.admits nan ≡ false) × (doubles.admits (inf fals
 not_finite_lem = (refl, refl, refl)
 
 -- two answers that stand for the same outcome are the same answer
-pub answers_coincide : (r s : Outcome) → outcome_of r ≡ outcome_of s → r ≡ s
-answers_coincide (Value x) (Value y) same = cc
-answers_coincide (Value x) Stop same = cc
-answers_coincide Stop (Value y) same = cc
-answers_coincide Stop Stop same = refl
+pub answers_coincide : (r s : Result Float NotFinite) → outcome_of why_not_finite r ≡ outcome_of why_not_finite s → r ≡ s
+answers_coincide (Ok x) (Ok y) same = cc
+answers_coincide (Ok x) (Err s) same = cc
+answers_coincide (Err s) (Ok y) same = cc
+answers_coincide (Err s) (Err t) same = refl
 
 -- ---- bit for bit
 

@@ -24,6 +24,49 @@ pub record Arithmetic : Type 1 where
   -- "Start values and seeds must be finite"
   pub admits : Carrier → Bool
 
+-- the operations of an arithmetic, with the types of its numbers and reasons named outside: so a type of the code can be the one and the other
+pub record Operations (Carrier Why : Type 0) : Type 0 where
+  pub sum : Carrier → Carrier → Outcome Carrier Why
+  pub difference : Carrier → Carrier → Outcome Carrier Why
+  pub product : Carrier → Carrier → Outcome Carrier Why
+  pub negation : Carrier → Outcome Carrier Why
+  pub quotient : Option (Carrier → Carrier → Outcome Carrier Why)
+  pub less : Carrier → Carrier → Bool
+  pub constant : ℤ → Carrier
+  pub zero : Carrier
+  pub admits : Carrier → Bool
+
+abbrev pub operations_of : (A : Arithmetic) → Operations A.Carrier A.Why
+operations_of A =
+    record {
+      sum = A.sum;
+      difference = A.difference;
+      product = A.product;
+      negation = A.negation;
+      quotient = A.quotient;
+      less = A.less;
+      constant = A.constant;
+      zero = A.zero;
+      admits = A.admits;
+    }
+
+-- and the arithmetic of these operations, which is again the one that they are of
+abbrev pub arithmetic_on : {Carrier Why : Type 0} → Operations Carrier Why → Arithmetic
+arithmetic_on {Carrier} {Why} on =
+    record {
+      Carrier = Carrier;
+      Why = Why;
+      sum = on.sum;
+      difference = on.difference;
+      product = on.product;
+      negation = on.negation;
+      quotient = on.quotient;
+      less = on.less;
+      constant = on.constant;
+      zero = on.zero;
+      admits = on.admits;
+    }
+
 -- x over y, where there are quotients
 abbrev pub over : {X Why : Type 0} → Option (X → X → Outcome X Why) → X → X → Option (Outcome X Why)
 over none x y = none

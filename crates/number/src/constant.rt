@@ -53,7 +53,7 @@ pub fn residue_of(word: u16) -> u32
 {
     let number = signed(word);
     if number < 0 {
-        residue::negation(negated(word) as u32)
+        residue::opposite(negated(word) as u32)
     } else {
         number as u32
     }

@@ -42,8 +42,8 @@ cast_negation c =
     let small = nat_abs-le (neg_ℤ (signed w)) (negated_fits w (omega arith)).sfits in
     rw (negated c) (negative_natural (signed w) (negative c.before), record { fits = omega (arith, small) })
 
-negation_requires : tie.Need-negation-requires
-negation_requires c κs = search rules
+opposite_requires : tie.Need-opposite-requires
+opposite_requires c κs = search rules
 
 cast_result : tie.Need-overflow_cast-result
 cast_result c =
@@ -54,7 +54,7 @@ cast_result c =
 returns : tie.Need-returns-then-number-lt0
 returns c =
     let w = c.args.word in
-    let turned : c.negation.result ≡ opposite (nat_abs (neg_ℤ (signed w))) = cc (negated c.before) in
+    let turned : c.opposite.result ≡ opposite (nat_abs (neg_ℤ (signed w))) = cc (negated c.before) in
     turned ∙ sym (residue_negative (signed w) (negative c.before.before))
 
 returns_2 : tie.Need-returns-else-number-lt0
@@ -64,4 +64,4 @@ returns_2 c =
 
 pub residue_of_spec : {M : Type 1} → statement M
 residue_of_spec =
-    tie.close (tie.spec signed_requires negated_requires cast_negation negation_requires cast_result returns returns_2)
+    tie.close (tie.spec signed_requires negated_requires cast_negation opposite_requires cast_result returns returns_2)
