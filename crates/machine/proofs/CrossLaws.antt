@@ -1,5 +1,8 @@
 -- A block row's code as one step of the machine, over the arithmetic.
 use Prim.Native.Nat.{ℕ, zero, suc, pred, ◌+◌, ◌*◌, ◌-◌, ◌≤◌, ◌<◌}
+use Rattle.std.specs.Prelude.{Result, Ok, Err, IsErrAnd}
+use Rattle.machine.specs.Inner.RowAnswers.{is_stuck}
+use Rattle.machine.specs.declared.Stuck.{Stuck}
 use mathlib.Core.Path.{◌≡◌, refl, sym, ap, ◌∙◌, subst}
 use mathlib.Core.Logic.{◌≢◌, ◌⊎◌, inl, inr}
 use mathlib.Core.Bool.{Bool, true, false}
@@ -29,13 +32,7 @@ use Rattle.machine.specs.Inner.Buffers.{Cells, cells_of}
 use Rattle.machine.specs.declared.Place.{Place}
 use Rattle.machine.specs.declared.Branch.{Branch}
 use Rattle.machine.specs.declared.Branch.TheVariants as branch_as
-use Rattle.machine.specs.declared.Moved.{Moved}
-use Rattle.machine.specs.declared.Moved.TheVariants as moved_as
 use Rattle.machine.specs.declared.Pending.{Pending}
-use Rattle.machine.specs.declared.Branched.{Branched}
-use Rattle.machine.specs.declared.Branched.TheVariants as branched
-use Rattle.machine.specs.declared.Crossed.{Crossed}
-use Rattle.machine.specs.declared.Crossed.TheVariants as crossed
 use Rattle.machine.specs.declared.Ended.{Ended}
 use Rattle.machine.specs.declared.Ended.TheVariants as ended_as
 use Rattle.machine.specs.declared.Met.{Met}
@@ -44,6 +41,11 @@ use Rattle.machine.proofs.LineLaws.{block_of, said_of, SaysAll, said_all, said_c
 use Rattle.machine.proofs.StackLaws.{stack_top, stack_below, taken_off}
 use Rattle.machine.proofs.OpenedLaws.{opened_length}
 use Rattle.machine.proofs.StraightLaws.{stands_there, words_there}
+
+-- what a stuck row hands on by `?`
+pub sticks_on : {answer : Result Place Ended} → IsErrAnd answer (λ how. how ≡ ended_as.Stuck) → answer ≡ stuck_there
+sticks_on {answer = Ok next} never = absurd never
+sticks_on {answer = Err how} is = ap Err is
 
 -- ---- the branch that a test picks
 
@@ -56,22 +58,22 @@ abbrev amid : Place → Pending → Place
 amid next found = within next found.depth
 
 module _ (beyond : List ℕ) (at : ℕ) (next : Place) where
-  abbrev PicksTo : (height : ℕ) → (picked : Option Bool) → Crossed → Type 0
-  PicksTo height (some true) answer = answer ≡ crossed.On (lowered next height)
+  abbrev PicksTo : (height : ℕ) → (picked : Option Bool) → Result Place Ended → Type 0
+  PicksTo height (some true) answer = answer ≡ Ok (lowered next height)
   PicksTo height (some false) answer = JumpsTo beyond at (lowered next height) answer
   PicksTo height none answer = answer ≡ stuck_there
 
-  branch_picks : (b : Branch) (answer : Crossed) → BranchesTo beyond at next b answer → PicksTo next.turns (branch_of b) answer
+  branch_picks : (b : Branch) (answer : Result Place Ended) → BranchesTo beyond at next b answer → PicksTo next.turns (branch_of b) answer
   branch_picks branch_as.First answer to = to
   branch_picks branch_as.Second answer to = to
 
-  turn_picks : (b : Branched) (answer : Crossed) → TurnsTo beyond at next b answer → PicksTo (height_branched b next.turns) (turn_of b) answer
-  turn_picks (branched.First height) answer to = to
-  turn_picks (branched.Second height) answer to = to
-  turn_picks branched.Stuck answer to = to
+  turn_picks : (b : Result (Branch × ℕ) Stuck) (answer : Result Place Ended) → TurnsTo beyond at next b answer → PicksTo (height_branched b next.turns) (turn_of b) answer
+  turn_picks (Ok (branch_as.First, height)) answer to = to
+  turn_picks (Ok (branch_as.Second, height)) answer to = to
+  turn_picks (Err s) answer to = to
 
   -- the steps that are left
-  picks_left : (height : ℕ) (picked : Option Bool) (answer : Crossed) → PicksTo height picked answer → CrossedLeft (suc next.left) answer
+  picks_left : (height : ℕ) (picked : Option Bool) (answer : Result Place Ended) → PicksTo height picked answer → CrossedLeft (suc next.left) answer
   picks_left height (some true) answer is = rw is refl
   picks_left height (some false) answer jumps = jumps.left
   picks_left height none answer is = rw is tt
@@ -106,8 +108,8 @@ module _ {table : List ℕ} {rows variables : ℕ} (place : Place) {next : Place
 
 -- ---- where a jump's code goes
 
-pub jump_goes : (beyond : List ℕ) (at : ℕ) (next to : Place) → to ≡ moved next (get_or beyond at 0) → JumpsTo beyond at next (crossed.On to)
-jump_goes beyond at next to is = record { there = λ _. ap crossed.On is; left = ap (λ (p : Place). suc p.left) is }
+pub jump_goes : (beyond : List ℕ) (at : ℕ) (next to : Place) → to ≡ moved next (get_or beyond at 0) → JumpsTo beyond at next (Ok to)
+jump_goes beyond at next to is = record { there = λ _. ap Ok is; left = ap (λ (p : Place). suc p.left) is }
 
 pub jump_nowhere : (beyond : List ℕ) (at : ℕ) (next : Place) → length beyond ≤ at → JumpsTo beyond at next stuck_there
 jump_nowhere beyond at next h = record { there = λ here. absurd (omega arith); left = tt }
@@ -134,15 +136,15 @@ module _ {A : Arithmetic} where
 
   -- what is to be shown of one line
   record Crosses (at : ℕ) (next : Place) (setting : Setting A) (line : TableLine) (rest : List TableLine) (repeats : List Repeat)
-      (before after : Cells A) (held : List A.Carrier) (bodies to_come : List ℕ) (answer : Crossed) : Type 0 where
+      (before after : Cells A) (held : List A.Carrier) (bodies to_come : List ℕ) (answer : Result Place Ended) : Type 0 where
     says : CrossedSays A setting (preceding next at) repeats bodies to_come before after held
         (step_at A setting (state_at A (preceding next at) repeats before held) (line ∷ rest)) answer
 
   module _ {at : ℕ} {next : Place} {setting : Setting A} {line : TableLine} {rest : List TableLine} {repeats : List Repeat}
-      {before after : Cells A} {held : List A.Carrier} {bodies to_come : List ℕ} {answer : Crossed} where
+      {before after : Cells A} {held : List A.Carrier} {bodies to_come : List ℕ} {answer : Result Place Ended} where
     -- the step goes on to a place
     goes_to : (to : Place) (open_then : List Repeat)
-        → answer ≡ crossed.On to
+        → answer ≡ Ok to
         → to.left ≡ next.left
         → Opened to.depth bodies to_come open_then
         → Sound A setting (buffers_at A to after held)
@@ -150,7 +152,7 @@ module _ {A : Arithmetic} where
         ≡ go_to A to.at.0 open_then (memory_of A (buffers_at A to after held))
         → Crosses at next setting line rest repeats before after held bodies to_come answer
     goes_to to open_then is left opened sound found =
-        subst (λ (r : Crossed). Crosses at next setting line rest repeats before after held bodies to_come r) (sym is)
+        subst (λ (r : Result Place Ended). Crosses at next setting line rest repeats before after held bodies to_come r) (sym is)
         (record {
           says = record { repeats = open_then; opened = opened; goes = record { is = found; fewer = ap suc (sym left); sound = sound } };
         })
@@ -161,7 +163,7 @@ module _ {A : Arithmetic} where
         → Stays A next before after held held
         → Crosses at next setting line rest repeats before after held bodies to_come answer
     sticks_there is blocked opened stays =
-        subst (λ (r : Crossed). Crosses at next setting line rest repeats before after held bodies to_come r) (sym is)
+        subst (λ (r : Result Place Ended). Crosses at next setting line rest repeats before after held bodies to_come r) (sym is)
         (record { says = (omega arith, blocked, record { opened = opened; stays = stays }) })
 
     -- a jump over as many lines as a search finds, among the loops that are then open
@@ -199,7 +201,7 @@ module _ {A : Arithmetic} where
 
   -- kinds 7 and 15
   module _ {beyond : List ℕ} {at : ℕ} {next : Place} {setting : Setting A} {lines rest : List TableLine} {repeats : List Repeat}
-      {before after : Cells A} {held : List A.Carrier} {bodies to_come : List ℕ} {answer : Crossed}
+      {before after : Cells A} {held : List A.Carrier} {bodies to_come : List ℕ} {answer : Result Place Ended}
       (test : TableTest) (height : ℕ)
       (follows : next.at.0 ≡ suc at)
       (here : drop at lines ≡ if_line test ∷ rest)
@@ -240,7 +242,7 @@ module _ {A : Arithmetic} where
 
   -- one loop more, unless there is no room for it
   module _ {at : ℕ} {next : Place} {setting : Setting A} {line : TableLine} {rest : List TableLine} {repeats : List Repeat}
-      {before after : Cells A} {held : List A.Carrier} {bodies to_come bodies_after to_come_after : List ℕ} {answer : Crossed} {body note : ℕ} where
+      {before after : Cells A} {held : List A.Carrier} {bodies to_come bodies_after to_come_after : List ℕ} {answer : Result Place Ended} {body note : ℕ} where
     pushes_room : (from : Place) (r : Repeat) (outer : List Repeat)
         → from.left ≡ next.left → from.at.0 ≡ suc at → back_to r ≡ body → note_of r ≡ note
         → Pushes body note from bodies to_come bodies_after to_come_after answer
@@ -307,7 +309,7 @@ module _ {A : Arithmetic} where
   module _ {branch : Branch} {most : ℕ} {keeps : Bool} {beyond : List ℕ} {at : ℕ} {next : Place} {turns bodies to_come : List ℕ} {found : Pending}
       (pends : Pends most at next.depth bodies to_come found) where
     -- into its body
-    pub asks_in : {bodies_after to_come_after : List ℕ} {answer : Crossed} → branch ≡ branch_as.First → 0 < found.left
+    pub asks_in : {bodies_after to_come_after : List ℕ} {answer : Result Place Ended} → branch ≡ branch_as.First → 0 < found.left
         → Pushes at found.note (amid next found) bodies to_come bodies_after to_come_after answer
         → AsksLoop A branch most keeps beyond at next turns bodies to_come turns bodies_after to_come_after answer
     asks_in {bodies_after} {to_come_after} {answer} first positive pushes =
@@ -330,7 +332,7 @@ module _ {A : Arithmetic} where
         goes_in setting state rest outer (suc n) h = rw first
 
     -- past it
-    pub asks_out : {turns_after : List ℕ} {answer : Crossed} → (branch ≡ branch_as.First → found.left ≡ 0)
+    pub asks_out : {turns_after : List ℕ} {answer : Result Place Ended} → (branch ≡ branch_as.First → found.left ≡ 0)
         → EndsLoop A (most - found.left) keeps beyond at (amid next found) turns turns_after answer
         → AsksLoop A branch most keeps beyond at next turns bodies to_come turns_after bodies to_come answer
     asks_out {turns_after} {answer} over ends =
@@ -360,10 +362,10 @@ module _ {A : Arithmetic} where
             → let state = state_at A (preceding next at) repeats (cells_of A store values turns copied) held in
             step_at A setting state (repeat (while (whether f) m) ∷ rest)
             ≡ loop_ends A state rest (loops_around at repeats) (count_kept A setting (most - found.left) state.memory)
-            → (moved : Moved) → ends.moved ≡ moved
+            → (moved : Result ℕ Stuck) → ends.moved ≡ moved
             → Crosses at next setting (repeat (while (whether f) m)) rest repeats (cells_of A store values turns copied) (cells_of A store values turns_after copied) held
             bodies to_come answer
-        by_move setting lines rest f m repeats store values copied held here jumps opened shallow kept leads (moved_as.To height) is =
+        by_move setting lines rest f m repeats store values copied held here jumps opened shallow kept leads (Ok height) is =
             let after = cells_of A store values turns_after copied in
             let to = raised (amid next found) next.values height in
             let state = state_at A (preceding next at) repeats (cells_of A store values turns copied) held in
@@ -373,7 +375,7 @@ module _ {A : Arithmetic} where
             (pends.around repeats shallow opened) (rw is at kept.sound)
             (record { at = record { index = at }; repeats = loops_around at repeats; memory = memory }) refl refl
             (leads ∙ ap (loop_ends A state rest (loops_around at repeats)) through_there)
-        by_move setting lines rest f m repeats store values copied held here jumps opened shallow kept leads moved_as.Stuck is =
+        by_move setting lines rest f m repeats store values copied held here jumps opened shallow kept leads (Err s) is =
             let state = state_at A (preceding next at) repeats (cells_of A store values turns copied) held in
             let stuck_there : count_kept A {Why = Stop A} setting (most - found.left) state.memory ≡ stuck = sym (rw is at kept.meaning) in
             sticks_there (ends.sticks is)
@@ -381,9 +383,9 @@ module _ {A : Arithmetic} where
             (rw is at (kept.unchanged is))
 
   -- the end of such a loop, by what became of its count
-  module _ {count : ℕ} {keeps : Bool} {beyond : List ℕ} {at : ℕ} {next : Place} {turns turns_after : List ℕ} {moved : Moved} {answer : Crossed}
+  module _ {count : ℕ} {keeps : Bool} {beyond : List ℕ} {at : ℕ} {next : Place} {turns turns_after : List ℕ} {moved : Result ℕ Stuck} {answer : Result Place Ended}
       (keeping : KeepsCount A count keeps turns next.turns turns_after moved) where
-    pub ends_past : {to : Place} (height : ℕ) → moved ≡ moved_as.To height → to ≡ raised next next.values height → JumpsTo beyond at to answer
+    pub ends_past : {to : Place} (height : ℕ) → moved ≡ Ok height → to ≡ raised next next.values height → JumpsTo beyond at to answer
         → EndsLoop A count keeps beyond at next turns turns_after answer
     ends_past {to} height is there jumps =
         record {
@@ -396,7 +398,7 @@ module _ {A : Arithmetic} where
           sticks = λ stuck_there. let z : ◌≡◌ {A = ℕ} 0 1 = cc in absurd (omega arith);
         }
 
-    pub ends_stuck : moved ≡ moved_as.Stuck → answer ≡ stuck_there → EndsLoop A count keeps beyond at next turns turns_after answer
+    pub ends_stuck : moved ≡ Err is_stuck → answer ≡ stuck_there → EndsLoop A count keeps beyond at next turns turns_after answer
     ends_stuck is sticks_so =
         record {
           left = rw sticks_so tt;
@@ -448,7 +450,7 @@ module _ {A : Arithmetic} where
         is_empty (inr above) high = absurd (omega arith)
 
     module _ (top : ℕ) (is : next.turns ≡ suc top) (there : top < length turns) where
-      pub counts_past : {answer : Crossed} → get_or turns top 0 ≡ 0 → JumpsTo beyond at (lowered next top) answer
+      pub counts_past : {answer : Result Place Ended} → get_or turns top 0 ≡ 0 → JumpsTo beyond at (lowered next top) answer
           → OnCount A beyond at next turns bodies to_come (set turns top 0) bodies to_come answer
       counts_past {answer} zero_there jumping =
           record {
@@ -486,7 +488,7 @@ module _ {A : Arithmetic} where
           ninth state rest zero below not_zero deep = absurd (not_zero refl)
           ninth state rest (suc n) below not_zero deep = omega arith
 
-      pub counts_in : {bodies_after to_come_after : List ℕ} {answer : Crossed} (n : ℕ) → get_or turns top 0 ≡ suc n → next.depth < limit.depth
+      pub counts_in : {bodies_after to_come_after : List ℕ} {answer : Result Place Ended} (n : ℕ) → get_or turns top 0 ≡ suc n → next.depth < limit.depth
           → Opens (get_or turns top 0) (lowered next top) bodies to_come bodies_after to_come_after answer
           → OnCount A beyond at next turns bodies to_come (set turns top 0) bodies_after to_come_after answer
       counts_in {bodies_after} {to_come_after} {answer} n count room opens =
@@ -507,7 +509,7 @@ module _ {A : Arithmetic} where
   -- ---- the line that a row's words say
 
   module _ {beyond : List ℕ} {at : ℕ} {next : Place} {row : Row} {turns bodies to_come : List ℕ} where
-    crosses_as : (line : TableLine) {turns_after bodies_after to_come_after : List ℕ} {answer : Crossed} → block_of row ≡ some line → SaysAll line
+    crosses_as : (line : TableLine) {turns_after bodies_after to_come_after : List ℕ} {answer : Result Place Ended} → block_of row ≡ some line → SaysAll line
         → CrossedLeft (suc next.left) answer
         → ((setting : Setting A) (lines rest : List TableLine) (repeats : List Repeat) (store values copied held : List A.Carrier)
         → table_row_of line ≡ row
@@ -538,7 +540,7 @@ module _ {A : Arithmetic} where
               jumps opened shallow sound)).says;
         }
 
-    pub else_crosses : {answer : Crossed} → row.kind ≡ 8 → JumpsTo beyond at next answer
+    pub else_crosses : {answer : Result Place Ended} → row.kind ≡ 8 → JumpsTo beyond at next answer
         → CrossesBy A row beyond at next turns bodies to_come turns bodies to_come answer
     unfolding block_of step_at
     else_crosses kind to =
@@ -546,7 +548,7 @@ module _ {A : Arithmetic} where
         (λ setting lines rest repeats store values copied held words follows here jumps opened shallow sound.
         jumps_there next (seek its_end 0 rest) refl (jumps.from_else at rest here) to opened sound refl)
 
-    pub end_if_crosses : row.kind ≡ 9 → CrossesBy A row beyond at next turns bodies to_come turns bodies to_come (crossed.On next)
+    pub end_if_crosses : row.kind ≡ 9 → CrossesBy A row beyond at next turns bodies to_come turns bodies to_come (Ok next)
     unfolding block_of step_at
     end_if_crosses kind =
         crosses_as end_if (rw kind) tt refl
@@ -554,7 +556,7 @@ module _ {A : Arithmetic} where
         goes_to next repeats refl refl opened sound
         (ap (λ (n : ℕ). go_to A n repeats (memory_of A (buffers_at A next (cells_of A store values turns copied) held))) (sym follows)))
 
-    pub repeat_crosses : {bodies_after to_come_after : List ℕ} {answer : Crossed} → row.kind ≡ 10
+    pub repeat_crosses : {bodies_after to_come_after : List ℕ} {answer : Result Place Ended} → row.kind ≡ 10
         → Opens row.a next bodies to_come bodies_after to_come_after answer
         → CrossesBy A row beyond at next turns bodies to_come turns bodies_after to_come_after answer
     unfolding block_of step_at table_row_of row_of
@@ -566,7 +568,7 @@ module _ {A : Arithmetic} where
         let loop : Repeat = record { start = record { index = at }; asks = false; left = m } in
         pushes_crosses next loop repeats refl follows (sym follows) (omega arith) (opens.opens m count) opened opened sound refl refl)
 
-    pub end_repeat_crosses : {bodies_after to_come_after : List ℕ} {answer : Crossed} → row.kind ≡ 11
+    pub end_repeat_crosses : {bodies_after to_come_after : List ℕ} {answer : Result Place Ended} → row.kind ≡ 11
         → Closes next bodies to_come bodies_after to_come_after answer
         → CrossesBy A row beyond at next turns bodies to_come turns bodies_after to_come_after answer
     unfolding block_of step_at
@@ -602,7 +604,7 @@ module _ {A : Arithmetic} where
         by_repeats [] follows opened shallow sound = let none_open = closes.none opened in sticks_there none_open.0 tt none_open.1 refl
         by_repeats (r ∷ outer) follows opened shallow sound = by_left r outer r.left refl follows opened shallow sound
 
-    pub on_turn_crosses : {picked : Branched} {turns_after : List ℕ} {answer : Crossed} → row.kind ≡ 15
+    pub on_turn_crosses : {picked : Result (Branch × ℕ) Stuck} {turns_after : List ℕ} {answer : Result Place Ended} → row.kind ≡ 15
         → TakesTurn A turns next.turns turns_after picked
         → TurnsTo beyond at next picked answer
         → CrossesBy A row beyond at next turns bodies to_come turns_after bodies to_come answer
@@ -614,7 +616,7 @@ module _ {A : Arithmetic} where
         (λ setting lines rest repeats store values copied held words follows here jumps opened shallow sound.
         test_crosses on_turn height follows here jumps opened (turn_of picked) (takes.tests setting store values next.values held sound) picks)
 
-    pub on_count_crosses : {turns_after bodies_after to_come_after : List ℕ} {answer : Crossed} → row.kind ≡ 20
+    pub on_count_crosses : {turns_after bodies_after to_come_after : List ℕ} {answer : Result Place Ended} → row.kind ≡ 20
         → OnCount A beyond at next turns bodies to_come turns_after bodies_after to_come_after answer
         → CrossesBy A row beyond at next turns bodies to_come turns_after bodies_after to_come_after answer
     unfolding block_of
@@ -667,7 +669,7 @@ module _ {A : Arithmetic} where
 
   -- the step at the line that stands there
   found_there : (place : Place) {left : ℕ} (lines : List TableLine) {rest : List TableLine} {line : TableLine} (setting : Setting A)
-      (repeats : List Repeat) (before after : Cells A) (held : List A.Carrier) (bodies to_come : List ℕ) (answer : Crossed)
+      (repeats : List Repeat) (before after : Cells A) (held : List A.Carrier) (bodies to_come : List ℕ) (answer : Result Place Ended)
       → place.left ≡ suc left
       → drop place.at.0 lines ≡ line ∷ rest
       → Crosses place.at.0 (following place (place.at.0 + 1) left) setting line rest repeats before after held bodies to_come answer
@@ -704,12 +706,12 @@ module _ {A : Arithmetic} where
 
   module _ {table : List ℕ} {rows : ℕ} {beyond : List ℕ} {keeps : Bool} {place : Place} {store : List A.Carrier} {turns bodies to_come : List ℕ} where
     pub block_leaves : {how : Ended} {met : Met} → Meets table rows place met → met ≡ met_as.Out how
-        → BlockRow A table rows beyond keeps place store turns bodies to_come turns bodies to_come (crossed.Out how)
+        → BlockRow A table rows beyond keeps place store turns bodies to_come turns bodies to_come (Err how)
     unfolding step step_at
     block_leaves {how} meets is = by_end how (rw is at meets)
       where
         by_end : (how : Ended) → Meets table rows place (met_as.Out how)
-            → BlockRow A table rows beyond keeps place store turns bodies to_come turns bodies to_come (crossed.Out how)
+            → BlockRow A table rows beyond keeps place store turns bodies to_come turns bodies to_come (Err how)
         by_end ended_as.Finished (some_left, over) =
             record {
               left = tt;
@@ -726,7 +728,7 @@ module _ {A : Arithmetic} where
                   (spent, record { opened = opened; stays = refl });
             }
 
-    pub block_crosses : {row : RowWords} {next : Place} {turns_after bodies_after to_come_after : List ℕ} {answer : Crossed} {met : Met} → Meets table rows place met
+    pub block_crosses : {row : RowWords} {next : Place} {turns_after bodies_after to_come_after : List ℕ} {answer : Result Place Ended} {met : Met} → Meets table rows place met
         → met ≡ met_as.Other row next
         → CrossesBy A (row_said row) beyond place.at.0 next turns bodies to_come turns_after bodies_after to_come_after answer
         → BlockRow A table rows beyond keeps place store turns bodies to_come turns_after bodies_after to_come_after answer
@@ -748,7 +750,7 @@ module _ {A : Arithmetic} where
               });
         }
 
-    block_compares : {row : RowWords} {next : Place} {picked : Branch} {answer : Crossed} → MeetsRow table rows place (row_said row) next
+    block_compares : {row : RowWords} {next : Place} {picked : Branch} {answer : Result Place Ended} → MeetsRow table rows place (row_said row) next
         → row.kind ≡ 7
         → Compares A row.a row.b store picked
         → BranchesTo beyond place.at.0 next picked answer
@@ -780,7 +782,7 @@ module _ {A : Arithmetic} where
               (compares.tests setting values place.values turns place.turns held sound) picks);
         }
 
-    block_loops : {row : RowWords} {next : Place} {picked : Branch} {turns_after bodies_after to_come_after : List ℕ} {answer : Crossed}
+    block_loops : {row : RowWords} {next : Place} {picked : Branch} {turns_after bodies_after to_come_after : List ℕ} {answer : Result Place Ended}
         → MeetsRow table rows place (row_said row) next
         → row.kind ≡ while_kind
         → Compares A row.a row.b store picked
@@ -816,7 +818,7 @@ module _ {A : Arithmetic} where
               });
         }
 
-    pub block_asks : {row : RowWords} {next : Place} {picked : Branch} {turns_after bodies_after to_come_after : List ℕ} {answer : Crossed} {met : Met}
+    pub block_asks : {row : RowWords} {next : Place} {picked : Branch} {turns_after bodies_after to_come_after : List ℕ} {answer : Result Place Ended} {met : Met}
         → Meets table rows place met
         → met ≡ met_as.Ask row next
         → Compares A row.a row.b store picked

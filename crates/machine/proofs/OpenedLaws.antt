@@ -1,5 +1,7 @@
 -- The open loops in their two arrays: opening one, ending a turn of the nearest, and finding out whether it is a loop with a test at its own row.
 use Prim.Native.Nat.{ℕ, zero, suc, ◌-◌, ◌+◌, ◌*◌, ◌/◌, ◌%◌, ◌≤◌, ◌<◌}
+use Rattle.std.specs.Prelude.{Result, Ok, Err}
+use Rattle.machine.specs.declared.Ended.{Ended}
 use mathlib.Core.Path.{◌≡◌, refl, sym, ap, subst, ◌∙◌}
 use mathlib.Core.Bool.{Bool, true, false, ◌&&◌, cond}
 use mathlib.Core.List.{List, [], ◌∷◌}
@@ -12,8 +14,6 @@ use Rattle.sheet.specs.Bounds.{limit}
 use Rattle.machine.specs.Machine.{Repeat, back_to}
 use Rattle.machine.specs.Inner.RowSteps.{stuck_there, note_of, Nested, Opened, Pushes, Opens, Closes, is_under_way, turns_left, loops_around, Pends, moved, within}
 use Rattle.machine.specs.declared.Place.{Place}
-use Rattle.machine.specs.declared.Crossed.{Crossed}
-use Rattle.machine.specs.declared.Crossed.TheVariants as crossed
 
 nested_length : (n : ℕ) (bodies to_come : List ℕ) (repeats : List Repeat) → Nested n bodies to_come repeats → length repeats ≡ n
 unfolding Nested
@@ -67,7 +67,7 @@ module _ (body note : ℕ) (next : Place) (bodies to_come : List ℕ) where
       }
 
   pub pushes_on : next.depth < limit.depth
-      → Pushes body note next bodies to_come (set bodies next.depth body) (set to_come next.depth note) (crossed.On (within next (next.depth + 1)))
+      → Pushes body note next bodies to_come (set bodies next.depth body) (set to_come next.depth note) (Ok (within next (next.depth + 1)))
   pushes_on room =
       record {
         left = refl;
@@ -87,7 +87,7 @@ module _ {count : ℕ} {next : Place} {bodies to_come : List ℕ} where
   pub opens_none : count ≡ 0 → Opens count next bodies to_come bodies to_come stuck_there
   opens_none none = record { left = tt; opens = λ m is. absurd (omega arith) }
 
-  pub opens_on : {bodies_after to_come_after : List ℕ} {answer : Crossed} (note : ℕ) → note ≡ 2 * (count - 1)
+  pub opens_on : {bodies_after to_come_after : List ℕ} {answer : Result Place Ended} (note : ℕ) → note ≡ 2 * (count - 1)
       → Pushes next.at.0 note next bodies to_come bodies_after to_come_after answer
       → Opens count next bodies to_come bodies_after to_come_after answer
   opens_on {bodies_after} {to_come_after} {answer} note twice pushes =
@@ -158,7 +158,7 @@ module _ (next : Place) (bodies to_come : List ℕ) where
       }
 
   module _ (top : ℕ) (is : next.depth ≡ suc top) where
-    pub closes_out : get_or to_come top 0 < 2 → Closes next bodies to_come bodies to_come (crossed.On (within next top))
+    pub closes_out : get_or to_come top 0 < 2 → Closes next bodies to_come bodies to_come (Ok (within next top))
     closes_out last =
         record {
           left = refl;
@@ -172,7 +172,7 @@ module _ (next : Place) (bodies to_come : List ℕ) where
         }
 
     pub closes_back : 2 ≤ get_or to_come top 0
-        → Closes next bodies to_come bodies (set to_come top (get_or to_come top 0 - 2)) (crossed.On (moved next (get_or bodies top 0)))
+        → Closes next bodies to_come bodies (set to_come top (get_or to_come top 0 - 2)) (Ok (moved next (get_or bodies top 0)))
     closes_back more =
         record {
           left = refl;

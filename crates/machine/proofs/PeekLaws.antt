@@ -1,5 +1,6 @@
 -- Peeking at the row after a straight one: it is not the one that was expected, and nothing is done, or it is, and its step is taken.
 use Prim.Native.Nat.{ℕ, ◌+◌, ◌≤◌, ◌<◌}
+use Rattle.std.specs.Prelude as std
 use mathlib.Core.Path.{◌≡◌, refl}
 use mathlib.Core.Logic.{◌⊎◌, inl, inr}
 use mathlib.Core.List.{List, []}
@@ -10,8 +11,6 @@ use lib.Ieee.{Float}
 use Rattle.number.specs.Arithmetic.{Arithmetic}
 use Rattle.number.specs.Doubles.{doubles}
 use Rattle.number.specs.Answers.{outcome_of}
-use Rattle.number.specs.declared.Outcome.{Outcome}
-use Rattle.number.specs.declared.Outcome.TheVariants as outcome
 use Rattle.sheet.specs.Rows.{Row, Source, ◌≔◌, copy, sum}
 use Rattle.sheet.specs.Answers.{row_said}
 use Rattle.sheet.specs.declared.RowWords.{RowWords}
@@ -24,8 +23,6 @@ use Rattle.machine.specs.Inner.RowSteps.{MeetsRow, MeetsKind, ActsBy, StraightRo
 use Rattle.machine.specs.declared.Place.{Place}
 use Rattle.machine.specs.declared.Ahead.TheVariants as ahead
 use Rattle.machine.specs.declared.Acted.TheVariants as acted
-use Rattle.machine.specs.declared.Expected.{Expected}
-use Rattle.machine.specs.declared.Expected.TheVariants as expected
 use Rattle.machine.proofs.LineLaws.{says_copy, says_sum, names_copy, names_sum, names_clear}
 use Rattle.machine.proofs.RowLaws.{assign_goes, clear_goes}
 use Rattle.machine.proofs.StraightLaws.{straight_acts, cleared, assigned}
@@ -84,7 +81,7 @@ named_there : {table : List ℕ} {until v : ℕ} {place next : Place} {words : R
     → Named v indexes.constants (action_of words)
 named_there indexes meets = rw meets.said (indexes.indexed.named _ meets.within)
 
-module _ {table : List ℕ} {until : ℕ} (place : Place) {next : Place} {row : RowWords} {found : Expected} {v : ℕ} (is : found ≡ expected.Met row next)
+module _ {table : List ℕ} {until : ℕ} (place : Place) {next : Place} {row : RowWords} {found : std.Option (RowWords × Place)} {v : ℕ} (is : found ≡ std.Some (row, next))
     (indexes : Indexes table until v) where
   pub clear_there : MeetsKind table until place 16 found → row.d < v
   clear_there meets =
@@ -103,8 +100,8 @@ module _ {table : List ℕ} {until : ℕ} (place : Place) {next : Place} {row : 
 
 -- ---- the step of a clear
 
-module _ {A : Arithmetic} {table : List ℕ} {until : ℕ} {place next : Place} {row : RowWords} {found : Expected} {store : List A.Carrier}
-    (is : found ≡ expected.Met row next)
+module _ {A : Arithmetic} {table : List ℕ} {until : ℕ} {place next : Place} {row : RowWords} {found : std.Option (RowWords × Place)} {store : List A.Carrier}
+    (is : found ≡ std.Some (row, next))
     (indexes : Indexes table until (length store)) where
   pub peeks_clear : {zero : A.Carrier} → MeetsKind table until place 16 found → zero ≡ A.zero
       → Peeks A table until place store (set store row.d zero) next
@@ -113,20 +110,21 @@ module _ {A : Arithmetic} {table : List ℕ} {until : ℕ} {place next : Place} 
       let there = clear_there place is indexes meets in
       peeks_on met (λ roles constants seeds values turns copied. cleared kind refl (clear_goes zeroed there))
 
--- by what a copy's and a sum's code answers in doubles
-module _ {table : List ℕ} {until : ℕ} {place next : Place} {row : RowWords} {found : Expected} {store : List Float} {result : Outcome} {x : Float}
-    (is : found ≡ expected.Met row next)
+-- by what a copy's and a sum's code answers
+module _ {A : Arithmetic} {table : List ℕ} {until : ℕ} {place next : Place} {row : RowWords} {found : std.Option (RowWords × Place)} {store : List A.Carrier}
+    {Failure : Type 0} (why : Failure → A.Why) {result : std.Result A.Carrier Failure} {x : A.Carrier}
+    (is : found ≡ std.Some (row, next))
     (indexes : Indexes table until (length store)) where
-  pub peeks_double_copy : MeetsKind table until place 1 found → Evaluates doubles (copy row.a) store (from_outcome (outcome_of result))
-      → result ≡ outcome.Value x
-      → Peeks doubles table until place store (set store row.d x) next
-  peeks_double_copy meets reads value =
+  pub peeks_copy : MeetsKind table until place 1 found → Evaluates A (copy row.a) store (from_outcome (outcome_of why result))
+      → result ≡ std.Ok x
+      → Peeks A table until place store (set store row.d x) next
+  peeks_copy meets reads value =
       let (met, kind) = rw is at meets in
       peeks_assigned met (says_copy (row_said row) kind) (copy_there place is indexes meets).0 (rw value at reads)
 
-  pub peeks_double_sum : MeetsKind table until place 3 found → Evaluates doubles (sum row.a row.b) store (from_outcome (outcome_of result))
-      → result ≡ outcome.Value x
-      → Peeks doubles table until place store (set store row.d x) next
-  peeks_double_sum meets sums value =
+  pub peeks_sum : MeetsKind table until place 3 found → Evaluates A (sum row.a row.b) store (from_outcome (outcome_of why result))
+      → result ≡ std.Ok x
+      → Peeks A table until place store (set store row.d x) next
+  peeks_sum meets sums value =
       let (met, kind) = rw is at meets in
       peeks_assigned met (says_sum (row_said row) kind) (sum_there place is indexes meets).0 (rw value at sums)

@@ -1,5 +1,7 @@
 -- Row 17 as one loop: a turn of it copies one value out and sets one adjoint.
 use Prim.Native.Nat.{ℕ, ◌+◌, ◌*◌, ◌≤◌, ◌<◌}
+use Rattle.std.specs.Prelude.{Result, Ok, Err}
+use Rattle.machine.specs.Inner.RowAnswers.{is_stuck}
 use mathlib.Core.Path.{◌≡◌, refl, sym, ap, ◌∙◌}
 use mathlib.Core.Bool.{cond}
 use mathlib.Core.List.{List, [], ◌++◌, append-nil}
@@ -12,7 +14,6 @@ use Rattle.number.specs.Arithmetic.{Arithmetic}
 use Rattle.sheet.specs.Rows.{is_dependent}
 use Rattle.machine.specs.Actions.{seeded, turned_round, acted}
 use Rattle.machine.specs.Inner.Buffers.{RoundSizes, TurnsRound}
-use Rattle.machine.specs.declared.Went.TheVariants as went
 use Rattle.machine.proofs.RoleLaws.{counting_length, counting_at}
 
 module _ (A : Arithmetic) where
@@ -85,7 +86,7 @@ module _ (A : Arithmetic) where
           let none_left : drop (0 + v) copied ≡ [] = drop_of_length-le copied {i = 0 + v} (omega arith) in
           now.copied_is ∙ rw none_left (append-nil (take v store))
 
-      round_done : (s c : List A.Carrier) → Copying (length roles) s c → TurnsRound A roles seeds store copied s c went.On
+      round_done : (s c : List A.Carrier) → Copying (length roles) s c → TurnsRound A roles seeds store copied s c (Ok tt)
       unfolding acted turned_round
       round_done s c now =
           record {
@@ -110,7 +111,7 @@ module _ (A : Arithmetic) where
 
 module _ {A : Arithmetic} {roles : List ℕ} {seeds store copied : List A.Carrier} where
   -- no turn at all
-  pub round_refused : (RoundSizes A roles seeds store copied → ⊥) → TurnsRound A roles seeds store copied store copied went.Stuck
+  pub round_refused : (RoundSizes A roles seeds store copied → ⊥) → TurnsRound A roles seeds store copied store copied (Err is_stuck)
   round_refused not = record { round = λ sizes. absurd (not sizes); refused = λ _. (refl, refl, refl) }
 
   pub turning_starts : RoundSizes A roles seeds store copied → Turning A roles seeds store copied 0 store copied
@@ -132,7 +133,7 @@ module _ {A : Arithmetic} {roles : List ℕ} {seeds store copied : List A.Carrie
           copying = copying;
         }
 
-    pub turning_ends : length roles ≤ i → TurnsRound A roles seeds store copied s c went.On
+    pub turning_ends : length roles ≤ i → TurnsRound A roles seeds store copied s c (Ok tt)
     turning_ends h =
         let within = now.within in
         let all : i ≡ length roles = omega arith in

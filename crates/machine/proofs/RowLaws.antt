@@ -1,5 +1,9 @@
 -- What each row makes of the buffers, over the arithmetic: the row's code has only to say which case it is in.
 use Prim.Native.Nat.{ℕ, suc, ◌+◌, ◌≤◌, ◌<◌}
+use Rattle.machine.specs.declared.Branch.TheVariants as branch_as
+use Rattle.std.specs.Prelude.{Result, Ok, Err}
+use Rattle.machine.specs.declared.Stuck.{Stuck}
+use Rattle.machine.specs.Inner.RowAnswers.{is_stuck}
 use mathlib.Core.Path.{◌≡◌, refl, sym}
 use mathlib.Core.Bool.{Bool, true, false}
 use mathlib.Core.List.{List}
@@ -10,6 +14,7 @@ use native.Mathlib.Numerals.{add-one}
 use borrow.Author.Tests.{lt-ltb, le-ltb}
 use lib.Dec.{eqb}
 use lib.ListN.{length, get_or, set, length-set}
+use Rattle.number.specs.Answers.{Known, is_residues, is_doubles}
 use Rattle.number.specs.Arithmetic.{Arithmetic}
 use Rattle.number.specs.Doubles.{doubles}
 use Rattle.number.specs.Residues.{residues}
@@ -18,27 +23,27 @@ use Rattle.table.specs.TableRows.{Action, save, take_back, save_turn, clear, ass
 use Rattle.machine.specs.Actions.{through, halted, stuck, pushed, Setting, acted, tested, compared}
 use Rattle.machine.specs.Inner.RowAnswers.{branch_of, turn_of, height_branched}
 use Rattle.machine.specs.Inner.Buffers.{Buffers, memory_of, Sound, Does, InBoth, Assigns, Clears, MovesValues, SavesTurn, Compares, TakesTurn, stack_of}
-use Rattle.machine.specs.declared.Went.TheVariants as went
 use Rattle.machine.specs.Inner.RowSteps.{PutAway, KeepsCount}
-use Rattle.machine.specs.declared.Moved.{Moved}
-use Rattle.machine.specs.declared.Moved.TheVariants as moved
 use Rattle.machine.specs.declared.Branch.{Branch}
-use Rattle.machine.specs.declared.Branched.{Branched}
-use Rattle.machine.specs.declared.Branched.TheVariants as branched
 use Rattle.machine.proofs.PlaceLaws.{place_there, look_there}
 use Rattle.machine.proofs.StackLaws.{stack_length, stack_top, stack_pushed, stack_below, pushed_on, taken_off}
 
 pub in_both : {P : Arithmetic → Type 0} → ((A : Arithmetic) → P A) → InBoth P
 in_both shown = record { residues = shown residues; doubles = shown doubles }
 
+-- and of whichever arithmetic the code has
+pub of_known : {A : Arithmetic} {P : Arithmetic → Type 0} → Known A → InBoth P → P A
+of_known is_residues both = both.residues
+of_known is_doubles both = both.doubles
+
 pub in_both_by : {P Q : Arithmetic → Type 0} → InBoth P → ((A : Arithmetic) → P A → Q A) → InBoth Q
 in_both_by both shown = record { residues = shown residues both.residues; doubles = shown doubles both.doubles }
 
 module _ {word height : ℕ} {turns : List ℕ} where
-  pub puts_none : length turns ≤ height → PutAway word height turns turns moved.Stuck
+  pub puts_none : length turns ≤ height → PutAway word height turns turns (Err is_stuck)
   puts_none full = record { full = λ _. (refl, refl); goes = λ room. absurd (omega arith) }
 
-  pub puts_on : height < length turns → PutAway word height turns (set turns height word) (moved.To (height + 1))
+  pub puts_on : height < length turns → PutAway word height turns (set turns height word) (Ok (height + 1))
   puts_on room = record { full = λ full. absurd (omega arith); goes = λ _. (refl, refl) }
 
 module _ {A : Arithmetic} where
@@ -86,7 +91,7 @@ module _ {A : Arithmetic} where
 
     -- ---- kind 16
 
-    pub clear_goes : {zero : A.Carrier} → zero ≡ A.zero → d < length store → Clears A d store (set store d zero) went.On
+    pub clear_goes : {zero : A.Carrier} → zero ≡ A.zero → d < length store → Clears A d store (set store d zero) (Ok tt)
     unfolding acted
     clear_goes is h =
         rw is
@@ -101,7 +106,7 @@ module _ {A : Arithmetic} where
 
     module _ {values : List A.Carrier} {height : ℕ} where
       pub save_goes : (z : A.Carrier) → d < length store → height < length values
-          → MovesValues A (save d) store values height store (set values height (get_or store d z)) (moved.To (height + 1))
+          → MovesValues A (save d) store values height store (set values height (get_or store d z)) (Ok (height + 1))
       unfolding acted
       save_goes z here room =
           record {
@@ -120,7 +125,7 @@ module _ {A : Arithmetic} where
                 (rw (look_there store d z here, lt-ltb _ _ fits, stack_pushed height values x room)));
           }
 
-      pub save_full : d < length store → length values ≤ height → MovesValues A (save d) store values height store values moved.Stuck
+      pub save_full : d < length store → length values ≤ height → MovesValues A (save d) store values height store values (Err is_stuck)
       unfolding acted
       save_full here full =
           record {
@@ -134,7 +139,7 @@ module _ {A : Arithmetic} where
 
     module _ {values : List A.Carrier} where
       take_back_top : (top : ℕ) (z : A.Carrier) → d < length store → top < length values
-          → MovesValues A (take_back d) store values (suc top) (set store d (get_or values top z)) (set values top A.zero) (moved.To top)
+          → MovesValues A (take_back d) store values (suc top) (set store d (get_or values top z)) (set values top A.zero) (Ok top)
       unfolding acted
       take_back_top top z here there =
           record {
@@ -151,16 +156,16 @@ module _ {A : Arithmetic} where
 
       -- the height is one above the place that is taken back
       pub take_back_goes : {height top : ℕ} {zero : A.Carrier} (z : A.Carrier) → zero ≡ A.zero → height ≡ suc top → d < length store → top < length values
-          → MovesValues A (take_back d) store values height (set store d (get_or values top z)) (set values top zero) (moved.To top)
+          → MovesValues A (take_back d) store values height (set store d (get_or values top z)) (set values top zero) (Ok top)
       take_back_goes {top = top} z cleared is here there = rw (cleared, is) (take_back_top top z here there)
 
       module _ {height : ℕ} where
-        pub take_back_empty : height ≡ 0 → MovesValues A (take_back d) store values height store values moved.Stuck
+        pub take_back_empty : height ≡ 0 → MovesValues A (take_back d) store values height store values (Err is_stuck)
         unfolding acted
         take_back_empty is = record { does = λ setting turns turn_height copied sound. sticks setting (take_back d) _ sound (rw is) }
 
         -- a sound stack is never higher than its cells
-        pub take_back_above : length values < height → MovesValues A (take_back d) store values height store values moved.Stuck
+        pub take_back_above : length values < height → MovesValues A (take_back d) store values height store values (Err is_stuck)
         take_back_above h =
             record {
               does = λ setting turns turn_height copied sound.
@@ -197,7 +202,7 @@ module _ {A : Arithmetic} where
         }
 
   -- what the code that puts it there does
-  module _ {word height : ℕ} {turns turns_after : List ℕ} {moved : Moved} (put : PutAway word height turns turns_after moved) where
+  module _ {word height : ℕ} {turns turns_after : List ℕ} {moved : Result ℕ Stuck} (put : PutAway word height turns turns_after moved) where
     -- kind 14
     pub saves_turn : {first : Bool} → word ≡ turn_word first → SavesTurn A first turns height turns_after moved
     unfolding acted
@@ -244,7 +249,7 @@ module _ {A : Arithmetic} where
             })
 
   -- and where they are not
-  pub keeps_none : {count height : ℕ} {turns : List ℕ} → KeepsCount A count false turns height turns (moved.To height)
+  pub keeps_none : {count height : ℕ} {turns : List ℕ} → KeepsCount A count false turns height turns (Ok height)
   keeps_none =
       record {
         kept = λ setting store values value_height copied keeps sound.
@@ -269,7 +274,7 @@ module _ {A : Arithmetic} where
   -- ---- kind 15
 
   module _ {turns : List ℕ} where
-    take_turn_top : {top : ℕ} {branched : Branched} {first : Bool} → top < length turns
+    take_turn_top : {top : ℕ} {branched : Result (Branch × ℕ) Stuck} {first : Bool} → top < length turns
         → turn_of branched ≡ some first
         → height_branched branched (suc top) ≡ top
         → eqb (get_or turns top 0) 1 ≡ first
@@ -293,14 +298,14 @@ module _ {A : Arithmetic} where
         }
 
     module _ {height top : ℕ} (is : height ≡ suc top) (there : top < length turns) where
-      pub take_turn_first : eqb (get_or turns top 0) 1 ≡ true → TakesTurn A turns height (set turns top 0) (branched.First top)
+      pub take_turn_first : eqb (get_or turns top 0) 1 ≡ true → TakesTurn A turns height (set turns top 0) (Ok (branch_as.First, top))
       take_turn_first one = rw is (take_turn_top there refl refl one)
 
-      pub take_turn_second : eqb (get_or turns top 0) 1 ≡ false → TakesTurn A turns height (set turns top 0) (branched.Second top)
+      pub take_turn_second : eqb (get_or turns top 0) 1 ≡ false → TakesTurn A turns height (set turns top 0) (Ok (branch_as.Second, top))
       take_turn_second other = rw is (take_turn_top there refl refl other)
 
     module _ {height : ℕ} where
-      pub take_turn_above : length turns < height → TakesTurn A turns height turns branched.Stuck
+      pub take_turn_above : length turns < height → TakesTurn A turns height turns (Err is_stuck)
       take_turn_above h =
           record {
             tests = λ setting store values value_height copied sound.
@@ -308,7 +313,7 @@ module _ {A : Arithmetic} where
                 absurd (omega arith);
           }
 
-      pub take_turn_empty : height ≡ 0 → TakesTurn A turns height turns branched.Stuck
+      pub take_turn_empty : height ≡ 0 → TakesTurn A turns height turns (Err is_stuck)
       unfolding tested
       take_turn_empty is =
           record {

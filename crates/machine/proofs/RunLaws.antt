@@ -1,6 +1,7 @@
 -- The runner's two loops over the arithmetic: at every place on the way the run stands in the machine's state after the steps that it has taken, and
 -- is left there by what the next step comes to.
 use Prim.Native.Nat.{ℕ, ◌+◌, ◌≤◌, ◌<◌}
+use Rattle.std.specs.Prelude.{Result, Ok, Err}
 use mathlib.Core.Path.{◌≡◌, refl, sym, ap, ◌∙◌, subst}
 use mathlib.Core.Logic.{◌⊎◌, inl, inr}
 use mathlib.Core.Bool.{Bool}
@@ -22,8 +23,6 @@ use Rattle.machine.specs.declared.Ahead.{Ahead}
 use Rattle.machine.specs.declared.Ahead.TheVariants as ahead_as
 use Rattle.machine.specs.declared.Acted.{Acted}
 use Rattle.machine.specs.declared.Acted.TheVariants as acted
-use Rattle.machine.specs.declared.Crossed.{Crossed}
-use Rattle.machine.specs.declared.Crossed.TheVariants as crossed
 use Rattle.machine.specs.declared.Ended.{Ended}
 use Rattle.machine.specs.declared.Ended.TheVariants as ended_as
 use Rattle.machine.specs.declared.Ran.{Ran}
@@ -130,7 +129,7 @@ module _ {A : Arithmetic} (task : Task A) where
   Straight until place before after answer =
       StraightRow A task.table until task.roles task.constants task.seeds place before after answer
 
-  abbrev Block : Place → (before : Cells A) → (bodies to_come turns_after bodies_after to_come_after : List ℕ) → Crossed → Type 0
+  abbrev Block : Place → (before : Cells A) → (bodies to_come turns_after bodies_after to_come_after : List ℕ) → Result Place Ended → Type 0
   Block place before bodies to_come turns_after bodies_after to_come_after answer =
       BlockRow A task.table task.rows task.beyond task.keeps place before.store before.turns bodies to_come turns_after bodies_after to_come_after answer
 
@@ -303,7 +302,7 @@ module _ {A : Arithmetic} (task : Task A) where
             subst (λ (x : Cells A). Running first setting lines start place x bodies to_come) (sym (stepped setting lines start handed acted.Block straight).says.1)
             (now.running setting lines start handed)
 
-        crossed_says : (turns_after bodies_after to_come_after : List ℕ) (answer : Crossed)
+        crossed_says : (turns_after bodies_after to_come_after : List ℕ) (answer : Result Place Ended)
             → Block place after bodies to_come turns_after bodies_after to_come_after answer
             → CrossedSays A setting place rested.repeats bodies_after to_come_after after
             (cells_of A after.store after.values turns_after after.copied) rested.held
@@ -323,36 +322,36 @@ module _ {A : Arithmetic} (task : Task A) where
         left_over = cells_of A after.store after.values turns_after after.copied
 
         block_on : (next : Place)
-            → Block place after bodies to_come turns_after bodies_after to_come_after (crossed.On next)
+            → Block place after bodies to_come turns_after bodies_after to_come_after (Ok next)
             → SameLengths cells left_over
             → Invariant first next left_over bodies_after to_come_after
         block_on next block kept =
             record {
               lengths = lengths_on now.lengths kept;
               running = λ setting lines start handed.
-                  let says = crossed_says setting lines start handed turns_after bodies_after to_come_after (crossed.On next) block in
+                  let says = crossed_says setting lines start handed turns_after bodies_after to_come_after (Ok next) block in
                   let here = rested setting lines start handed in
                   running_goes first setting lines start place after bodies to_come here next says.repeats here.held left_over bodies_after to_come_after says.goes
                   says.opened
                   (inl (refl, refl));
             }
 
-        block_out : (how : Ended) → Block place after bodies to_come turns_after bodies_after to_come_after (crossed.Out how)
+        block_out : (how : Ended) → Block place after bodies to_come turns_after bodies_after to_come_after (Err how)
             → Left first left_over bodies_after to_come_after (left_at place how)
         block_out ended_as.Finished block setting lines start handed =
-            let (some_left, is, rests) = crossed_says setting lines start handed turns_after bodies_after to_come_after (crossed.Out ended_as.Finished) block in
+            let (some_left, is, rests) = crossed_says setting lines start handed turns_after bodies_after to_come_after (Err ended_as.Finished) block in
             let here = rested setting lines start handed in
             running_ends first setting lines start place after bodies to_come here here.held left_over bodies_after to_come_after rests.stays rests.opened
             (inl (refl, refl)) some_left is
         block_out (ended_as.Stopped row) block setting lines start handed =
-            absurd (crossed_says setting lines start handed turns_after bodies_after to_come_after (crossed.Out (ended_as.Stopped row)) block)
+            absurd (crossed_says setting lines start handed turns_after bodies_after to_come_after (Err (ended_as.Stopped row)) block)
         block_out ended_as.Stuck block setting lines start handed =
-            let (some_left, blocked, rests) = crossed_says setting lines start handed turns_after bodies_after to_come_after (crossed.Out ended_as.Stuck) block in
+            let (some_left, blocked, rests) = crossed_says setting lines start handed turns_after bodies_after to_come_after (Err ended_as.Stuck) block in
             let here = rested setting lines start handed in
             running_sticks first setting lines start place after bodies to_come here here.held left_over bodies_after to_come_after rests.stays rests.opened
             (inl (refl, refl)) handed.shallow some_left blocked
         block_out ended_as.Unfinished block setting lines start handed =
-            let (spent, rests) = crossed_says setting lines start handed turns_after bodies_after to_come_after (crossed.Out ended_as.Unfinished) block in
+            let (spent, rests) = crossed_says setting lines start handed turns_after bodies_after to_come_after (Err ended_as.Unfinished) block in
             let here = rested setting lines start handed in
             running_spent first setting lines start place after bodies to_come here here.held left_over bodies_after to_come_after rests.stays rests.opened
             (inl (refl, refl)) spent
@@ -401,18 +400,18 @@ module _ {A : Arithmetic} (task : Task A) where
           (running_sticks first setting lines start place cells bodies to_come here stepping.held after bodies to_come stays here.opened
           stepping.copies handed.shallow some_left blocked)
 
-      module _ {turns_after bodies_after to_come_after : List ℕ} {crossing : Crossed}
+      module _ {turns_after bodies_after to_come_after : List ℕ} {crossing : Result Place Ended}
           (block : Block place after bodies to_come turns_after bodies_after to_come_after crossing) where
-        pub block_fewer : {next : Place} → crossing ≡ crossed.On next → next.left < began.left
+        pub block_fewer : {next : Place} → crossing ≡ Ok next → next.left < began.left
         block_fewer is = omega (arith, (rw is at block).left, inner.fewer)
 
-        pub block_goes : {next : Place} → answer ≡ acted.Block → crossing ≡ crossed.On next
+        pub block_goes : {next : Place} → answer ≡ acted.Block → crossing ≡ Ok next
             → SameLengths cells (cells_of A after.store after.values turns_after after.copied)
             → Invariant first next (cells_of A after.store after.values turns_after after.copied) bodies_after to_come_after
         block_goes {next} none is kept =
             block_on inner.reaches (inner.still first run) (rw none at straight) turns_after bodies_after to_come_after next (rw is at block) kept
 
-        pub block_ends : {ran : Ran} {how : Ended} → answer ≡ acted.Block → crossing ≡ crossed.Out how → ran ≡ left_at place how
+        pub block_ends : {ran : Ran} {how : Ended} → answer ≡ acted.Block → crossing ≡ Err how → ran ≡ left_at place how
             → Left first (cells_of A after.store after.values turns_after after.copied) bodies_after to_come_after ran
         block_ends {how = how} none is answered =
             subst (λ (r : Ran). Left first (cells_of A after.store after.values turns_after after.copied) bodies_after to_come_after r) (sym answered)

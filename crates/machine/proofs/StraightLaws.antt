@@ -1,5 +1,7 @@
 -- A straight row's code as one step of the machine: what is read at a place, and then over the arithmetic.
 use Prim.Native.Nat.{ℕ, zero, suc, ◌+◌, ◌*◌, ◌≤◌, ◌<◌}
+use Rattle.std.specs.Prelude.{Result, Ok, Err}
+use Rattle.machine.specs.declared.Stuck.{Stuck}
 use mathlib.Core.Path.{◌≡◌, refl, sym, ap, ◌∙◌, subst}
 use mathlib.Core.Bool.{Bool}
 use mathlib.Core.Logic.{◌⊎◌, inl, inr}
@@ -26,12 +28,6 @@ use Rattle.machine.specs.Inner.RowWords.{action_of}
 use Rattle.machine.specs.Inner.RowsHanded.{Holds, Suits}
 use Rattle.machine.specs.Inner.RowSteps.{buffers_at, state_at, raised, following, acted_by, went_to, did_to, values_to, turns_to, NoneStraight, ActedLeft, ActedAt, CopiesOn, Acts, ActsBy, ActedSays, Stays, Blocked, StepsStraight, StraightRow}
 use Rattle.machine.specs.declared.Place.{Place}
-use Rattle.machine.specs.declared.Went.{Went}
-use Rattle.machine.specs.declared.Went.TheVariants as went_as
-use Rattle.machine.specs.declared.Did.{Did}
-use Rattle.machine.specs.declared.Did.TheVariants as did_as
-use Rattle.machine.specs.declared.Moved.{Moved}
-use Rattle.machine.specs.declared.Moved.TheVariants as moved
 use Rattle.machine.specs.declared.Ahead.{Ahead}
 use Rattle.machine.specs.declared.Ahead.TheVariants as ahead_as
 use Rattle.machine.specs.declared.Acted.{Acted}
@@ -85,26 +81,26 @@ acted_at (through u) next ahead = refl
 acted_at (halted why) next ahead = tt
 acted_at stuck next ahead = tt
 
-did_answers : (w : Did) (next : Place) (ahead : Ahead)
-    → did_to w next ahead ≡ acted_by (whether_did w) (raised next next.values next.turns) ahead
-did_answers did_as.On next ahead = refl
-did_answers did_as.Stopped next ahead = refl
+did_answers : {Stop Why : Type 0} (why : Stop → Why) (w : Result (Unit {0}) Stop) (next : Place) (ahead : Ahead)
+    → did_to w next ahead ≡ acted_by (whether_did why w) (raised next next.values next.turns) ahead
+did_answers why (Ok u) next ahead = refl
+did_answers why (Err s) next ahead = refl
 
 module _ (Why : Type 0) where
-  went_answers : (w : Went) (next : Place)
+  went_answers : (w : Result (Unit {0}) Stuck) (next : Place)
       → went_to w next ≡ acted_by (whether_went {Why = Why} w) (raised next next.values next.turns) ahead_as.Any
-  went_answers went_as.On next = refl
-  went_answers went_as.Stuck next = refl
+  went_answers (Ok u) next = refl
+  went_answers (Err s) next = refl
 
-  values_answer : (m : Moved) (next : Place) (ahead : Ahead)
+  values_answer : (m : Result ℕ Stuck) (next : Place) (ahead : Ahead)
       → values_to m next ahead ≡ acted_by (whether_moved {Why = Why} m) (raised next (height_after m next.values) next.turns) ahead
-  values_answer (moved.To height) next ahead = refl
-  values_answer moved.Stuck next ahead = refl
+  values_answer (Ok height) next ahead = refl
+  values_answer (Err s) next ahead = refl
 
-  turns_answer : (m : Moved) (next : Place)
+  turns_answer : (m : Result ℕ Stuck) (next : Place)
       → turns_to m next ≡ acted_by (whether_moved {Why = Why} m) (raised next next.values (height_after m next.turns)) ahead_as.Any
-  turns_answer (moved.To height) next = refl
-  turns_answer moved.Stuck next = refl
+  turns_answer (Ok height) next = refl
+  turns_answer (Err s) next = refl
 
 module _ {A : Arithmetic} where
   -- ---- what a straight row does, by the contract of its code
@@ -159,7 +155,7 @@ module _ {A : Arithmetic} where
         })
 
     module _ {store values : List A.Carrier} {turns : List ℕ} {copied : List A.Carrier} where
-      values_move : {action : Action} {m : Moved} (ahead : Ahead) {store_after values_after : List A.Carrier} → action_of row ≡ some action
+      values_move : {action : Action} {m : Result ℕ Stuck} (ahead : Ahead) {store_after values_after : List A.Carrier} → action_of row ≡ some action
           → answer ≡ values_to m next ahead
           → MovesValues A action store values next.values store_after values_after m
           → ActsBy A row roles constants seeds next (cells_of A store values turns copied) (cells_of A store_after values_after turns copied) answer
@@ -167,17 +163,17 @@ module _ {A : Arithmetic} where
           acts_as action (whether_moved m) (height_after m next.values) next.turns ahead said (answers ∙ values_answer A.Why m next ahead)
           (λ setting former suits sizes sound. (former, moves.does setting turns next.turns former sound, inl (refl, refl)))
 
-      pub saved : {m : Moved} (ahead : Ahead) {values_after : List A.Carrier} → row.kind ≡ 12 → answer ≡ values_to m next ahead
+      pub saved : {m : Result ℕ Stuck} (ahead : Ahead) {values_after : List A.Carrier} → row.kind ≡ 12 → answer ≡ values_to m next ahead
           → MovesValues A (save row.d) store values next.values store values_after m
           → ActsBy A row roles constants seeds next (cells_of A store values turns copied) (cells_of A store values_after turns copied) answer
       saved ahead kind answers moves = values_move ahead (says_save row kind) answers moves
 
-      pub taken_back : {m : Moved} (ahead : Ahead) {store_after values_after : List A.Carrier} → row.kind ≡ 13 → answer ≡ values_to m next ahead
+      pub taken_back : {m : Result ℕ Stuck} (ahead : Ahead) {store_after values_after : List A.Carrier} → row.kind ≡ 13 → answer ≡ values_to m next ahead
           → MovesValues A (take_back row.d) store values next.values store_after values_after m
           → ActsBy A row roles constants seeds next (cells_of A store values turns copied) (cells_of A store_after values_after turns copied) answer
       taken_back ahead kind answers moves = values_move ahead (says_take_back row kind) answers moves
 
-      pub turn_saved : {first : Bool} {m : Moved} {turns_after : List ℕ} → row.kind ≡ 14 → first ≡ eqb row.a 1 → answer ≡ turns_to m next
+      pub turn_saved : {first : Bool} {m : Result ℕ Stuck} {turns_after : List ℕ} → row.kind ≡ 14 → first ≡ eqb row.a 1 → answer ≡ turns_to m next
           → SavesTurn A first turns next.turns turns_after m
           → ActsBy A row roles constants seeds next (cells_of A store values turns copied) (cells_of A store values turns_after copied) answer
       turn_saved {first} {m} kind is answers saves =
@@ -186,14 +182,14 @@ module _ {A : Arithmetic} where
           (answers ∙ turns_answer A.Why m next)
           (λ setting former suits sizes sound. (former, saves.does setting store values next.values former sound, inl (refl, refl)))
 
-      pub cleared : {w : Went} {store_after : List A.Carrier} → row.kind ≡ 16 → answer ≡ went_to w next
+      pub cleared : {w : Result (Unit {0}) Stuck} {store_after : List A.Carrier} → row.kind ≡ 16 → answer ≡ went_to w next
           → Clears A row.d store store_after w
           → ActsBy A row roles constants seeds next (cells_of A store values turns copied) (cells_of A store_after values turns copied) answer
       cleared {w} kind answers clears =
           acts_as (clear row.d) (whether_went w) next.values next.turns ahead_as.Any (says_clear row kind) (answers ∙ went_answers A.Why w next)
           (λ setting former suits sizes sound. (former, clears.does setting values next.values turns next.turns former sound, inl (refl, refl)))
 
-      pub turned_round : {w : Went} {store_after copied_after : List A.Carrier} → row.kind ≡ 17 → answer ≡ went_to w next
+      pub turned_round : {w : Result (Unit {0}) Stuck} {store_after copied_after : List A.Carrier} → row.kind ≡ 17 → answer ≡ went_to w next
           → TurnsRound A roles seeds store copied store_after copied_after w
           → ActsBy A row roles constants seeds next (cells_of A store values turns copied) (cells_of A store_after values turns copied_after) answer
       turned_round {w} {store_after} {copied_after} kind answers turns_it =
@@ -344,39 +340,21 @@ module _ {A : Arithmetic} where
             λ row more there. apart row (heads line (basic row) rest more (sym here ∙ there)) in
             rw (rested.0, rested.1) (record { held = former; says = (λ some_left. none_straight, refl, refl); copies = inl (refl, refl) })
 
--- ---- an assignment by what its code answers in each arithmetic
+-- ---- an assignment by what its code answers
 
-module _ {row : Row} {roles constants : List ℕ} {seeds store values copied store_after : List Float} {turns : List ℕ} {next : Place} {answer : Acted}
-    {got : Try doubles Float} (w : Did) (ahead : Ahead) {s : Source} where
-  pub assigned_double : action_of row ≡ some (assign (row.d ≔ s))
+module _ {A : Arithmetic} {row : Row} {roles constants : List ℕ} {seeds store values copied store_after : List A.Carrier} {turns : List ℕ} {next : Place}
+    {answer : Acted} {got : Try A A.Carrier} {s : Source} where
+  pub assigned_did : {Failure : Type 0} (why : Failure → A.Why) (w : Result (Unit {0}) Failure) (ahead : Ahead) → action_of row ≡ some (assign (row.d ≔ s))
       → answer ≡ did_to w next ahead
-      → got ≡ evaluated doubles constants s store
-      → Assigns doubles row.d got store store_after (whether_did w)
-      → ActsBy doubles row roles constants seeds next (cells_of doubles store values turns copied) (cells_of doubles store_after values turns copied) answer
-  assigned_double said answers reads assigns = assigned ahead said (answers ∙ did_answers w next ahead) reads assigns
+      → got ≡ evaluated A constants s store
+      → Assigns A row.d got store store_after (whether_did why w)
+      → ActsBy A row roles constants seeds next (cells_of A store values turns copied) (cells_of A store_after values turns copied) answer
+  assigned_did why w ahead said answers reads assigns = assigned ahead said (answers ∙ did_answers why w next ahead) reads assigns
 
-module _ {row : Row} {roles constants seeds store values copied store_after turns : List ℕ} {next : Place} {answer : Acted} {got : Try residues ℕ} (w : Went)
-    {s : Source} where
-  pub assigned_residue : action_of row ≡ some (assign (row.d ≔ s))
-      → answer ≡ went_to w next
-      → got ≡ evaluated residues constants s store
-      → Assigns residues row.d got store store_after (whether_went w)
-      → ActsBy residues row roles constants seeds next (cells_of residues store values turns copied) (cells_of residues store_after values turns copied) answer
-  assigned_residue said answers reads assigns = assigned ahead_as.Any said (answers ∙ went_answers residues.Why w next) reads assigns
+-- ---- an arithmetic without quotients is stuck at one
 
--- ---- residues have no quotient
-
-no_quotient : (constants : List ℕ) (a b : ℕ) (store : List ℕ) → stuck ≡ evaluated residues constants (quotient a b) store
-unfolding evaluated
-no_quotient constants a b store = by (get_elem? store a) (get_elem? store b)
-  where
-    by : (x y : Option ℕ) → ◌≡◌ {A = Try residues ℕ} stuck (present x >>= λ p. present y >>= λ q. present (over residues.quotient p q) >>= λ o. from_outcome o)
-    by none y = refl
-    by (some x) none = refl
-    by (some x) (some y) = refl
-
-module _ {row : Row} {roles constants seeds store values copied turns : List ℕ} {next : Place} {answer : Acted} where
-  pub undivided_residue : row.kind ≡ quotient_kind → answer ≡ acted_as.Stuck
-      → ActsBy residues row roles constants seeds next (cells_of residues store values turns copied) (cells_of residues store values turns copied) answer
-  undivided_residue kind answers =
-      assigned ahead_as.Any (says_quotient row kind) answers (no_quotient constants row.a row.b store) assign_sticks
+module _ {A : Arithmetic} {row : Row} {roles constants : List ℕ} {seeds store values copied : List A.Carrier} {turns : List ℕ} {next : Place} {answer : Acted} where
+  pub undivided_sticks : row.kind ≡ quotient_kind → answer ≡ acted_as.Stuck
+      → stuck ≡ evaluated A constants (quotient row.a row.b) store
+      → ActsBy A row roles constants seeds next (cells_of A store values turns copied) (cells_of A store values turns copied) answer
+  undivided_sticks kind answers sticks = assigned ahead_as.Any (says_quotient row kind) answers sticks assign_sticks

@@ -6,40 +6,42 @@ ghost use Rattle.machine.specs.Inner.RowSteps.{JumpsTo, BranchesTo, TurnsTo, Pus
 
 use super::places::{moved, raised, within};
 use super::turns::{count_there, keep_count, test_turn};
-use super::{Branch, Branched, Counted, Crossed, Ended, Moved, Pending, Place};
+use super::{Branch, Ended, Pending, Place, Stuck};
 use sheet::{MAX_DEPTH, RowNumber, RowWords, kinds, wide};
 
 // From an "if" past its "else", from an "else" past its "end if", or from a loop's first row past its last.
-fn jump(beyond: &[u16], at: RowNumber, next: Place) -> Crossed
+fn jump(beyond: &[u16], at: RowNumber, next: Place) -> Result<Place, Ended>
     ensures { JumpsTo beyond.now at.0 next result }
 {
     let row = at.0;
     if row < beyond.len() {
         let to = RowNumber(wide(beyond[row]));
-        return Crossed::On(moved(next, to));
+        return Ok(moved(next, to));
     }
-    Crossed::Out(Ended::Stuck)
+    Err(Ended::Stuck)
 }
 
 // Kind 7, from the branch that the comparison picks.
-fn branch_to(branch: Branch, beyond: &[u16], at: RowNumber, next: Place) -> Crossed
+fn branch_to(branch: Branch, beyond: &[u16], at: RowNumber, next: Place) -> Result<Place, Ended>
     ensures { BranchesTo beyond.now at.0 next branch result }
 {
     match branch {
-        Branch::First => Crossed::On(next),
+        Branch::First => Ok(next),
         Branch::Second => jump(beyond, at, next),
     }
 }
 
 // Kind 15, from the branch that the turn picks.
-fn turn_to(branched: Branched, beyond: &[u16], at: RowNumber, next: Place) -> Crossed
+fn turn_to(
+    branched: Result<(Branch, usize), Stuck>,
+    beyond: &[u16],
+    at: RowNumber,
+    next: Place,
+) -> Result<Place, Ended>
     ensures { TurnsTo beyond.now at.0 next branched result }
 {
-    match branched {
-        Branched::First(height) => Crossed::On(raised(next, next.values, height)),
-        Branched::Second(height) => jump(beyond, at, raised(next, next.values, height)),
-        Branched::Stuck => Crossed::Out(Ended::Stuck),
-    }
+    let (branch, height) = branched?;
+    branch_to(branch, beyond, at, raised(next, next.values, height))
 }
 
 // One loop more: the row that its next turn begins with, and twice the turns still to come, with 1 more where its row is asked before each.
@@ -49,16 +51,16 @@ fn push_loop(
     next: Place,
     bodies: &mut [usize; MAX_DEPTH],
     to_come: &mut [usize; MAX_DEPTH],
-) -> Crossed
+) -> Result<Place, Ended>
     ensures { Pushes body note next bodies.old to_come.old bodies.new to_come.new result }
 {
     let depth = next.depth;
     if MAX_DEPTH <= depth {
-        return Crossed::Out(Ended::Stuck);
+        return Err(Ended::Stuck);
     }
     bodies[depth] = body;
     to_come[depth] = note;
-    Crossed::On(within(next, depth + 1))
+    Ok(within(next, depth + 1))
 }
 
 // Kind 10, and kind 20 once its count is taken.
@@ -67,11 +69,11 @@ fn open_repeat(
     next: Place,
     bodies: &mut [usize; MAX_DEPTH],
     to_come: &mut [usize; MAX_DEPTH],
-) -> Crossed
+) -> Result<Place, Ended>
     ensures { Opens count next bodies.old to_come.old bodies.new to_come.new result }
 {
     if count == 0 {
-        return Crossed::Out(Ended::Stuck);
+        return Err(Ended::Stuck);
     }
     let body = next.at;
     let turns = wide(count) - 1;
@@ -79,24 +81,24 @@ fn open_repeat(
 }
 
 // Kind 11, whatever opens the loop.
-fn close_turn(next: Place, bodies: &[usize; MAX_DEPTH], to_come: &mut [usize; MAX_DEPTH]) -> Crossed
+fn close_turn(next: Place, bodies: &[usize; MAX_DEPTH], to_come: &mut [usize; MAX_DEPTH]) -> Result<Place, Ended>
     ensures { Closes next bodies.now to_come.old bodies.now to_come.new result }
 {
     let depth = next.depth;
     if depth == 0 {
-        return Crossed::Out(Ended::Stuck);
+        return Err(Ended::Stuck);
     }
     let top = depth - 1;
     if MAX_DEPTH <= top {
-        return Crossed::Out(Ended::Stuck);
+        return Err(Ended::Stuck);
     }
     let note = to_come[top];
     if note < 2 {
-        return Crossed::On(within(next, top));
+        return Ok(within(next, top));
     }
     to_come[top] = note - 2;
     let body = bodies[top];
-    Crossed::On(moved(next, RowNumber(body)))
+    Ok(moved(next, RowNumber(body)))
 }
 
 // A loop with a test is under way if it is the innermost open one: its row is asked again, and no other loop's next turn begins there.
@@ -160,13 +162,11 @@ fn end_loop(
     at: RowNumber,
     next: Place,
     turns: &mut [u16],
-) -> Crossed
+) -> Result<Place, Ended>
     ensures { InBoth (λ A. EndsLoop A count keeps beyond.now at.0 next turns.old turns.new result) }
 {
-    match keep_count(count, keeps, turns, next.turns) {
-        Moved::To(height) => jump(beyond, at, raised(next, next.values, height)),
-        Moved::Stuck => Crossed::Out(Ended::Stuck),
-    }
+    let height = keep_count(count, keeps, turns, next.turns)?;
+    jump(beyond, at, raised(next, next.values, height))
 }
 
 // Kind 19, from what its test says: "after d turns the loop ends without a further test".
@@ -180,7 +180,7 @@ fn ask_loop(
     turns: &mut [u16],
     bodies: &mut [usize; MAX_DEPTH],
     to_come: &mut [usize; MAX_DEPTH],
-) -> Crossed
+) -> Result<Place, Ended>
     ensures { InBoth (λ A. AsksLoop A branch most keeps beyond.now at.0 next turns.old bodies.old
         to_come.old turns.new bodies.new to_come.new result) }
 {
@@ -208,7 +208,7 @@ pub fn ask_row(
     turns: &mut [u16],
     bodies: &mut [usize; MAX_DEPTH],
     to_come: &mut [usize; MAX_DEPTH],
-) -> Crossed
+) -> Result<Place, Ended>
     ensures { InBoth (λ A. AsksRow A branch (row_said row) keeps beyond.now at.0 next turns.old bodies.old
         to_come.old turns.new bodies.new to_come.new result) }
 {
@@ -229,19 +229,17 @@ fn on_count(
     turns: &mut [u16],
     bodies: &mut [usize; MAX_DEPTH],
     to_come: &mut [usize; MAX_DEPTH],
-) -> Crossed
+) -> Result<Place, Ended>
     ensures { InBoth (λ A. OnCount A beyond.now at.0 next turns.old bodies.old
         to_come.old turns.new bodies.new to_come.new result) }
 {
-    let Counted::Is(count, top) = count_there(turns, next.turns) else {
-        return Crossed::Out(Ended::Stuck);
-    };
+    let (count, top) = count_there(turns, next.turns)?;
     if count == 0 {
         turns[top] = 0;
         return branch_to(Branch::Second, beyond, at, raised(next, next.values, top));
     }
     if MAX_DEPTH <= next.depth {
-        return Crossed::Out(Ended::Stuck);
+        return Err(Ended::Stuck);
     }
     turns[top] = 0;
     open_repeat(count, raised(next, next.values, top), bodies, to_come)
@@ -256,7 +254,7 @@ pub fn cross(
     turns: &mut [u16],
     bodies: &mut [usize; MAX_DEPTH],
     to_come: &mut [usize; MAX_DEPTH],
-) -> Crossed
+) -> Result<Place, Ended>
     ensures { InBoth (λ A. CrossesBy A (row_said row) beyond.now at.0 next turns.old bodies.old
         to_come.old turns.new bodies.new to_come.new result) }
 {
@@ -265,7 +263,7 @@ pub fn cross(
         return jump(beyond, at, next);
     }
     if kind == kinds::END_IF {
-        return Crossed::On(next);
+        return Ok(next);
     }
     if kind == kinds::REPEAT {
         return open_repeat(row.a, next, bodies, to_come);
@@ -279,5 +277,5 @@ pub fn cross(
     if kind == table::kinds::ON_COUNT {
         return on_count(beyond, at, next, turns, bodies, to_come);
     }
-    Crossed::Out(Ended::Stuck)
+    Err(Ended::Stuck)
 }

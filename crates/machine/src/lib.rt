@@ -3,47 +3,25 @@
 // `residue_rows`, against the machine's steps (specs/Machine.antt). Where a stack ends, a ninth repeat would open or no jump is noted, the answer is Stuck.
 #![tactic(auto)]
 
+ghost use Rattle.std.specs.Prelude.{◌≡◌};
+ghost use Rattle.machine.specs.declared.Ended.TheVariants.{Stuck};
+
 pub mod blocks;
 pub mod places;
 pub mod rows;
 pub mod turns;
 
-use sheet::{RowNumber, RowWords, Variable};
+use sheet::{RowNumber, RowWords};
 
-// What a row comes to that no arithmetic can stop.
+// Why a row can't be done: a stack ends, a ninth repeat would open, or no jump is noted.
 #[derive(Clone, Copy)]
-pub enum Went {
-    On,
-    Stuck,
-}
-
-// What an assignment in doubles comes to.
-#[derive(Clone, Copy)]
-pub enum Did {
-    On,
-    Stopped,
-}
-
-// What a row comes to that moves a stack: its new height.
-#[derive(Clone, Copy)]
-pub enum Moved {
-    To(usize),
-    Stuck,
-}
+pub struct Stuck;
 
 // The branch that a comparison picks.
 #[derive(Clone, Copy)]
 pub enum Branch {
     First,
     Second,
-}
-
-// The branch that a turn taken back picks, with the turn stack's new height.
-#[derive(Clone, Copy)]
-pub enum Branched {
-    First(usize),
-    Second(usize),
-    Stuck,
 }
 
 // Where a run is: its row, how many loops are open, the heights of both stacks, and how many steps are left.
@@ -64,13 +42,6 @@ pub enum Met {
     Other(RowWords, Place),
 }
 
-// The count on top of the turn stack, and the height below it.
-#[derive(Clone, Copy)]
-pub enum Counted {
-    Is(u16, usize),
-    Stuck,
-}
-
 // A loop with a test at its own row: the turns that it may still do, what is noted of it in another turn, and how many loops are open around it.
 #[derive(Clone, Copy)]
 pub struct Pending {
@@ -89,13 +60,6 @@ pub enum Ahead {
     Copy,
 }
 
-// What stands where a row of one kind is expected: it, with the place after it, or that it isn't there or has no step left.
-#[derive(Clone, Copy)]
-pub enum Expected {
-    Met(RowWords, Place),
-    Missed,
-}
-
 // What a straight row comes to: the place after it, with what is expected there. `Block` is the answer where no straight row stands or no step is left
 // for it.
 #[derive(Clone, Copy)]
@@ -106,13 +70,6 @@ pub enum Acted {
     Stuck,
 }
 
-// What a row of a block comes to: the place after it, or the end of the run.
-#[derive(Clone, Copy)]
-pub enum Crossed {
-    On(Place),
-    Out(Ended),
-}
-
 // Why a run is left: at its end, at a row whose result isn't finite, where the machine is stuck, or because the steps have run out.
 #[derive(Clone, Copy)]
 pub enum Ended {
@@ -120,6 +77,14 @@ pub enum Ended {
     Stopped(RowNumber),
     Stuck,
     Unfinished,
+}
+
+impl From<Stuck> for Ended {
+    ghost from_gives = { λ _ e. e ≡ Stuck };
+
+    fn from(_stuck: Stuck) -> Ended {
+        Ended::Stuck
+    }
 }
 
 // Where a run is left, and why.

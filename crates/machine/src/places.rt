@@ -2,44 +2,44 @@
 ghost use Rattle.std.specs.Prelude.{◌≡◌};
 ghost use Rattle.machine.specs.Inner.RowSteps.{went_to, did_to, values_to, turns_to, first_place, left_at, following, moved, within, raised};
 
-use super::{Acted, Ahead, Did, Ended, Moved, Place, Ran, Went};
+use super::{Acted, Ahead, Ended, Place, Ran, Stuck};
 use sheet::RowNumber;
 
-pub fn went_to(went: Went, next: Place) -> Acted
+pub fn went_to(went: Result<(), Stuck>, next: Place) -> Acted
     ensures { result ≡ went_to went next }
 {
     match went {
-        Went::On => Acted::On(next, Ahead::Any),
-        Went::Stuck => Acted::Stuck,
+        Ok(()) => Acted::On(next, Ahead::Any),
+        Err(Stuck) => Acted::Stuck,
     }
 }
 
-pub fn did_to(did: Did, next: Place, ahead: Ahead) -> Acted
+pub fn did_to<S: Copy>(did: Result<(), S>, next: Place, ahead: Ahead) -> Acted
     ensures { result ≡ did_to did next ahead }
 {
     match did {
-        Did::On => Acted::On(next, ahead),
-        Did::Stopped => Acted::Stopped,
+        Ok(()) => Acted::On(next, ahead),
+        Err(_) => Acted::Stopped,
     }
 }
 
 // A row that moved the value stack.
-pub fn values_to(moved: Moved, next: Place, ahead: Ahead) -> Acted
+pub fn values_to(moved: Result<usize, Stuck>, next: Place, ahead: Ahead) -> Acted
     ensures { result ≡ values_to moved next ahead }
 {
     match moved {
-        Moved::To(height) => Acted::On(raised(next, height, next.turns), ahead),
-        Moved::Stuck => Acted::Stuck,
+        Ok(height) => Acted::On(raised(next, height, next.turns), ahead),
+        Err(Stuck) => Acted::Stuck,
     }
 }
 
 // A row that moved the turn stack.
-pub fn turns_to(moved: Moved, next: Place) -> Acted
+pub fn turns_to(moved: Result<usize, Stuck>, next: Place) -> Acted
     ensures { result ≡ turns_to moved next }
 {
     match moved {
-        Moved::To(height) => Acted::On(raised(next, next.values, height), Ahead::Any),
-        Moved::Stuck => Acted::Stuck,
+        Ok(height) => Acted::On(raised(next, next.values, height), Ahead::Any),
+        Err(Stuck) => Acted::Stuck,
     }
 }
 

@@ -7,7 +7,7 @@ ghost use Rattle.machine.specs.Inner.RowsHanded.{place_of_row};
 ghost use Rattle.machine.specs.Inner.RowSteps.{Meets, MeetsKind, Reaches};
 
 use super::places::following;
-use super::{Ended, Expected, Met, Place};
+use super::{Ended, Met, Place};
 use sheet::{RowNumber, RowWords, kinds};
 
 // The words of one of a table's rows: they start after the row count.
@@ -61,7 +61,7 @@ pub fn reach(rows: usize, place: Place) -> usize
 }
 
 // The row at a place if it is of this kind and stands before `until`, as far as steps are left.
-pub fn kind_at(table: &[u16], until: usize, place: Place, kind: u16) -> Expected
+pub fn kind_at(table: &[u16], until: usize, place: Place, kind: u16) -> Option<(RowWords, Place)>
     requires rows_in { place_of_row until ≤ length table.now }
     requires until_in { until ≤ place.at.0 + place.left }
     ensures { MeetsKind table.now until place kind result }
@@ -69,13 +69,13 @@ pub fn kind_at(table: &[u16], until: usize, place: Place, kind: u16) -> Expected
     let at = place.at;
     let number = at.0;
     if until <= number {
-        return Expected::Missed;
+        return None;
     }
     let row = row_of(table, at);
     if row.kind != kind {
-        return Expected::Missed;
+        return None;
     }
     let after = RowNumber(number + 1);
     let left = place.left;
-    Expected::Met(row, following(place, after, left - 1))
+    Some((row, following(place, after, left - 1)))
 }

@@ -4,7 +4,7 @@ ghost use Rattle.table.specs.TableRows.{turn_word};
 ghost use Rattle.machine.specs.Inner.Buffers.{InBoth, SavesTurn, TakesTurn};
 ghost use Rattle.machine.specs.Inner.RowSteps.{PutAway, KeepsCount, CountThere};
 
-use super::{Branched, Counted, Moved};
+use super::{Branch, Stuck};
 
 const FIRST: u16 = 1;
 
@@ -24,63 +24,63 @@ fn word_of(first: bool) -> u16
 }
 
 // A word onto the stack.
-fn put_away(word: u16, turns: &mut [u16], height: usize) -> Moved
+fn put_away(word: u16, turns: &mut [u16], height: usize) -> Result<usize, Stuck>
     ensures { PutAway word height turns.old turns.new result }
 {
     if turns.len() <= height {
-        return Moved::Stuck;
+        return Err(Stuck);
     }
     turns[height] = word;
-    Moved::To(height + 1)
+    Ok(height + 1)
 }
 
 // Kind 14.
-pub fn save_turn(first: bool, turns: &mut [u16], height: usize) -> Moved
+pub fn save_turn(first: bool, turns: &mut [u16], height: usize) -> Result<usize, Stuck>
     ensures { InBoth (λ A. SavesTurn A first turns.old height turns.new result) }
 {
     put_away(word_of(first), turns, height)
 }
 
 // What kind 19 does when its loop ends: an adjoint table's puts the turns done away, a tangent table's nothing.
-pub fn keep_count(count: u16, keeps: bool, turns: &mut [u16], height: usize) -> Moved
+pub fn keep_count(count: u16, keeps: bool, turns: &mut [u16], height: usize) -> Result<usize, Stuck>
     ensures { InBoth (λ A. KeepsCount A count keeps turns.old height turns.new result) }
 {
     if keeps {
         return put_away(count, turns, height);
     }
-    Moved::To(height)
+    Ok(height)
 }
 
 // What kind 20 will take back.
-pub fn count_there(turns: &[u16], height: usize) -> Counted
+pub fn count_there(turns: &[u16], height: usize) -> Result<(u16, usize), Stuck>
     ensures { CountThere turns.now height result }
 {
     if height == 0 {
-        return Counted::Stuck;
+        return Err(Stuck);
     }
     let top = height - 1;
     if turns.len() <= top {
-        return Counted::Stuck;
+        return Err(Stuck);
     }
-    Counted::Is(turns[top], top)
+    Ok((turns[top], top))
 }
 
 // Kind 15. The place that is taken back is cleared.
-pub fn test_turn(turns: &mut [u16], height: usize) -> Branched
+pub fn test_turn(turns: &mut [u16], height: usize) -> Result<(Branch, usize), Stuck>
     ensures { InBoth (λ A. TakesTurn A turns.old height turns.new result) }
 {
     if height == 0 {
-        return Branched::Stuck;
+        return Err(Stuck);
     }
     let top = height - 1;
     if turns.len() <= top {
-        return Branched::Stuck;
+        return Err(Stuck);
     }
     let turn = turns[top];
     turns[top] = 0;
     if is_first(turn) {
-        Branched::First(top)
+        Ok((Branch::First, top))
     } else {
-        Branched::Second(top)
+        Ok((Branch::Second, top))
     }
 }

@@ -1,4 +1,5 @@
 -- What the call mark answers, and what it leaves in the lent lists.
+use Rattle.sheet.specs.declared.No.{No}
 use Rattle.std.specs.Prelude.{ℕ, ◌≡◌, List, ◌++◌, drop}
 use Rattle.std.specs.Prelude.{Err, Ok, Result}
 use Rattle.sheet.specs.Judging.{Answer, refused, given, ◌>>=◌}

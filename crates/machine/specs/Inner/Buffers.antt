@@ -1,5 +1,7 @@
 -- What the code's buffers stand for, and what each row's code must make of them: the contracts of the single rows, over the arithmetic.
 use Rattle.std.specs.Prelude.{ℕ, ◌+◌, ◌-◌, ◌≤◌, ◌≡◌, Bool, List, reverse, length, take, drop, replicate}
+use Rattle.std.specs.Prelude.{Result, Ok, Err}
+use Rattle.machine.specs.declared.Stuck.{Stuck}
 use Rattle.std.proofs.Math.Option.{Option, none}
 use Rattle.number.specs.Arithmetic.{Arithmetic}
 use Rattle.number.specs.Doubles.{doubles}
@@ -7,12 +9,8 @@ use Rattle.number.specs.Residues.{residues}
 use Rattle.sheet.specs.Rows.{Source, fixed, ◌≔◌, less}
 use Rattle.table.specs.TableRows.{Action, assign, save_turn, clear, turn_round, TableTest, whether, on_turn}
 use Rattle.machine.specs.Actions.{through, ◌>>=◌, Memory, Setting, Try, evaluated, acted, tested, verdict_on}
-use Rattle.machine.specs.Inner.RowAnswers.{whether_went, whether_moved, height_after, branch_of, turn_of, height_branched}
-use Rattle.machine.specs.declared.Went.{Went}
-use Rattle.machine.specs.declared.Went.TheVariants as went_as
-use Rattle.machine.specs.declared.Moved.{Moved}
+use Rattle.machine.specs.Inner.RowAnswers.{is_stuck, whether_went, whether_moved, height_after, branch_of, turn_of, height_branched}
 use Rattle.machine.specs.declared.Branch.{Branch}
-use Rattle.machine.specs.declared.Branched.{Branched}
 
 -- what is shown over the arithmetic, of both: the contract of code that no arithmetic has a part in
 pub record InBoth (P : Arithmetic → Type 0) : Type 0 where
@@ -104,11 +102,11 @@ module _ (A : Arithmetic) where
         → Stores setting (assign (d ≔ source)) store after went
 
   -- kind 16
-  pub record Clears (d : ℕ) (store after : List A.Carrier) (went : Went) : Type 0 where
+  pub record Clears (d : ℕ) (store after : List A.Carrier) (went : Result (Unit {0}) Stuck) : Type 0 where
     pub does : (setting : Setting A) → Stores setting (clear d) store after (whether_went went)
 
   -- kinds 12 and 13
-  pub record MovesValues (action : Action) (store values : List A.Carrier) (height : ℕ) (store_after values_after : List A.Carrier) (moved : Moved)
+  pub record MovesValues (action : Action) (store values : List A.Carrier) (height : ℕ) (store_after values_after : List A.Carrier) (moved : Result ℕ Stuck)
       : Type 0 where
     pub does : (setting : Setting A) (turns : List ℕ) (turn_height : ℕ) (copied : List A.Carrier)
         → Sound setting (buffers_of store values height turns turn_height copied)
@@ -116,7 +114,7 @@ module _ (A : Arithmetic) where
         (buffers_of store_after values_after (height_after moved height) turns turn_height copied) (whether_moved moved)
 
   -- kind 14
-  pub record SavesTurn (first : Bool) (turns : List ℕ) (height : ℕ) (turns_after : List ℕ) (moved : Moved) : Type 0 where
+  pub record SavesTurn (first : Bool) (turns : List ℕ) (height : ℕ) (turns_after : List ℕ) (moved : Result ℕ Stuck) : Type 0 where
     pub does : (setting : Setting A) (store values : List A.Carrier) (value_height : ℕ) (copied : List A.Carrier)
         → Sound setting (buffers_of store values value_height turns height copied)
         → Does setting (save_turn first) (buffers_of store values value_height turns height copied)
@@ -130,7 +128,7 @@ module _ (A : Arithmetic) where
         (buffers_of store values height turns turn_height copied) (branch_of picked)
 
   -- kind 15
-  pub record TakesTurn (turns : List ℕ) (height : ℕ) (turns_after : List ℕ) (branched : Branched) : Type 0 where
+  pub record TakesTurn (turns : List ℕ) (height : ℕ) (turns_after : List ℕ) (branched : Result (Branch × ℕ) Stuck) : Type 0 where
     pub tests : (setting : Setting A) (store values : List A.Carrier) (value_height : ℕ) (copied : List A.Carrier)
         → Sound setting (buffers_of store values value_height turns height copied)
         → Tests setting on_turn (buffers_of store values value_height turns height copied)
@@ -143,7 +141,7 @@ module _ (A : Arithmetic) where
     pub copied_fits : length copied ≡ length roles
 
   -- under the sizes that every run has it goes through, and under others it changes nothing
-  pub record TurnsRound (roles : List ℕ) (seeds store copied store_after copied_after : List A.Carrier) (went : Went) : Type 0 where
+  pub record TurnsRound (roles : List ℕ) (seeds store copied store_after copied_after : List A.Carrier) (went : Result (Unit {0}) Stuck) : Type 0 where
     pub round : RoundSizes roles seeds store copied
         → (setting : Setting A) (values : List A.Carrier) (height : ℕ) (turns : List ℕ) (turn_height : ℕ) (former : List A.Carrier)
         → setting.variables ≡ length roles
@@ -152,4 +150,4 @@ module _ (A : Arithmetic) where
         → Sound setting (buffers_of store values height turns turn_height former)
         → Does setting turn_round (buffers_of store values height turns turn_height former)
         (buffers_of store_after values height turns turn_height copied_after) (whether_went went)
-    pub refused : (RoundSizes roles seeds store copied → ⊥) → (went ≡ went_as.Stuck) × (store_after ≡ store) × (copied_after ≡ copied)
+    pub refused : (RoundSizes roles seeds store copied → ⊥) → (went ≡ Err is_stuck) × (store_after ≡ store) × (copied_after ≡ copied)

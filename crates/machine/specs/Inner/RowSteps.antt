@@ -1,5 +1,9 @@
 -- One row of the code, held against one step of the row machine: what each row's answer says, and what every buffer then stands for.
 use Rattle.std.specs.Prelude.{ℕ, zero, suc, pred, min, ◌+◌, ◌*◌, ◌≤◌, ◌<◌, Bool, ◌&&◌, cond, ◌≡◌, List, [], ◌∷◌, ◌⊎◌, ◌≢◌, length, get_or, set, drop, eqb}
+use Rattle.sheet.specs.declared.RowWords.{RowWords}
+use Rattle.std.specs.Prelude.{Result, Ok, Err}
+use Rattle.machine.specs.declared.Stuck.{Stuck}
+use Rattle.std.specs.Prelude as std
 use Rattle.std.proofs.Math.Option.{none, some}
 use Rattle.number.specs.Arithmetic.{Arithmetic}
 use Rattle.sheet.specs.Bounds.{limit}
@@ -11,33 +15,19 @@ use Rattle.table.specs.TableRows.{TableLine, TableRow, Action, whether, on_turn,
 use Rattle.machine.specs.Actions.{Attempt, through, halted, stuck, ◌>>=◌, Setting, Try, count_kept, Stop, compared}
 use Rattle.machine.specs.Machine.{Repeat, back_to, State, Step, goes_on, ended, stops, sticks, step_at, step}
 use Rattle.machine.specs.Inner.Buffers.{Buffers, Cells, cells_of, memory_of, Sound, Does, RoundSizes}
-use Rattle.machine.specs.Inner.RowAnswers.{whether_moved, height_after, branch_of}
+use Rattle.machine.specs.Inner.RowAnswers.{is_stuck, whether_moved, height_after, branch_of}
 use Rattle.machine.specs.Inner.RowWords.{action_of}
 use Rattle.machine.specs.Inner.RowsHanded.{Holds, Jumps, Suits}
 use Rattle.machine.specs.declared.Met.{Met}
 use Rattle.machine.specs.declared.Met.TheVariants as met_as
 use Rattle.machine.specs.declared.Place.{Place}
-use Rattle.machine.specs.declared.Went.{Went}
-use Rattle.machine.specs.declared.Went.TheVariants as went_as
-use Rattle.machine.specs.declared.Did.{Did}
-use Rattle.machine.specs.declared.Did.TheVariants as did_as
-use Rattle.machine.specs.declared.Moved.{Moved}
-use Rattle.machine.specs.declared.Moved.TheVariants as moved_as
 use Rattle.machine.specs.declared.Branch.{Branch}
 use Rattle.machine.specs.declared.Branch.TheVariants as branch_as
-use Rattle.machine.specs.declared.Counted.{Counted}
-use Rattle.machine.specs.declared.Counted.TheVariants as counted_as
 use Rattle.machine.specs.declared.Pending.{Pending}
-use Rattle.machine.specs.declared.Branched.{Branched}
-use Rattle.machine.specs.declared.Branched.TheVariants as branched_as
 use Rattle.machine.specs.declared.Ahead.{Ahead}
 use Rattle.machine.specs.declared.Ahead.TheVariants as ahead_as
-use Rattle.machine.specs.declared.Expected.{Expected}
-use Rattle.machine.specs.declared.Expected.TheVariants as expected_as
 use Rattle.machine.specs.declared.Acted.{Acted}
 use Rattle.machine.specs.declared.Acted.TheVariants as acted
-use Rattle.machine.specs.declared.Crossed.{Crossed}
-use Rattle.machine.specs.declared.Crossed.TheVariants as crossed
 use Rattle.machine.specs.declared.Ended.{Ended}
 use Rattle.machine.specs.declared.Ended.TheVariants as ended_as
 use Rattle.machine.specs.declared.Ran.{Ran}
@@ -89,21 +79,21 @@ abbrev pub preceding : Place → (at : ℕ) → Place
 preceding next at = record { at = record { 0 = at }; depth = next.depth; values = next.values; turns = next.turns; left = suc next.left }
 
 -- What an answer lets expect at the next place says nothing of the row there: it tells a runner what to look for first, and means nothing to the machine.
-abbrev pub went_to : Went → Place → Acted
-went_to went_as.On place = acted.On place ahead_as.Any
-went_to went_as.Stuck place = acted.Stuck
+abbrev pub went_to : Result (Unit {0}) Stuck → Place → Acted
+went_to (Ok u) place = acted.On place ahead_as.Any
+went_to (Err s) place = acted.Stuck
 
-abbrev pub did_to : Did → Place → Ahead → Acted
-did_to did_as.On place ahead = acted.On place ahead
-did_to did_as.Stopped place ahead = acted.Stopped
+abbrev pub did_to : {Stop : Type 0} → Result (Unit {0}) Stop → Place → Ahead → Acted
+did_to (Ok u) place ahead = acted.On place ahead
+did_to (Err s) place ahead = acted.Stopped
 
-abbrev pub values_to : Moved → Place → Ahead → Acted
-values_to (moved_as.To height) place ahead = acted.On (raised place height place.turns) ahead
-values_to moved_as.Stuck place ahead = acted.Stuck
+abbrev pub values_to : Result ℕ Stuck → Place → Ahead → Acted
+values_to (Ok height) place ahead = acted.On (raised place height place.turns) ahead
+values_to (Err s) place ahead = acted.Stuck
 
-abbrev pub turns_to : Moved → Place → Acted
-turns_to (moved_as.To height) place = acted.On (raised place place.values height) ahead_as.Any
-turns_to moved_as.Stuck place = acted.Stuck
+abbrev pub turns_to : Result ℕ Stuck → Place → Acted
+turns_to (Ok height) place = acted.On (raised place place.values height) ahead_as.Any
+turns_to (Err s) place = acted.Stuck
 
 -- the answer to an attempt that leads to a place
 abbrev pub acted_by : {Why : Type 0} → Attempt Why (Unit {0}) → Place → Ahead → Acted
@@ -124,13 +114,13 @@ ActedAt at acted.Block = Unit {0}
 ActedAt at acted.Stopped = Unit {0}
 ActedAt at acted.Stuck = Unit {0}
 
-abbrev pub CrossedLeft : (left : ℕ) → Crossed → Type 0
-CrossedLeft left (crossed.On next) = suc next.left ≡ left
-CrossedLeft left (crossed.Out how) = Unit {0}
+abbrev pub CrossedLeft : (left : ℕ) → Result Place Ended → Type 0
+CrossedLeft left (Ok next) = suc next.left ≡ left
+CrossedLeft left (Err how) = Unit {0}
 
 -- the answer where the machine is stuck
-abbrev pub stuck_there : Crossed
-stuck_there = crossed.Out ended_as.Stuck
+abbrev pub stuck_there : Result Place Ended
+stuck_there = Err ended_as.Stuck
 
 -- no straight row stands at this place
 abbrev pub NoneStraight : (at : ℕ) → List TableLine → Type 0
@@ -170,54 +160,53 @@ Meets table rows place (met_as.Ask row next) = MeetsRow table rows place (row_sa
 Meets table rows place (met_as.Other row next) = MeetsRow table rows place (row_said row) next × (row.kind ≢ 7) × (row.kind ≢ while_kind)
 
 -- a row of the kind that is expected there
-abbrev pub MeetsKind : (table : List ℕ) → (rows : ℕ) → Place → (kind : ℕ) → Expected → Type 0
-MeetsKind table rows place kind (expected_as.Met row next) = MeetsRow table rows place (row_said row) next × (row.kind ≡ kind)
-MeetsKind table rows place kind expected_as.Missed = Unit {0}
+abbrev pub MeetsKind : (table : List ℕ) → (rows : ℕ) → Place → (kind : ℕ) → std.Option (RowWords × Place) → Type 0
+MeetsKind table rows place kind (std.Some (row, next)) = MeetsRow table rows place (row_said row) next × (row.kind ≡ kind)
+MeetsKind table rows place kind std.None = Unit {0}
 
 -- ---- rows of blocks, in either arithmetic
 
 -- from an "if" or an "else" to where the list of jumps says
-pub record JumpsTo (beyond : List ℕ) (at : ℕ) (next : Place) (answer : Crossed) : Type 0 where
-  pub there : at < length beyond → answer ≡ crossed.On (moved next (get_or beyond at 0))
+pub record JumpsTo (beyond : List ℕ) (at : ℕ) (next : Place) (answer : Result Place Ended) : Type 0 where
+  pub there : at < length beyond → answer ≡ Ok (moved next (get_or beyond at 0))
   pub left : CrossedLeft (suc next.left) answer
 
 -- the branch that a comparison picks
-abbrev pub BranchesTo : (beyond : List ℕ) → (at : ℕ) → (next : Place) → Branch → Crossed → Type 0
-BranchesTo beyond at next branch_as.First answer = answer ≡ crossed.On next
+abbrev pub BranchesTo : (beyond : List ℕ) → (at : ℕ) → (next : Place) → Branch → Result Place Ended → Type 0
+BranchesTo beyond at next branch_as.First answer = answer ≡ Ok next
 BranchesTo beyond at next branch_as.Second answer = JumpsTo beyond at next answer
 
 -- the branch that a turn taken back picks
-abbrev pub TurnsTo : (beyond : List ℕ) → (at : ℕ) → (next : Place) → Branched → Crossed → Type 0
-TurnsTo beyond at next (branched_as.First height) answer = answer ≡ crossed.On (raised next next.values height)
-TurnsTo beyond at next (branched_as.Second height) answer = JumpsTo beyond at (raised next next.values height) answer
-TurnsTo beyond at next branched_as.Stuck answer = answer ≡ stuck_there
+abbrev pub TurnsTo : (beyond : List ℕ) → (at : ℕ) → (next : Place) → Result (Branch × ℕ) Stuck → Result Place Ended → Type 0
+TurnsTo beyond at next (Ok (branch, height)) answer = BranchesTo beyond at (raised next next.values height) branch answer
+TurnsTo beyond at next (Err s) answer = answer ≡ stuck_there
 
 -- one loop more, whose next turn begins at a row, with what is noted of it
-pub record Pushes (body note : ℕ) (next : Place) (bodies to_come bodies_after to_come_after : List ℕ) (answer : Crossed) : Type 0 where
+pub record Pushes (body note : ℕ) (next : Place) (bodies to_come bodies_after to_come_after : List ℕ) (answer : Result Place Ended) : Type 0 where
   pub left : CrossedLeft (suc next.left) answer
   pub full : limit.depth ≤ next.depth → (answer ≡ stuck_there) × (bodies_after ≡ bodies) × (to_come_after ≡ to_come)
-  pub room : next.depth < limit.depth → answer ≡ crossed.On (within next (suc next.depth))
+  pub room : next.depth < limit.depth → answer ≡ Ok (within next (suc next.depth))
   pub opened : next.depth < limit.depth → (r : Repeat) (repeats : List Repeat) → back_to r ≡ body → note_of r ≡ note
       → Opened next.depth bodies to_come repeats
       → Opened (suc next.depth) bodies_after to_come_after (r ∷ repeats)
 
 -- one of which `count` turns are to run; its body starts at the next row
-pub record Opens (count : ℕ) (next : Place) (bodies to_come bodies_after to_come_after : List ℕ) (answer : Crossed) : Type 0 where
+pub record Opens (count : ℕ) (next : Place) (bodies to_come bodies_after to_come_after : List ℕ) (answer : Result Place Ended) : Type 0 where
   pub left : CrossedLeft (suc next.left) answer
   pub opens : (m : ℕ) → count ≡ suc m → Pushes next.at.0 (2 * m) next bodies to_come bodies_after to_come_after answer
 
 -- the end of a turn: out of the loop, or on to its next turn
-pub record Closes (next : Place) (bodies to_come bodies_after to_come_after : List ℕ) (answer : Crossed) : Type 0 where
+pub record Closes (next : Place) (bodies to_come bodies_after to_come_after : List ℕ) (answer : Result Place Ended) : Type 0 where
   pub left : CrossedLeft (suc next.left) answer
   pub none : Opened next.depth bodies to_come [] → (answer ≡ stuck_there) × Opened next.depth bodies_after to_come_after []
   pub out : next.depth ≤ limit.depth → (r : Repeat) (outer : List Repeat)
       → Opened next.depth bodies to_come (r ∷ outer)
       → r.left ≡ 0
-      → (answer ≡ crossed.On (within next (pred next.depth))) × Opened (pred next.depth) bodies_after to_come_after outer
+      → (answer ≡ Ok (within next (pred next.depth))) × Opened (pred next.depth) bodies_after to_come_after outer
   pub back : next.depth ≤ limit.depth → (r : Repeat) (n : ℕ) (outer : List Repeat)
       → Opened next.depth bodies to_come (r ∷ outer)
       → r.left ≡ suc n
-      → (answer ≡ crossed.On (moved next (back_to r)))
+      → (answer ≡ Ok (moved next (back_to r)))
       × Opened next.depth bodies_after to_come_after (record { start = r.start; asks = r.asks; left = n } ∷ outer)
 
 -- ---- a loop with a test, at its own row
@@ -243,23 +232,23 @@ pub record Pends (most at depth : ℕ) (bodies to_come : List ℕ) (found : Pend
 -- ---- the turn stack
 
 -- a word onto it
-pub record PutAway (word height : ℕ) (turns turns_after : List ℕ) (moved : Moved) : Type 0 where
-  pub full : length turns ≤ height → (moved ≡ moved_as.Stuck) × (turns_after ≡ turns)
-  pub goes : height < length turns → (moved ≡ moved_as.To (height + 1)) × (turns_after ≡ set turns height word)
+pub record PutAway (word height : ℕ) (turns turns_after : List ℕ) (moved : Result ℕ Stuck) : Type 0 where
+  pub full : length turns ≤ height → (moved ≡ Err is_stuck) × (turns_after ≡ turns)
+  pub goes : height < length turns → (moved ≡ Ok (height + 1)) × (turns_after ≡ set turns height word)
 
 -- the word on top of it
-abbrev pub CountThere : (turns : List ℕ) → (height : ℕ) → Counted → Type 0
-CountThere turns height (counted_as.Is count top) = (height ≡ suc top) × (top < length turns) × (count ≡ get_or turns top 0)
-CountThere turns height counted_as.Stuck = (height ≡ 0) ⊎ (length turns < height)
+abbrev pub CountThere : (turns : List ℕ) → (height : ℕ) → Result (ℕ × ℕ) Stuck → Type 0
+CountThere turns height (Ok (count, top)) = (height ≡ suc top) × (top < length turns) × (count ≡ get_or turns top 0)
+CountThere turns height (Err s) = (height ≡ 0) ⊎ (length turns < height)
 
 module _ (A : Arithmetic) where
   -- a count that is kept, if counts are: what it means, and every cell besides
-  pub record KeptAs (setting : Setting A) (count : ℕ) (before after : Buffers A) (moved : Moved) : Type 0 where
+  pub record KeptAs (setting : Setting A) (count : ℕ) (before after : Buffers A) (moved : Result ℕ Stuck) : Type 0 where
     pub meaning : (whether_moved moved >>= λ _. through (memory_of A after)) ≡ count_kept A {Why = Stop A} setting count (memory_of A before)
     pub sound : Sound A setting after
-    pub unchanged : moved ≡ moved_as.Stuck → after ≡ before
+    pub unchanged : moved ≡ Err is_stuck → after ≡ before
 
-  pub record KeepsCount (count : ℕ) (keeps : Bool) (turns : List ℕ) (height : ℕ) (turns_after : List ℕ) (moved : Moved) : Type 0 where
+  pub record KeepsCount (count : ℕ) (keeps : Bool) (turns : List ℕ) (height : ℕ) (turns_after : List ℕ) (moved : Result ℕ Stuck) : Type 0 where
     pub kept : (setting : Setting A) (store values : List A.Carrier) (value_height : ℕ) (copied : List A.Carrier)
         → setting.keeps_counts ≡ keeps
         → Sound A setting (record { store = store; values = values; height = value_height; turns = turns; turn_height = height; copied = copied })
@@ -393,20 +382,20 @@ module _ (A : Arithmetic) where
     pub stays : Stays place before after held held
 
   abbrev pub CrossedSays : Setting A → Place → List Repeat → (bodies to_come : List ℕ) → (before after : Cells A) → (held : List A.Carrier)
-      → Step A → Crossed → Type 0
-  CrossedSays setting place repeats bodies to_come before after held found (crossed.On next) =
+      → Step A → Result Place Ended → Type 0
+  CrossedSays setting place repeats bodies to_come before after held found (Ok next) =
       CrossesTo setting place next bodies to_come after held found
-  CrossedSays setting place repeats bodies to_come before after held found (crossed.Out ended_as.Finished) =
+  CrossedSays setting place repeats bodies to_come before after held found (Err ended_as.Finished) =
       (0 < place.left) × (found ≡ ended (memory_of A (buffers_at place after held))) × Rests place repeats bodies to_come before after held
-  CrossedSays setting place repeats bodies to_come before after held found (crossed.Out (ended_as.Stopped row)) = ⊥
-  CrossedSays setting place repeats bodies to_come before after held found (crossed.Out ended_as.Stuck) =
+  CrossedSays setting place repeats bodies to_come before after held found (Err (ended_as.Stopped row)) = ⊥
+  CrossedSays setting place repeats bodies to_come before after held found (Err ended_as.Stuck) =
       (0 < place.left) × Blocked found × Rests place repeats bodies to_come before after held
-  CrossedSays setting place repeats bodies to_come before after held found (crossed.Out ended_as.Unfinished) =
+  CrossedSays setting place repeats bodies to_come before after held found (Err ended_as.Unfinished) =
       (place.left ≡ 0) × Rests place repeats bodies to_come before after held
 
   -- The rows of blocks change the turn stack and the open repeats alone.
   pub record BlockRow (table : List ℕ) (rows : ℕ) (beyond : List ℕ) (keeps : Bool) (place : Place) (store : List A.Carrier)
-      (turns bodies to_come turns_after bodies_after to_come_after : List ℕ) (answer : Crossed) : Type 0 where
+      (turns bodies to_come turns_after bodies_after to_come_after : List ℕ) (answer : Result Place Ended) : Type 0 where
     pub left : CrossedLeft place.left answer
     pub steps : (setting : Setting A) (lines : List TableLine) (repeats : List Repeat) (values copied held : List A.Carrier)
         → Holds table lines
@@ -422,7 +411,7 @@ module _ (A : Arithmetic) where
 
   -- the same of the line that a row's words say, but for the comparison; `next` is the place of the row after it
   pub record CrossesBy (row : Row) (beyond : List ℕ) (at : ℕ) (next : Place) (turns bodies to_come turns_after bodies_after to_come_after : List ℕ)
-      (answer : Crossed) : Type 0 where
+      (answer : Result Place Ended) : Type 0 where
     pub left : CrossedLeft (suc next.left) answer
     pub crosses : (setting : Setting A) (lines rest : List TableLine) (line : TableLine) (repeats : List Repeat) (store values copied held : List A.Carrier)
         → table_row_of line ≡ row
@@ -443,22 +432,22 @@ module _ (A : Arithmetic) where
 
   -- one step at a line that stands at a row, from what the code has done there
   abbrev pub StepsTo : Setting A → (line : TableLine) (rest : List TableLine) → (at : ℕ) → (next : Place) → List Repeat → (before after : Cells A)
-      → (held : List A.Carrier) → (bodies to_come : List ℕ) → Crossed → Type 0
+      → (held : List A.Carrier) → (bodies to_come : List ℕ) → Result Place Ended → Type 0
   StepsTo setting line rest at next repeats before after held bodies to_come answer =
       CrossedSays setting (preceding next at) repeats bodies to_come before after held
       (step_at A setting (state_at (preceding next at) repeats before held) (line ∷ rest)) answer
 
   -- the end of a loop with a test after so many turns, among the loops around it
-  pub record EndsLoop (count : ℕ) (keeps : Bool) (beyond : List ℕ) (at : ℕ) (next : Place) (turns turns_after : List ℕ) (answer : Crossed) : Type 0 where
+  pub record EndsLoop (count : ℕ) (keeps : Bool) (beyond : List ℕ) (at : ℕ) (next : Place) (turns turns_after : List ℕ) (answer : Result Place Ended) : Type 0 where
     pub left : CrossedLeft (suc next.left) answer
-    pub moved : Moved
+    pub moved : Result ℕ Stuck
     pub keeping : KeepsCount count keeps turns next.turns turns_after moved
-    pub goes : (height : ℕ) → moved ≡ moved_as.To height → JumpsTo beyond at (raised next next.values height) answer
-    pub sticks : moved ≡ moved_as.Stuck → answer ≡ stuck_there
+    pub goes : (height : ℕ) → moved ≡ Ok height → JumpsTo beyond at (raised next next.values height) answer
+    pub sticks : moved ≡ Err is_stuck → answer ≡ stuck_there
 
   -- kind 19, from the branch that its comparison picks
   pub record AsksLoop (branch : Branch) (most : ℕ) (keeps : Bool) (beyond : List ℕ) (at : ℕ) (next : Place)
-      (turns bodies to_come turns_after bodies_after to_come_after : List ℕ) (answer : Crossed) : Type 0 where
+      (turns bodies to_come turns_after bodies_after to_come_after : List ℕ) (answer : Result Place Ended) : Type 0 where
     pub left : CrossedLeft (suc next.left) answer
     pub asks : (setting : Setting A) (lines rest : List TableLine) (f : Test) (m : ℕ) (repeats : List Repeat) (store values copied held : List A.Carrier)
         → most ≡ suc m
@@ -475,12 +464,12 @@ module _ (A : Arithmetic) where
 
   -- a row that asks, whichever it is; an "if" leaves the loops and the turns alone
   pub record AsksRow (branch : Branch) (row : Row) (keeps : Bool) (beyond : List ℕ) (at : ℕ) (next : Place)
-      (turns bodies to_come turns_after bodies_after to_come_after : List ℕ) (answer : Crossed) : Type 0 where
+      (turns bodies to_come turns_after bodies_after to_come_after : List ℕ) (answer : Result Place Ended) : Type 0 where
     pub picks : row.kind ≡ 7 → BranchesTo beyond at next branch answer × (turns_after ≡ turns) × (bodies_after ≡ bodies) × (to_come_after ≡ to_come)
     pub asks : row.kind ≢ 7 → AsksLoop branch row.d keeps beyond at next turns bodies to_come turns_after bodies_after to_come_after answer
 
   -- kind 20, whatever number of turns its loop does at most
-  pub record OnCount (beyond : List ℕ) (at : ℕ) (next : Place) (turns bodies to_come turns_after bodies_after to_come_after : List ℕ) (answer : Crossed) : Type 0 where
+  pub record OnCount (beyond : List ℕ) (at : ℕ) (next : Place) (turns bodies to_come turns_after bodies_after to_come_after : List ℕ) (answer : Result Place Ended) : Type 0 where
     pub left : CrossedLeft (suc next.left) answer
     pub takes : (setting : Setting A) (lines rest : List TableLine) (m : ℕ) (repeats : List Repeat) (store values copied held : List A.Carrier)
         → next.at.0 ≡ suc at

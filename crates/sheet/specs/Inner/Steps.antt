@@ -1,5 +1,6 @@
 -- What the reader's inner functions answer: counts and roles, a row as the blocks see it, the open blocks by their W alone, and W kept from
 -- growing beyond its bound. Nothing here needs to be believed: the contract of `read_sheet` cites none of it.
+use Rattle.sheet.specs.declared.No.{No}
 use Rattle.std.specs.Prelude.{ℕ, suc, ◌+◌, ◌*◌, ◌≤◌, min, max, ◌≡◌, Bool, true, false, ◌&&◌, List, length, get_or, take, drop, leb, ltb, eqb}
 use Rattle.std.specs.Prelude.{Err, Ok, Result}
 use Rattle.std.proofs.Math.Option.{Option, none, some}

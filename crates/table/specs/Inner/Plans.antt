@@ -1,4 +1,5 @@
 -- What is found out of a sheet before its table is written: R, S and T, every row's marks and every block row's partners.
+use Rattle.sheet.specs.declared.No.{No}
 use Rattle.std.specs.Prelude.{ℕ, ◌+◌, ◌*◌, ◌≤◌, ◌≡◌, Bool, List, length}
 use Rattle.std.specs.Prelude.{Err, None, Ok, Option, Result, Some}
 use Rattle.sheet.specs.Judging.{Answer, refused, given}

@@ -1,13 +1,9 @@
 -- `machine::blocks::turn_to` meets its contract.
-use mathlib.Core.Path.{ap}
-use Rattle.machine.specs.declared.Crossed.TheVariants as crossed
+use Rattle.machine.proofs.CrossLaws.{sticks_on}
 use Rattle.machine.proofs.blocks.turn_to.Goals as goal
 
-pub returns-in-First : goal.returns-in-First
-returns-in-First c = rw c.in-First.is (ap crossed.On c.raised.ensures)
+pub returns-in_err-branch : goal.returns-in_err-branch
+returns-in_err-branch c = rw c.in_err-branch.was (sticks_on c.from_residual.ensures.1)
 
-pub returns-in-Second : goal.returns-in-Second
-returns-in-Second c = rw c.in-Second.is (rw c.raised-in-Second.ensures at c.jump.ensures)
-
-pub returns-in-Stuck : goal.returns-in-Stuck
-returns-in-Stuck c = rw c.in-Stuck.is
+pub returns : goal.returns
+returns c = rw c.in_ok-branch.was (rw c.raised.ensures at c.branch_to.ensures)

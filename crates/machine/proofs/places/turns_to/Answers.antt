@@ -5,5 +5,5 @@ use Rattle.machine.specs.declared.Acted.TheVariants as acted
 use Rattle.machine.specs.declared.Ahead.TheVariants as ahead
 use Rattle.machine.proofs.places.turns_to.Goals as goal
 
-pub returns-in-To : goal.returns-in-To
-returns-in-To c = rw c.in-To.is (ap (λ (p : Place). acted.On p ahead.Any) c.raised.ensures)
+pub returns-in-Ok : goal.returns-in-Ok
+returns-in-Ok c = rw c.in-Ok.is (ap (λ (p : Place). acted.On p ahead.Any) c.raised.ensures)

@@ -4,5 +4,5 @@ use Rattle.machine.specs.declared.Place.{Place}
 use Rattle.machine.specs.declared.Acted.TheVariants as acted
 use Rattle.machine.proofs.places.values_to.Goals as goal
 
-pub returns-in-To : goal.returns-in-To
-returns-in-To c = rw c.in-To.is (ap (λ (p : Place). acted.On p c.args.ahead) c.raised.ensures)
+pub returns-in-Ok : goal.returns-in-Ok
+returns-in-Ok c = rw c.in-Ok.is (ap (λ (p : Place). acted.On p c.args.ahead) c.raised.ensures)

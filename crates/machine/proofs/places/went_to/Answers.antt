@@ -1,5 +1,5 @@
 -- `machine::places::went_to` meets its contract.
 use Rattle.machine.proofs.places.went_to.Goals as goal
 
-pub returns-in-On : goal.returns-in-On
-returns-in-On c = rw c.in-On.is
+pub returns-in-Ok : goal.returns-in-Ok
+returns-in-Ok c = rw c.in-Ok.is
