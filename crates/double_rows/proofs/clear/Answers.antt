@@ -1,6 +1,0 @@
--- `double_rows::clear` meets its contract.
-use Rattle.machine.proofs.RowLaws.{clear_goes}
-use Rattle.double_rows.proofs.clear.Goals as goal
-
-pub returns : goal.returns
-returns c = clear_goes c.zero.ensures c.requires

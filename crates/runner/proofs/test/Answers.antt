@@ -1,0 +1,14 @@
+-- `runner::test` meets its contract.
+use mathlib.Core.Path.{sym, ap, ◌∙◌}
+use mathlib.Core.Option.{some}
+use lib.Ieee.{nan}
+use Rattle.machine.proofs.RowLaws.{compares}
+use Rattle.runner.proofs.test.Goals as goal
+
+pub returns-then-less : goal.returns-then-less
+returns-then-less c =
+    compares nan c.requires.a_in c.requires.b_in (ap some (sym c.if-less.true ∙ c.less.ensures))
+
+pub returns-else-less : goal.returns-else-less
+returns-else-less c =
+    compares nan c.requires.a_in c.requires.b_in (ap some (sym c.if-less.false ∙ c.less.ensures))
