@@ -161,18 +161,12 @@ fn finish(shape: Shape, after: usize, length: usize) -> Result<Shape, No>
 pub fn read_sheet(words: &[u16]) -> Result<Shape, No>
     ensures { said result ≡ shape_read words.now }
 {
-    let counts = match sections::counts_read(words) {
-        Err(why) => return Err(why),
-        Ok(counts) => counts,
-    };
+    let counts = sections::counts_read(words)?;
     let variables = counts.variables;
     let constants = counts.constants;
     let rows = counts.rows;
     let first_row = 3 + variables + constants;
-    let longest = match blocks::rows_read(words, first_row, rows, variables, constants) {
-        Err(why) => return Err(why),
-        Ok(longest) => wide(longest),
-    };
+    let longest = wide(blocks::rows_read(words, first_row, rows, variables, constants)?);
     let after = first_row + rows * ROW_WORDS;
     let shape = Shape {
         variables,

@@ -5,8 +5,7 @@ ghost use Rattle.sheet.specs.Reading.{count_at, roles_fit};
 ghost use Rattle.sheet.specs.Inner.Steps.{count_said, roles_said, CountsSaid};
 
 use super::{
-    Counts, MAX_CONSTANTS, MAX_ROLE, MAX_ROWS, MAX_VARIABLES, MIN_VARIABLES, No,
-    ROW_WORDS, wide,
+    Counts, MAX_CONSTANTS, MAX_ROLE, MAX_ROWS, MAX_VARIABLES, MIN_VARIABLES, No, ROW_WORDS, wide,
 };
 
 // The count at a place, from low to high, of items of so many words each.
@@ -53,25 +52,15 @@ fn roles_fit(words: &[u16], count: usize) -> Result<(), No>
 pub fn counts_read(words: &[u16]) -> Result<Counts, No>
     ensures { CountsSaid words.now result }
 {
-    let variables = match count_at(words, 0, MIN_VARIABLES, MAX_VARIABLES, 1) {
-        Err(why) => return Err(why),
-        Ok(count) => count,
-    };
-    if let Err(why) = roles_fit(words, variables) {
-        return Err(why);
-    }
+    let variables = count_at(words, 0, MIN_VARIABLES, MAX_VARIABLES, 1)?;
+    roles_fit(words, variables)?;
     let constant_count = 1 + variables;
-    let constants = match count_at(words, constant_count, 0, MAX_CONSTANTS, 1) {
-        Err(why) => return Err(why),
-        Ok(count) => count,
-    };
+    let constants = count_at(words, constant_count, 0, MAX_CONSTANTS, 1)?;
     let row_count = constant_count + 1 + constants;
-    match count_at(words, row_count, 0, MAX_ROWS, ROW_WORDS) {
-        Err(why) => Err(why),
-        Ok(rows) => Ok(Counts {
-            variables,
-            constants,
-            rows,
-        }),
-    }
+    let rows = count_at(words, row_count, 0, MAX_ROWS, ROW_WORDS)?;
+    Ok(Counts {
+        variables,
+        constants,
+        rows,
+    })
 }
