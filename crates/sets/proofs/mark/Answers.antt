@@ -7,18 +7,18 @@ use Rattle.sets.proofs.mark.Goals as goal
 
 pub mark_accepted-ends-requires : goal.mark_accepted-ends-requires
 mark_accepted-ends-requires c =
-    accepted_laid _ _ _ c.read_sheet.ensures c.in-Accepted.is
+    accepted_laid _ _ _ c.read_sheet.ensures c.in-Ok.is
 
-pub returns-in-Refused : goal.returns-in-Refused
-returns-in-Refused c =
+pub returns-in-Err : goal.returns-in-Err
+returns-in-Err c =
     let contract = c.read_sheet.ensures in
-    let read = refused_read _ _ _ contract c.in-Refused.is in
-    (refused_marking _ c.in-Refused.why read, said_by _ _ _ _ read refl)
+    let read = refused_read _ _ _ contract c.in-Err.is in
+    (refused_marking _ c.in-Err.why read, said_by _ _ _ _ read refl)
 
-pub returns-in-Accepted : goal.returns-in-Accepted
-returns-in-Accepted c =
+pub returns-in-Ok : goal.returns-in-Ok
+returns-in-Ok c =
     let contract = c.read_sheet.ensures in
-    let is = c.in-Accepted.is in
+    let is = c.in-Ok.is in
     let laid = accepted_laid _ _ _ contract is in
     let left = c.mark_accepted-ends.ensures laid.sheet laid.accepted in
     (accepted_marking _ _ _ _ laid.accepted (sym (ap said is) ∙ contract) left.1, said_by _ _ _ _ laid.accepted left.0)
