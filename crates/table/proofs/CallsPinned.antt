@@ -8,6 +8,7 @@ use Rattle.sheet.specs.Judging.{Answer as Judged, refused, given}
 use Rattle.sheet.specs.Sheets.{Sheet, variables_of}
 use Rattle.sheet.specs.Reading.{read}
 use Rattle.sheet.specs.Answers.{refusal_of, shape_of}
+use Rattle.sheet.specs.declared.No.{No}
 use Rattle.sheet.specs.declared.Shape.{Shape}
 use Rattle.sheet.proofs.ReadingParts.{same_given}
 use Rattle.sheet.proofs.ReaderLaws.{same_said}

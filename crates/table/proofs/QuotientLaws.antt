@@ -15,6 +15,7 @@ use Rattle.sheet.specs.Rows.{quotient_kind}
 use Rattle.sheet.specs.Sheets.{Sheet, first_row, row_at, rows_at}
 use Rattle.sheet.specs.Reading.{read, undivided, read_in}
 use Rattle.sheet.specs.Answers.{shape_of}
+use Rattle.sheet.specs.declared.No.{No}
 use Rattle.sheet.proofs.TreeOfRows.{tree_of_rows}
 use Rattle.table.specs.Sizes.{Needs}
 use Rattle.table.specs.declared.Plan.{Plan}

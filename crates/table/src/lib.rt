@@ -97,10 +97,8 @@ pub fn plan_sheet(
         × MarksSaid (read words.now) (lent marks.old came.old goes.old)
         (lent marks.new came.new goes.new) }
 {
-    match sets::mark(words, marks, came, goes) {
-        Err(why) => Err(why),
-        Ok((shape, _)) => Ok(plan_of(words, shape, marks, came, goes)),
-    }
+    let (shape, _) = sets::mark(words, marks, came, goes)?;
+    Ok(plan_of(words, shape, marks, came, goes))
 }
 
 // Any words: the first refusal of 1 to 7, or the sizes of the sheet that they are.

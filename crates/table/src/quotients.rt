@@ -32,14 +32,10 @@ pub fn undivided(words: &[u16], planned: Result<Plan, No>) -> Result<Plan, No>
     ensures { (needs : Sheet → Needs) (marks came goes : List ℕ) → PlanSaysFor needs words.now marks came goes planned
         → PlanSaysIn false needs words.now marks came goes result }
 {
-    match planned {
-        Err(why) => Err(why),
-        Ok(plan) => {
-            let shape = plan.shape;
-            match first_quotient(words, shape.first_row, shape.rows) {
-                None => Ok(plan),
-                Some(place) => Err(No::HoldsQuotient(place)),
-            }
-        }
+    let plan = planned?;
+    let shape = plan.shape;
+    match first_quotient(words, shape.first_row, shape.rows) {
+        None => Ok(plan),
+        Some(place) => Err(No::HoldsQuotient(place)),
     }
 }

@@ -8,6 +8,7 @@ use Rattle.sheet.specs.Refusals.{holds_quotient}
 use Rattle.sheet.specs.Sheets.{Sheet}
 use Rattle.sheet.specs.Reading.{read, read_in}
 use Rattle.sheet.specs.Answers.{refusal_of, shape_of}
+use Rattle.sheet.specs.declared.No.{No}
 use Rattle.sets.specs.Marks.{mark_by}
 use Rattle.sets.specs.Rounds.{sets_of}
 use Rattle.table.specs.declared.Plan.{Plan}

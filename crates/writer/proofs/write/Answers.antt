@@ -6,31 +6,31 @@ use Rattle.table.specs.Computed.{needs_of}
 use Rattle.table.specs.Inner.Plans.{PlanMade}
 use Rattle.table.proofs.CallLaws.{when_refused, when_made}
 use Rattle.writer.proofs.CallLaws.{written_refused, written_small, written_made, write_by_lem}
-use Rattle.writer.proofs.write.Goals.{In-Made}
+use Rattle.writer.proofs.write.Goals.{In-Ok}
 use Rattle.writer.proofs.write.Goals as goal
 
 -- the plan that was made
-plan_made : (c : In-Made) → PlanMade c.args.words.now c.in-Made.plan c.plan_sheet.new.marks
+plan_made : (c : In-Ok) → PlanMade c.args.words.now c.in-Ok.plan c.plan_sheet.new.marks
     c.plan_sheet.new.came c.plan_sheet.new.goes
-plan_made c = when_made needs_of _ _ _ _ _ c.in-Made.is c.plan_sheet.ensures.0
+plan_made c = when_made needs_of _ _ _ _ _ c.in-Ok.is c.plan_sheet.ensures.0
 
 pub returns-then-not-has_room : goal.returns-then-not-has_room
 unfolding number_of
 returns-then-not-has_room c =
-    write_by_lem _ _ (written_small _ _ _ _ (plan_made (goal.at.returns-then-not-has_room c).In-Made) (sym c.has_room.ensures ∙ c.if-not-has_room.true))
+    write_by_lem _ _ (written_small _ _ _ _ (plan_made (goal.at.returns-then-not-has_room c).In-Ok) (sym c.has_room.ensures ∙ c.if-not-has_room.true))
 
 pub write_planned-requires : goal.write_planned-requires
 write_planned-requires c =
     let fits = sym c.has_room.ensures ∙ c.if-not-has_room.false in
-    record { planned = plan_made (goal.at.write_planned-requires c).In-Made; table_fits = leb-true _ _ fits }
+    record { planned = plan_made (goal.at.write_planned-requires c).In-Ok; table_fits = leb-true _ _ fits }
 
-pub returns-in-Refused : goal.returns-in-Refused
-returns-in-Refused c =
+pub returns-in-Err : goal.returns-in-Err
+returns-in-Err c =
     let args = c.args in
     let words = args.words.now in
-    write_by_lem _ _ (written_refused _ _ words args.table.now _ _ _ (when_refused needs_of words _ _ _ _ c.in-Refused.is c.plan_sheet.ensures.0) c.number_of.ensures c.place_of.ensures)
+    write_by_lem _ _ (written_refused _ _ words args.table.now _ _ _ (when_refused needs_of words _ _ _ _ c.in-Err.is c.plan_sheet.ensures.0) c.number_of.ensures c.place_of.ensures)
 
 pub returns-else-not-has_room : goal.returns-else-not-has_room
 returns-else-not-has_room c =
     let fits = sym c.has_room.ensures ∙ c.if-not-has_room.false in
-    write_by_lem _ _ (written_made _ _ _ _ (plan_made (goal.at.returns-else-not-has_room c).In-Made) _ fits (λ sheet e. (c.write_planned.ensures sheet e).words))
+    write_by_lem _ _ (written_made _ _ _ _ (plan_made (goal.at.returns-else-not-has_room c).In-Ok) _ fits (λ sheet e. (c.write_planned.ensures sheet e).words))
