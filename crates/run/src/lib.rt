@@ -3,12 +3,10 @@
 #![tactic(auto)]
 
 pub mod buffers;
-pub mod calls_audit;
-pub mod calls_double;
+pub mod calls;
 pub mod refusals;
 
-pub use calls_audit::run_audit;
-pub use calls_double::run_double;
+pub use calls::{run_audit, run_double};
 pub use refusals::NOT_FINITE_RESULT;
 use table::{Plan, Reply};
 

@@ -1,15 +1,15 @@
 // Refusals 1 to 11 and 13, judged one after another, and the numbers 9 to 12.
 ghost use Rattle.std.specs.Prelude.{◌≡◌, Bool, List, ◌++◌, ℕ, ◌+◌, ◌^◌, ◌<◌, length};
-ghost use Rattle.number.specs.Doubles.{doubles};
+ghost use Rattle.number.specs.Arithmetic.{arithmetic_on, divides};
 ghost use Rattle.sheet.specs.Sheets.{Sheet};
 ghost use Rattle.table.specs.Sizes.{Needs};
-ghost use Rattle.table.specs.Inner.Plans.{PlanSaysIn};
+ghost use Rattle.table.specs.Inner.Plans.{PlanSaysFor, PlanSaysIn, RowsWithin};
 ghost use Rattle.run.specs.Calls.{all_admitted};
 ghost use Rattle.run.specs.Inner.CallSteps.{fit_said, unfit_refusal, table_fits, stacks_fit, lengths_fit, rooms_fit, Answers, JudgedAs, answer_at};
 
 use super::{Rooms, Unfit};
 use machine::Ended;
-use number::double;
+use number::Number;
 use sheet::No;
 use table::{Plan, Reply};
 
@@ -68,39 +68,44 @@ pub fn lengths_fit(variables: usize, starts: usize, seeds: usize, res: usize) ->
 }
 
 // 11: the numbers are judged in their order, the first one at this place.
-fn finite_from(numbers: &[f64], place: usize) -> Result<(), Unfit>
+fn admitted_from<N: Number>(numbers: &[N], place: usize) -> Result<(), Unfit>
     requires { place + length numbers.now < 2 ^ 64 }
-    ensures { fit_said result ≡ all_admitted doubles numbers.now place }
+    ensures { fit_said result ≡ all_admitted (arithmetic_on N.operations) numbers.now place }
 {
-    let mut i: usize = 0;
-    while i < numbers.len() {
-        if !double::is_finite(numbers[i]) {
+    for (i, number) in numbers.iter().enumerate() {
+        if !number.is_admitted() {
             return Err(Unfit::NotFinite(place + i));
         }
-        i += 1;
     }
     Ok(())
 }
 
-pub fn all_finite(starts: &[f64], seeds: &[f64]) -> Result<(), Unfit>
-    ensures { fit_said result ≡ all_admitted doubles (starts.now ++ seeds.now) 0 }
+pub fn all_admitted<N: Number>(starts: &[N], seeds: &[N]) -> Result<(), Unfit>
+    ensures { fit_said result ≡ all_admitted (arithmetic_on N.operations) (starts.now ++ seeds.now) 0 }
 {
-    if let Err(why) = finite_from(starts, 0) {
-        return Err(why);
+    admitted_from(starts, 0)?;
+    admitted_from(seeds, starts.len())
+}
+
+// 13, where the arithmetic doesn't divide: the plan is for it as well, or refused.
+pub fn divisible<N: Number>(words: &[u16], planned: Result<Plan, No>) -> Result<Plan, No>
+    requires { RowsWithin words.now planned }
+    ensures { (needs : Sheet → Needs) (marks came goes : List ℕ) → PlanSaysFor needs words.now marks came goes planned
+        → PlanSaysIn (divides (arithmetic_on N.operations)) needs words.now marks came goes result }
+{
+    if N::divides() {
+        planned
+    } else {
+        table::undivided(words, planned)
     }
-    finite_from(seeds, starts.len())
 }
 
 // 8 to 10
 fn rooms_fit(plan: Plan, rooms: Rooms) -> Result<(), Unfit>
     ensures { fit_said result ≡ rooms_fit plan rooms }
 {
-    if let Err(why) = table_fits(plan.rows, rooms.table) {
-        return Err(why);
-    }
-    if let Err(why) = stacks_fit(plan.values, rooms.values, plan.turns, rooms.turns) {
-        return Err(why);
-    }
+    table_fits(plan.rows, rooms.table)?;
+    stacks_fit(plan.values, rooms.values, plan.turns, rooms.turns)?;
     let shape = plan.shape;
     lengths_fit(shape.variables, rooms.starts, rooms.seeds, rooms.result)
 }

@@ -16,14 +16,12 @@ ghost use Rattle.tangent.specs.Inner.TangentPlans.{TangentPlanned};
 use sheet::RowNumber;
 use table::{MAX_TABLE_ROWS, Plan, Reply};
 
-mod calls_audit;
-mod calls_double;
+mod calls;
 pub mod count;
 mod rows;
 mod sweep;
 
-pub use calls_audit::tangent_audit;
-pub use calls_double::tangent_double;
+pub use calls::{tangent_audit, tangent_double};
 pub use sweep::rows_before;
 
 // The plan of an accepted sheet, from its rows' marks. The partners are there for what the plan says of them.
