@@ -1,5 +1,7 @@
 -- Refusals 1 to 11 in a call's order, and the run behind them.
 use Prim.Native.Nat.{ℕ}
+use Rattle.run.specs.declared.Unfit.{Unfit}
+use Rattle.sheet.specs.declared.No.{No}
 use Rattle.std.specs.Prelude.{Err, Ok, Result}
 use mathlib.Core.Path.{◌≡◌, sym, ap, ◌∙◌}
 use mathlib.Core.Bool.{Bool, true}

@@ -1,5 +1,6 @@
 -- The steps of a call: refusals 1 to 11 one by one, an answer's number and place, and what is laid into and read out of whole buffers.
 use Rattle.std.specs.Prelude.{ℕ, ◌*◌, ◌≤◌, ◌≡◌, Bool, List, ◌++◌, length, leb, eqb}
+use Rattle.table.specs.declared.Reply.{Reply}
 use Rattle.std.specs.Prelude.{Err, Ok, Result}
 use Rattle.number.specs.Arithmetic.{Arithmetic}
 use Rattle.number.specs.Doubles.{doubles}
@@ -11,7 +12,6 @@ use Rattle.sheet.specs.Sheets.{Sheet, variables_of}
 use Rattle.table.specs.Sizes.{Needs, table_room}
 use Rattle.table.specs.Calls.{read_for}
 use Rattle.table.specs.Inner.Plans.{PlanMadeFor}
-use Rattle.table.specs.declared.Reply as answered
 use Rattle.table.specs.declared.Plan.{Plan}
 use Rattle.machine.specs.Actions.{counting}
 use Rattle.machine.specs.declared.Ended.{Ended}
@@ -73,12 +73,12 @@ fit_said (Err why) = refused (unfit_refusal why)
 fit_said (Ok _) = given tt
 
 -- a refusal's number and place
-pub record Answers (answer : answered.Reply) (why : Refusal) : Type 0 where
+pub record Answers (answer : Reply) (why : Refusal) : Type 0 where
   pub number : answer.number ≡ number_of why
   pub place : answer.place ≡ place_of why
 
 -- refused by one of these, and answered so
-pub record NoRoom (divides : Bool) (needs : Sheet → Needs) (words : List ℕ) (rooms : Rooms) (answer : answered.Reply) : Type 0 where
+pub record NoRoom (divides : Bool) (needs : Sheet → Needs) (words : List ℕ) (rooms : Rooms) (answer : Reply) : Type 0 where
   pub why : Refusal
   pub is : read_with_room divides needs words rooms ≡ refused why
   pub answers : Answers answer why
@@ -99,7 +99,7 @@ JudgedAs divides needs words rooms marks came goes (Ok plan) = HasRoom divides n
 -- ---- a run's end
 
 -- 0; 12 at its row; the number of no run, which is one for both arithmetics
-unfoldable pub answer_at : Ended → answered.Reply
+unfoldable pub answer_at : Ended → Reply
 unfolding number_of place_of
 answer_at ended.Finished = record { number = 0; place = 0 }
 answer_at (ended.Stopped row) =
