@@ -131,7 +131,6 @@ struct Level {
 // What a row that fits does to the blocks.
 #[derive(Clone, Copy)]
 enum Step {
-    BadBlock,
     Stay(Level),
     Enter(Level),
     Leave(Level),
@@ -162,17 +161,14 @@ pub fn read_sheet(words: &[u16]) -> Result<Shape, No>
     ensures { said result ≡ shape_read words.now }
 {
     let counts = sections::counts_read(words)?;
-    let variables = counts.variables;
-    let constants = counts.constants;
-    let rows = counts.rows;
-    let first_row = 3 + variables + constants;
-    let longest = wide(blocks::rows_read(words, first_row, rows, variables, constants)?);
-    let after = first_row + rows * ROW_WORDS;
+    let first_row = 3 + counts.variables + counts.constants;
+    let longest = wide(blocks::rows_read(words, first_row, counts)?);
+    let after = first_row + counts.rows * ROW_WORDS;
     let shape = Shape {
-        variables,
-        constants,
-        rows,
-        first_constant: 2 + variables,
+        variables: counts.variables,
+        constants: counts.constants,
+        rows: counts.rows,
+        first_constant: 2 + counts.variables,
         first_row,
         longest,
     };
