@@ -8,10 +8,6 @@ use Rattle.sheet.specs.Inner.Words.{word_values}
 use Rattle.sheet.specs.Bounds.{limit}
 use Rattle.sheet.specs.Inner.Steps.{saturated}
 
--- two words multiplied stay far below 2^64
-pub product_small : (m n : ℕ) → m < word_values → n < word_values → m * (1 + n) ≤ word_values * word_values
-product_small m n h k = let p : m ≤ word_values = omega arith in let q : 1 + n ≤ word_values = omega arith in mul-le-mul p q
-
 pub saturated_sum : (a b : ℕ) → saturated (saturated a + b) ≡ saturated (a + b)
 unfolding saturated
 saturated_sum a b = omega arith

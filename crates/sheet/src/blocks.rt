@@ -118,7 +118,11 @@ pub fn rows_read(words: &[u16], first: usize, counts: Counts) -> Result<u16, No>
         × (counts.variables ≤ limit.variables) × (counts.constants ≤ limit.constants) }
     ensures { body_said result ≡ body_run counts.variables counts.constants (rows_at words.now first counts.rows) first [] [] }
 {
-    let rules = rows::rules_of(counts.variables as u16, counts.constants as u16);
+    let named = rows::Named {
+        variables: counts.variables as u16,
+        constants: counts.constants as u16,
+    };
+    let rules = named.rules();
     let mut levels = [OUTERMOST; MAX_DEPTH + 1];
     let mut depth: usize = 0;
     let mut inner = OUTERMOST;

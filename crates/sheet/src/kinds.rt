@@ -140,11 +140,7 @@ pub fn form_in(forms: [Form; LAST + 1], kind: u16) -> Form
     requires { forms ≡ all_forms }
     ensures { result ≡ form_for kind }
 {
-    let number = wide(kind);
-    if LAST < number {
-        return NO_FORM;
-    }
-    forms[number]
+    forms.get(wide(kind)).copied().unwrap_or(NO_FORM)
 }
 
 pub fn names_variable(slot: Slot) -> bool

@@ -18,19 +18,19 @@ loop-number-init c = going_starts _ _ _ _ _ _ refl (omega arith)
 
 pub returns-then-kind-gt-LAST : goal.returns-then-kind-gt-LAST
 returns-then-kind-gt-LAST c =
-    no_kind c.loop-number.invariant c.loop-number-test.true _ c.rules_of-rules.ensures c.row_at-row.ensures c.wide-kind.ensures.0 c.if-kind-gt-LAST.true
+    no_kind c.loop-number.invariant c.loop-number-test.true _ c.rules-rules.ensures c.row_at-row.ensures c.wide-kind.ensures.0 c.if-kind-gt-LAST.true
 
 pub returns-then-not-row_fits : goal.returns-then-not-row_fits
 returns-then-not-row_fits c =
-    row_unfit c.loop-number.invariant c.loop-number-test.true _ c.rules_of-rules.ensures c.row_at-row.ensures c.wide-kind.ensures.0
+    row_unfit c.loop-number.invariant c.loop-number-test.true _ c.rules-rules.ensures c.row_at-row.ensures c.wide-kind.ensures.0
     c.if-kind-gt-LAST.false (sym c.if-not-row_fits.ensures)
 
 pub loop-number-preserved-then-eq : goal.loop-number-preserved-then-eq
 unfolding step_of
 loop-number-preserved-then-eq c =
-    let assigns : (get_or c.rules_of-rules.result c.wide-kind.result no_rule).part ≡ part.Assignment = search rules in
+    let assigns : (get_or c.rules-rules.result c.wide-kind.result no_rule).part ≡ part.Assignment = search rules in
     row_stays c.loop-number.invariant c.loop-number-test.true _
-    (row_says c.loop-number.invariant c.loop-number-test.true _ c.rules_of-rules.ensures c.row_at-row.ensures c.wide-kind.ensures.0
+    (row_says c.loop-number.invariant c.loop-number-test.true _ c.rules-rules.ensures c.row_at-row.ensures c.wide-kind.ensures.0
     c.if-kind-gt-LAST.false (sym c.if-not-row_fits.ensures) (Some (step.Stay c.counted-inner.result)) (turns_in (row_said c.row_at-row.result)) refl
     (rw (assigns, c.counted-inner.ensures)))
 
@@ -43,7 +43,7 @@ module _ (c : After-follow) where
 
   says : (s : Option Step) → c.follow.result ≡ s → Says s
   says s is =
-      row_says c.loop-number.invariant c.loop-number-test.true _ c.rules_of-rules.ensures c.row_at-row.ensures c.wide-kind.ensures.0
+      row_says c.loop-number.invariant c.loop-number-test.true _ c.rules-rules.ensures c.row_at-row.ensures c.wide-kind.ensures.0
       c.if-kind-gt-LAST.false (sym c.if-not-row_fits.ensures) s _ c.turns_of-turns.ensures (sym is ∙ c.follow.ensures)
 
 pub returns-in_default : goal.returns-in_default
