@@ -1,10 +1,9 @@
 -- W up to one above its bound: sums, products and the larger of two can be taken of it as of W.
-use Prim.Native.Nat.{ℕ, zero, suc, ◌+◌, ◌*◌, ◌≤◌, ◌<◌, max}
+use Prim.Native.Nat.{ℕ, zero, suc, ◌+◌, ◌*◌, ◌≤◌, max}
 use mathlib.Core.Path.{◌≡◌}
 use native.Mathlib.Decide.{dec_le}
 use native.Mathlib.Omega.{arith}
-use native.Mathlib.Nat.{mul-le-mul, suc-mul, min-eq_left, min-eq_right}
-use Rattle.sheet.specs.Inner.Words.{word_values}
+use native.Mathlib.Nat.{suc-mul, min-eq_left, min-eq_right}
 use Rattle.sheet.specs.Bounds.{limit}
 use Rattle.sheet.specs.Inner.Steps.{saturated}
 

@@ -144,6 +144,7 @@ pub fn wide(x: u16) -> usize
 }
 
 // What is judged after the rows: words that are left, then W.
+#[tactic(auto, unfolding(crate::specs::Inner::Steps::finish_of))]
 fn finish(shape: Shape, after: usize, length: usize) -> Result<Shape, No>
     ensures { result ≡ finish_of shape after length }
 {
@@ -215,15 +216,17 @@ pub fn word_at(words: &[u16], place: usize) -> u16
 }
 
 // The row at a place.
+#[tactic(auto, unfolding(crate::specs::Sheets::row_at))]
 fn row_at(words: &[u16], place: usize) -> RowWords
     requires { place + limit.row_words ≤ length words.now }
     ensures { row_said result ≡ row_at words.now place }
 {
-    let kind = words[place];
-    let d = words[place + 1];
-    let a = words[place + 2];
-    let b = words[place + 3];
-    RowWords { kind, d, a, b }
+    RowWords {
+        kind: words[place],
+        d: words[place + 1],
+        a: words[place + 2],
+        b: words[place + 3],
+    }
 }
 
 // A row, by its number among the rows that start at `first`.
@@ -231,6 +234,5 @@ pub fn row_of(words: &[u16], first: usize, row: RowNumber) -> RowWords
     requires { first + (row.0 + 1) * limit.row_words ≤ length words.now }
     ensures { row_said result ≡ row_at words.now (first + row.0 * limit.row_words) }
 {
-    let number = row.0;
-    row_at(words, first + number * ROW_WORDS)
+    row_at(words, first + row.0 * ROW_WORDS)
 }
