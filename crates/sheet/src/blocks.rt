@@ -112,7 +112,8 @@ fn after_rows(depth: usize, longest: u16, place: usize) -> Result<u16, No>
 }
 
 // The rows, each judged as it is followed: the W of what they are. Entry n of the levels, from 1 on, is the level outside the block n deep,
-// as it was when that block was opened: a stack of fixed size, since a library call uses no heap.
+// as it was when that block was opened: a stack of fixed size with its depth beside it, since a library call uses no heap. It is pushed and popped
+// at one place each, so that methods for it would be three contracts for three lines.
 pub fn rows_read(words: &[u16], first: usize, counts: Counts) -> Result<u16, No>
     requires { (first + counts.rows * limit.row_words ≤ length words.now)
         × (counts.variables ≤ limit.variables) × (counts.constants ≤ limit.constants) }

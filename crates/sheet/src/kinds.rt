@@ -5,6 +5,7 @@ ghost use Rattle.sheet.specs.Inner.Kinds.{all_forms, form_for, names_variable, a
 
 use super::{RowWords, wide};
 
+// Numbers and no enum: they are words of sheets and of tables, where others stand among them, and places in FORMS.
 pub const COPY: u16 = 1;
 
 pub const CONSTANT: u16 = 2;

@@ -66,7 +66,7 @@ pub struct Shape {
     pub longest: usize,
 }
 
-// The roles besides 0, a parameter.
+// The roles besides 0, a parameter. They stay words: an enum would only be taken apart again into the two questions below.
 const INDEPENDENT: u16 = 1;
 
 const DEPENDENT: u16 = 2;

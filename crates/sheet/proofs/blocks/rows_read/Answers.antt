@@ -23,7 +23,7 @@ returns-then-kind-gt-LAST c =
 pub returns-then-not-row_fits : goal.returns-then-not-row_fits
 returns-then-not-row_fits c =
     row_unfit c.loop-number.invariant c.loop-number-test.true _ c.rules-rules.ensures c.row_at-row.ensures c.wide-kind.ensures.0
-    c.if-kind-gt-LAST.false (sym c.if-not-row_fits.ensures)
+    c.if-kind-gt-LAST.false (sym c.row_fits.ensures ∙ c.if-not-row_fits.true)
 
 pub loop-number-preserved-then-eq : goal.loop-number-preserved-then-eq
 unfolding step_of
@@ -31,7 +31,7 @@ loop-number-preserved-then-eq c =
     let assigns : (get_or c.rules-rules.result c.wide-kind.result no_rule).part ≡ part.Assignment = search rules in
     row_stays c.loop-number.invariant c.loop-number-test.true _
     (row_says c.loop-number.invariant c.loop-number-test.true _ c.rules-rules.ensures c.row_at-row.ensures c.wide-kind.ensures.0
-    c.if-kind-gt-LAST.false (sym c.if-not-row_fits.ensures) (Some (step.Stay c.counted-inner.result)) (turns_in (row_said c.row_at-row.result)) refl
+    c.if-kind-gt-LAST.false (sym c.row_fits.ensures ∙ c.if-not-row_fits.false) (Some (step.Stay c.counted-inner.result)) (turns_in (row_said c.row_at-row.result)) refl
     (rw (assigns, c.counted-inner.ensures)))
 
 -- of a row of the blocks, what it does to them says what it comes to
@@ -44,7 +44,7 @@ module _ (c : After-follow) where
   says : (s : Option Step) → c.follow.result ≡ s → Says s
   says s is =
       row_says c.loop-number.invariant c.loop-number-test.true _ c.rules-rules.ensures c.row_at-row.ensures c.wide-kind.ensures.0
-      c.if-kind-gt-LAST.false (sym c.if-not-row_fits.ensures) s _ c.turns_of-turns.ensures (sym is ∙ c.follow.ensures)
+      c.if-kind-gt-LAST.false (sym c.row_fits.ensures ∙ c.if-not-row_fits.false) s _ c.turns_of-turns.ensures (sym is ∙ c.follow.ensures)
 
 pub returns-in_default : goal.returns-in_default
 returns-in_default c =
