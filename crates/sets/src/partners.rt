@@ -120,15 +120,12 @@ pub fn find_partners(words: &[u16], extent: Extent, came: &mut [u16], goes: &mut
         came.old goes.old came.new goes.new }
 {
     let forms = kinds::forms();
-    let rows = extent.rows;
     let mut top = RowNumber(0);
-    let mut number: usize = 0;
-    while number < rows {
+    for number in 0..extent.rows {
         let row = RowNumber(number);
         let kind = rows::kind_of(words, extent.first, row);
         let form = forms[kind];
         let part = form.3;
         top = partner_step(words, extent.first, part, row, top, came, goes);
-        number += 1;
     }
 }
