@@ -5,7 +5,7 @@ ghost use Rattle.sets.specs.Transfers.{any_read, reads, varied_after, useful_bef
 ghost use Rattle.sets.specs.Inner.Operations.{mask_bits, InMask, named_by, PerformsRow, TargetSmall, Gives, activity_by};
 ghost use Rattle.sets.specs.Inner.RowEquations.{RowThere, Formed};
 
-use super::masks;
+use super::{LaidSheet, masks};
 use sheet::kinds::{Form, Slot};
 use sheet::{RowNumber, Variable, kinds};
 
@@ -38,12 +38,13 @@ fn named(slot: Slot, word: u16) -> u64
 }
 
 // An assignment's operation, `form` being that of its kind.
-pub fn operation_at(words: &[u16], first: usize, row: RowNumber, form: Form) -> MaskedAssignment
-    requires { RowThere words.now first row.0 × Formed words.now first row.0 form × InMask (numbered_row words.now first row.0) }
-    ensures { PerformsRow result (numbered_row words.now first row.0) × TargetSmall result }
+pub fn operation_at(laid: LaidSheet, row: RowNumber, form: Form) -> MaskedAssignment
+    requires { RowThere laid.words.now laid.first row.0 × Formed laid.words.now laid.first row.0 form × InMask (numbered_row laid.words.now laid.first row.0) }
+    ensures { PerformsRow result (numbered_row laid.entry.words.now laid.entry.first row.0) × TargetSmall result }
 {
     let number = row.0;
-    let from = first + number * sheet::ROW_WORDS;
+    let words = laid.words;
+    let from = laid.first + number * sheet::ROW_WORDS;
     let of_a = form.1;
     let of_b = form.2;
     let kind = words[from];

@@ -6,4 +6,4 @@ use Rattle.sets.proofs.partners.find_partners.Given as goal
 
 abbrev pub invariant-loop-number : goal.invariant-loop-number
 invariant-loop-number l =
-    Finding (line_in l.words l.extent.first) l.extent.rows l.initial.came l.initial.goes l.came l.goes l.top.0 l.number
+    Finding (line_in l.laid.words.now l.laid.first) l.laid.rows l.initial.came l.initial.goes l.came l.goes l.top.0 l.number
