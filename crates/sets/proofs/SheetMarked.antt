@@ -173,9 +173,6 @@ module _ {words : List ℕ} {variables first count : ℕ} (laid : Laid words var
     unfolding points
     settles which activity es partners others sets clear lp lo e proper wired =
         record {
-          readable = known.readable;
-          variables_small = known.variables_small;
-          roles_there = known.roles_there;
           clear = clear;
           partnered = lp;
           others_there = lo;

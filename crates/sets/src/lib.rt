@@ -2,14 +2,15 @@
 // In reading order: masks, rows, transfers, partners, marks, analyses, equations, walk.
 #![tactic(auto)]
 
-ghost use Rattle.std.specs.Prelude.{◌≡◌, ◌<◌, length};
+ghost use Rattle.std.specs.Prelude.{◌≡◌, ◌≤◌, ◌<◌, length};
 ghost use Rattle.sheet.specs.Judging.{given};
 ghost use Rattle.sheet.specs.Sheets.{Sheet};
 ghost use Rattle.sheet.specs.Reading.{read};
 ghost use Rattle.sets.specs.Calls.{lent, SheetMarks, MarksSaid, ends_at, ends_of, marking_said, marking_read};
 ghost use Rattle.sets.specs.Rounds.{set_at};
-ghost use Rattle.sets.specs.Inner.RowEquations.{line_in};
+ghost use Rattle.sets.specs.Inner.RowEquations.{AllReadable, line_in};
 ghost use Rattle.sets.specs.Inner.Laid.{Laid, ClearRoom, AllMarked, EndsFound};
+ghost use Rattle.sets.specs.Inner.Operations.{mask_bits};
 ghost use Rattle.sets.specs.Inner.PartnerPass.{PartnersFound};
 
 mod analyses;
@@ -33,13 +34,17 @@ pub const ACTIVE: u8 = 4;
 
 pub const SAVED: u8 = 8;
 
-// An accepted sheet's words: where its rows start among them, how many there are, and over how many variables.
+// An accepted sheet's words: where its rows start among them, how many there are, and over how many variables. Each row can be read, and a mask has a bit
+// for each variable.
 #[derive(Clone, Copy)]
 struct LaidSheet<'a> {
     pub words: &'a [u16],
     pub first: usize,
     pub rows: usize,
     pub variables: usize,
+    ghost readable: { AllReadable words.now first rows },
+    ghost small: { variables ≤ mask_bits },
+    ghost roles: { variables < length words.now },
 }
 
 // The variables useful before the first row, and those varied after the last.

@@ -3,7 +3,7 @@
 // it takes.
 ghost use Rattle.std.specs.Prelude.{◌≡◌, suc, ◌+◌, ◌<◌, get_or, set, length};
 ghost use Rattle.sheet.specs.Inner.Words.{word_values};
-ghost use Rattle.sets.specs.Inner.RowEquations.{RowReadable, AllReadable, line_in};
+ghost use Rattle.sets.specs.Inner.RowEquations.{line_in};
 ghost use Rattle.sheet.specs.Inner.Kinds.{opens_test};
 ghost use Rattle.sets.specs.Inner.PartnerPass.{found, paired, way_out, ended, found_by, Findable, Listed, PartnersFound};
 
@@ -95,7 +95,7 @@ fn partner_step(
     came: &mut [u16],
     goes: &mut [u16],
 ) -> RowNumber
-    requires { Listed came.old goes.old row.0 × Listed came.old goes.old top.0 × (top.0 + 1 < word_values) × RowReadable laid.words.now laid.first top.0 }
+    requires { Listed came.old goes.old row.0 × Listed came.old goes.old top.0 × (top.0 + 1 < word_values) × (top.0 < laid.rows) }
     ensures { found result.0 came.new goes.new
         ≡ found_by part (opens_test (line_in laid.entry.words.now laid.entry.first top.0)) row.0 (found top.0 came.old goes.old) }
 {
@@ -120,8 +120,7 @@ fn partner_step(
 }
 
 pub fn find_partners(laid: LaidSheet, came: &mut [u16], goes: &mut [u16])
-    requires { AllReadable laid.words.now laid.first laid.rows
-        × Findable (line_in laid.words.now laid.first) laid.rows came.old goes.old }
+    requires { Findable (line_in laid.words.now laid.first) laid.rows came.old goes.old }
     ensures { PartnersFound (line_in laid.entry.words.now laid.entry.first) laid.entry.rows
         came.old goes.old came.new goes.new }
 {

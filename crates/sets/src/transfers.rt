@@ -1,9 +1,10 @@
 // An assignment as the code has it: what it reads, and what it does to each of the three sets.
-ghost use Rattle.std.specs.Prelude.{◌≡◌, ◌<◌};
+ghost use Rattle.std.specs.Prelude.{◌≡◌, ◌<◌, true};
 ghost use Rattle.sheet.specs.Inner.RowLines.{source_of, numbered_row};
+ghost use Rattle.sheet.specs.Inner.Kinds.{assigns};
 ghost use Rattle.sets.specs.Transfers.{any_read, reads, varied_after, useful_before, activity_of, adjoint_use, required_after, recorded_by};
-ghost use Rattle.sets.specs.Inner.Operations.{mask_bits, InMask, named_by, PerformsRow, TargetSmall, Gives, activity_by};
-ghost use Rattle.sets.specs.Inner.RowEquations.{RowThere, Formed};
+ghost use Rattle.sets.specs.Inner.Operations.{mask_bits, named_by, PerformsRow, TargetSmall, Gives, activity_by};
+ghost use Rattle.sets.specs.Inner.RowEquations.{Formed};
 
 use super::{LaidSheet, masks};
 use sheet::kinds::{Form, Slot};
@@ -39,7 +40,7 @@ fn named(slot: Slot, word: u16) -> u64
 
 // An assignment's operation, `form` being that of its kind.
 pub fn operation_at(laid: LaidSheet, row: RowNumber, form: Form) -> MaskedAssignment
-    requires { RowThere laid.words.now laid.first row.0 × Formed laid.words.now laid.first row.0 form × InMask (numbered_row laid.words.now laid.first row.0) }
+    requires { (row.0 < laid.rows) × Formed laid.words.now laid.first row.0 form × (assigns form.3 ≡ true) }
     ensures { PerformsRow result (numbered_row laid.entry.words.now laid.entry.first row.0) × TargetSmall result }
 {
     let number = row.0;

@@ -3,7 +3,7 @@ ghost use Rattle.std.specs.Prelude.{◌≡◌, suc, ◌+◌, ◌≤◌, ◌<◌,
 ghost use Rattle.sheet.specs.Inner.Words.{word_values};
 ghost use Rattle.sheet.specs.Rows.{Assignment};
 ghost use Rattle.sets.specs.Rounds.{set_at, least};
-ghost use Rattle.sets.specs.Inner.Operations.{mask_bits, TargetSmall, Gives, Performs};
+ghost use Rattle.sets.specs.Inner.Operations.{TargetSmall, Gives, Performs};
 ghost use Rattle.sets.specs.Inner.Analyses.{Lends, LendsAt, known_at, marked_at, marks_left};
 ghost use Rattle.sets.specs.Inner.RowEquations.{given_by, known_by, line_in, turn_of, row_in_turn, own_point, settled_point};
 ghost use Rattle.sets.specs.Inner.RowEquations.{start_of, all_equations, seed_in};
@@ -69,7 +69,6 @@ fn start_of<A: Analysis>(analysis: A, rows: usize) -> usize
 
 // What the start point has: the variables with the role, from the last on.
 fn seed_of<A: Analysis>(analysis: A, laid: LaidSheet) -> u64
-    requires { (laid.variables ≤ mask_bits) × (laid.variables < length laid.words.now) }
     ensures { result ≡ seed_in A.which laid.entry.words.now laid.entry.variables }
 {
     let mut seed: u64 = 0;
@@ -82,7 +81,7 @@ fn seed_of<A: Analysis>(analysis: A, laid: LaidSheet) -> u64
 
 // Puts into the start point's set what it has from outside the sheet's rows.
 fn begin<A: Analysis>(analysis: A, laid: LaidSheet, sets: &mut [u64]) -> WalkedTo
-    requires { (laid.variables ≤ mask_bits) × (laid.variables < length laid.words.now) × (laid.rows < length sets.old) }
+    requires { laid.rows < length sets.old }
     ensures { (result.turn ≡ 0) × Grown sets.old (start_of A.which laid.entry.rows)
         (seed_in A.which laid.entry.words.now laid.entry.variables) sets.new result.own }
 {

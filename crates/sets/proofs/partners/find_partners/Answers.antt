@@ -6,20 +6,16 @@ use Rattle.sets.proofs.partners.find_partners.Goals as goal
 
 pub loop-number-init : goal.loop-number-init
 loop-number-init c =
-    finding_starts _ _ _ _ c.requires.1
-
-pub kind_of-kind-requires : goal.kind_of-kind-requires
-kind_of-kind-requires c = c.requires.0 _ c.loop-number-test.true
+    finding_starts _ _ _ _ c.requires
 
 pub partner_step-top-requires : goal.partner_step-top-requires
 partner_step-top-requires c =
-    let listed = both_listed _ _ _ _ c.requires.1 c.loop-number.invariant c.loop-number-test.true (λ p h. (c.requires.0 p h).numbered) in
-    (listed.0, listed.1, listed.2, c.requires.0 _ listed.3)
+    both_listed _ _ _ _ c.requires c.loop-number.invariant c.loop-number-test.true (λ p h. (c.args.laid.readable p h).numbered)
 
 pub loop-number-preserved : goal.loop-number-preserved
 loop-number-preserved c =
     finding_on _ _ _ _ _ _ _ _ c.loop-number.invariant c.loop-number-test.true _
-    (part_read (c.requires.0 _ c.loop-number-test.true) (form_read c.forms-forms.ensures c.kind_of-kind.ensures)) _ _ _ c.partner_step-top.ensures
+    (part_read (c.args.laid.readable _ c.loop-number-test.true) (form_read c.forms-forms.ensures c.kind_of-kind.ensures)) _ _ _ c.partner_step-top.ensures
     c.partner_step-top.auto.came c.partner_step-top.auto.goes
 
 pub returns : goal.returns
