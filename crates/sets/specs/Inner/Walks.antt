@@ -6,21 +6,17 @@ use Rattle.sheet.specs.declared.kinds.Part.{Part}
 use Rattle.sheet.specs.declared.kinds.Part.TheVariants as part
 use Rattle.sheet.specs.Inner.Words.{word_values}
 use Rattle.sets.specs.declared.walk.WalkedTo.{WalkedTo}
-use Rattle.sets.specs.declared.Which.{Which}
-use Rattle.sets.specs.declared.Which.TheVariants.{Varied, Useful, Required}
+use Rattle.sets.specs.Inner.Analyses.{Which, goes_back}
 use Rattle.sets.specs.VariableSets.{VariableSet, empty, ◌∪◌}
 use Rattle.sets.specs.Equations.{Equation, joins, right_side}
 use Rattle.sets.specs.Rounds.{set_at}
 use Rattle.sets.specs.Inner.ProperEquations.{Proper}
-use Rattle.sets.specs.Inner.Operations.{mask_bits}
 use Rattle.sets.specs.Inner.RowEquations.{Given, row_in, equation_in, row_in_turn, own_point, settled_point, splits, joins_by, block_side}
-use Rattle.sets.specs.Inner.RowEquations.{AllReadable, all_equations, seed_in}
+use Rattle.sets.specs.Inner.RowEquations.{all_equations, seed_in}
 
 -- the point where the i-th row in turn takes its own set
 unfoldable pub place_in_turn : Which → (rows turn : ℕ) → ℕ
-place_in_turn Varied n i = i
-place_in_turn Useful n i = n - i
-place_in_turn Required n i = i
+place_in_turn which n i = cond (goes_back which) (n - i) i
 
 -- a repeat's far end: where sets are found from the first row on, and from the last to the first
 abbrev pub ends_on : Part → Bool
@@ -40,9 +36,7 @@ ends_back part.Repeat = true
 ends_back part.EndRepeat = false
 
 unfoldable pub ends_repeat : Which → Part → Bool
-ends_repeat Varied part = ends_on part
-ends_repeat Useful part = ends_back part
-ends_repeat Required part = ends_on part
+ends_repeat which part = cond (goes_back which) (ends_back part) (ends_on part)
 
 -- a row whose equation asks its partner's set
 abbrev pub asks_partner : Which → Part → Bool
@@ -136,9 +130,6 @@ own_side which part row partners sets =
 
 -- what the code needs to settle the sets
 pub record Settles (which : Which) (given : Given) (others : List ℕ) (rows variables : ℕ) (sets : List VariableSet) : Type 0 where
-  pub readable : AllReadable given.words given.first rows
-  pub variables_small : variables ≤ mask_bits
-  pub roles_there : variables < List·length given.words
   -- nothing is found yet: an empty set at every point
   pub clear : sets ≡ replicate (suc rows) empty
   pub partnered : rows ≤ List·length given.partners
