@@ -1,11 +1,10 @@
 -- A row by the code's table of kinds: its rule, and what it is to the blocks.
-use Prim.Native.Nat.{ℕ, zero, suc, ◌+◌, ◌≤◌, ◌<◌}
+use Prim.Native.Nat.{ℕ, zero, suc, ◌≤◌, ◌<◌}
 use mathlib.Core.Path.{◌≡◌, refl, sym, ap, ◌∙◌}
 use mathlib.Core.Bool.{Bool, true, false}
 use mathlib.Core.List.{List, [], ◌∷◌, map}
 use mathlib.Core.Option.{Option, none, some}
-use lib.ListN.{length, length-set, get_or, set}
-use lib.Seq.{get_or-set_same, get_or-set_other}
+use lib.ListN.{length, get_or}
 use lib.Dec.{leb, ltb}
 use native.Mathlib.Omega.{arith}
 use native.Mathlib.Decide.{dec_le}
@@ -125,33 +124,6 @@ module _ (v k : ℕ) where
 
       pub part_by_rule : (get_or rules kind no_rule).part ≡ part_for r.kind
       part_by_rule = rw (made kind within, is)
-
--- the rules as far as they are made
-pub record Made (v k : ℕ) (rules : List Rule) (kind : ℕ) : Type 0 where
-  pub room : length rules ≡ suc (length kinds)
-  pub up_to : (n : ℕ) → n < kind → get_or rules n no_rule ≡ rule_of v k (form_for n)
-
-pub made_starts : (v k : ℕ) (rules : List Rule) → length rules ≡ suc (length kinds) → get_or rules 0 no_rule ≡ no_rule → Made v k rules 1
-unfolding form_for kind_of
-made_starts v k rules room first = record { room = room; up_to = by }
-  where
-    by : (n : ℕ) → n < 1 → get_or rules n no_rule ≡ rule_of v k (form_for n)
-    by zero l = first
-    by (suc n) l = absurd (omega arith)
-
-pub made_on : {v k : ℕ} {rules : List Rule} {kind : ℕ} → Made v k rules kind → (rule : Rule) → kind ≤ length kinds
-    → rule ≡ rule_of v k (form_for kind) → Made v k (set rules kind rule) (kind + 1)
-made_on {v} {k} {rules} {kind} made rule l e =
-    record {
-      room = simp length-set made.room;
-      up_to = λ n Below-next. by n (dec_le kind n) Below-next;
-    }
-  where
-    by : (n : ℕ) → Dec (kind ≤ n) → n < kind + 1 → get_or (set rules kind rule) n no_rule ≡ rule_of v k (form_for n)
-    by n (yes h) m =
-        let same : n ≡ kind = omega arith in
-        rw same (get_or-set_same rules kind rule no_rule (omega (arith, made.room)) ∙ e)
-    by n (no h) m = get_or-set_other rules kind n rule no_rule (λ e. omega arith) ∙ made.up_to n (omega arith)
 
 -- ---- as the blocks see it
 

@@ -1,30 +1,33 @@
--- What the roles come to, from a place on, by the first of them.
-use Prim.Native.Nat.{ℕ, zero, suc, ◌+◌, ◌-◌, ◌≤◌, ◌<◌}
-use mathlib.Core.Path.{◌≡◌, refl}
-use mathlib.Core.List.{List}
-use lib.ListN.{length, get_or, take, drop}
-use lib.Seq.{drop-cons}
-use borrow.Author.Tests.{le-leb, lt-leb}
-use native.Mathlib.Omega.{arith}
-use native.Mathlib.Numerals.{add-one, sub-one}
+-- What the roles come to, by the first of them that is above the greatest.
+use Rattle.std.specs.Prelude.{ℕ, suc, ◌+◌, ◌≤◌, ◌≡◌, Bool, List, [], ◌∷◌, ltb, position}
+use Rattle.std.specs.List.{position_from}
+use Rattle.std.specs.Prelude.{Option, Some, None}
+use Rattle.std.proofs.Common.{refl, sym, ap, ◌∙◌, arith}
+use Rattle.std.proofs.lemmas.Iterator.Adapters.{position_from-zero}
+use borrow.Author.Tests.{le-leb, lt-leb, lt-ltb, le-ltb}
+use native.Mathlib.Decide.{dec_le}
 use Rattle.sheet.specs.Bounds.{limit}
-use Rattle.sheet.specs.Judging.{refused, given}
+use Rattle.sheet.specs.Judging.{Answer, refused, given}
 use Rattle.sheet.specs.Refusals.{role_above}
 use Rattle.sheet.specs.Reading.{roles_fit}
 
-pub no_role : (words : List ℕ) (place left : ℕ) → left ≤ 0 → roles_fit (take left (drop place words)) place ≡ given tt
+abbrev pub above : ℕ → Bool
+above role = ltb limit.greatest_role role
+
+-- where the first role is word 1
+abbrev pub roles_by : Option ℕ → Answer (Unit {0})
+roles_by (Some before) = refused (role_above (1 + before))
+roles_by None = given tt
+
+roles_from : (roles : List ℕ) (i place : ℕ) → place ≡ 1 + i → roles_fit roles place ≡ roles_by (position_from above i roles)
 unfolding roles_fit
-no_role words place zero h = refl
-no_role words place (suc n) h = absurd (omega arith)
+roles_from [] i place is = refl
+roles_from (role ∷ roles) i place is = by (dec_le role limit.greatest_role) (roles_from roles (i + 1) (suc place) (omega arith))
+  where
+    by : Dec (role ≤ limit.greatest_role) → roles_fit roles (suc place) ≡ roles_by (position_from above (i + 1) roles)
+        → roles_fit (role ∷ roles) place ≡ roles_by (position_from above i (role ∷ roles))
+    by (yes h) later = rw (le-leb role 3 h, le-ltb 3 role h) later
+    by (no h) later = rw (lt-leb role 3 (omega arith), lt-ltb 3 role (omega arith), is) refl
 
-module _ (words : List ℕ) (place role : ℕ) (is : role ≡ get_or words place 0) (there : place < length words) where
-  pub role_high : (left : ℕ) → 0 < left → limit.greatest_role < role → roles_fit (take left (drop place words)) place ≡ refused (role_above place)
-  unfolding roles_fit
-  role_high zero some h = absurd (omega arith)
-  role_high (suc n) some h = rw (drop-cons words place 0 there, ← is) (simp (lt-leb role 3 h))
-
-  pub role_fits : (left : ℕ) → 0 < left → role ≤ limit.greatest_role
-      → roles_fit (take left (drop place words)) place ≡ roles_fit (take (left - 1) (drop (place + 1) words)) (place + 1)
-  unfolding roles_fit
-  role_fits zero some h = absurd (omega arith)
-  role_fits (suc n) some h = rw (drop-cons words place 0 there, ← is, sub-one, add-one) (simp (le-leb role 3 h))
+pub roles_judged : (roles : List ℕ) → roles_fit roles 1 ≡ roles_by (position above roles)
+roles_judged roles = roles_from roles 0 1 refl ∙ ap roles_by (sym (position_from-zero above roles))

@@ -6,9 +6,7 @@ ghost use Rattle.sheet.specs.Inner.Steps.{saturated, counted, enter_of, split_of
 ghost use Rattle.sheet.specs.Inner.Steps.{body_said, after_rows_of, body_run};
 
 use super::kinds::Part;
-use super::{
-    Level, MAX_DEPTH, MAX_LONGEST, No, Open, ROW_WORDS, Step, kinds, row_at, rows, wide,
-};
+use super::{Level, MAX_DEPTH, MAX_LONGEST, No, Open, ROW_WORDS, Step, kinds, row_at, rows, wide};
 
 const OUTERMOST: Level = Level {
     block: Open::Outermost,

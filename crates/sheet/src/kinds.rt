@@ -36,7 +36,7 @@ pub const WHILE: u16 = 19;
 pub const LAST: usize = 19;
 
 // What a word of a row may be.
-#[derive(Clone, Copy)]
+#[derive(Clone, Copy, PartialEq, Eq)]
 pub enum Slot {
     Variable,
     Constant,
@@ -46,7 +46,7 @@ pub enum Slot {
 }
 
 // What a row is to the blocks. Every loop is a repeat to them: which one, its kind tells.
-#[derive(Clone, Copy)]
+#[derive(Clone, Copy, PartialEq, Eq)]
 pub enum Part {
     Assignment,
     If,
@@ -150,26 +150,13 @@ pub fn form_in(forms: [Form; LAST + 1], kind: u16) -> Form
 pub fn names_variable(slot: Slot) -> bool
     ensures { result ≡ names_variable slot }
 {
-    match slot {
-        Slot::Variable => true,
-        Slot::Constant => false,
-        Slot::Turns => false,
-        Slot::Unused => false,
-        Slot::Nothing => false,
-    }
+    slot == Slot::Variable
 }
 
 pub fn assigns(part: Part) -> bool
     ensures { result ≡ assigns part }
 {
-    match part {
-        Part::Assignment => true,
-        Part::If => false,
-        Part::Else => false,
-        Part::EndIf => false,
-        Part::Repeat => false,
-        Part::EndRepeat => false,
-    }
+    part == Part::Assignment
 }
 
 // The most turns of the loop that a row opens.

@@ -21,7 +21,7 @@ const MIN_VARIABLES: usize = 1;
 
 pub const MAX_VARIABLES: usize = 32;
 
-const MAX_ROLE: usize = 3;
+const MAX_ROLE: u16 = 3;
 
 const MAX_CONSTANTS: usize = 64;
 
@@ -141,7 +141,7 @@ enum Step {
 pub fn wide(x: u16) -> usize
     ensures { (result ≡ x) × (result < word_values) }
 {
-    x as usize
+    usize::from(x)
 }
 
 // What is judged after the rows: words that are left, then W.
@@ -161,18 +161,12 @@ fn finish(shape: Shape, after: usize, length: usize) -> Result<Shape, No>
 pub fn read_sheet(words: &[u16]) -> Result<Shape, No>
     ensures { said result ≡ shape_read words.now }
 {
-    let counts = match sections::counts_read(words) {
-        Err(why) => return Err(why),
-        Ok(counts) => counts,
-    };
+    let counts = sections::counts_read(words)?;
     let variables = counts.variables;
     let constants = counts.constants;
     let rows = counts.rows;
     let first_row = 3 + variables + constants;
-    let longest = match blocks::rows_read(words, first_row, rows, variables, constants) {
-        Err(why) => return Err(why),
-        Ok(longest) => wide(longest),
-    };
+    let longest = wide(blocks::rows_read(words, first_row, rows, variables, constants)?);
     let after = first_row + rows * ROW_WORDS;
     let shape = Shape {
         variables,
@@ -185,6 +179,7 @@ pub fn read_sheet(words: &[u16]) -> Result<Shape, No>
     finish(shape, after, words.len())
 }
 
+#[tactic(auto, unfolding(crate::specs::Refusals::number_of))]
 pub fn number_of(why: No) -> u16
     ensures { result ≡ number_of (refusal_of why) }
 {
@@ -200,18 +195,19 @@ pub fn number_of(why: No) -> u16
     }
 }
 
+#[tactic(auto, unfolding(crate::specs::Refusals::place_of))]
 pub fn place_of(why: No) -> usize
     ensures { result ≡ place_of (refusal_of why) }
 {
     match why {
-        No::WordsEnd(place) => place,
-        No::WordsLeft(place) => place,
-        No::CountBeyond(place) => place,
-        No::RoleAbove(place) => place,
-        No::BadRow(place) => place,
-        No::BadBlock(place) => place,
+        No::WordsEnd(place)
+        | No::WordsLeft(place)
+        | No::CountBeyond(place)
+        | No::RoleAbove(place)
+        | No::BadRow(place)
+        | No::BadBlock(place)
+        | No::HoldsQuotient(place) => place,
         No::TooLong => 0,
-        No::HoldsQuotient(place) => place,
     }
 }
 
@@ -219,10 +215,7 @@ pub fn place_of(why: No) -> usize
 pub fn word_at(words: &[u16], place: usize) -> u16
     ensures { result ≡ get_or words.now place 0 }
 {
-    if place < words.len() {
-        return words[place];
-    }
-    0
+    words.get(place).copied().unwrap_or(0)
 }
 
 // The row at a place.

@@ -11,11 +11,8 @@ fn least(slot: Slot) -> u16
     ensures { result ≡ least_of slot }
 {
     match slot {
-        Slot::Variable => 0,
-        Slot::Constant => 0,
         Slot::Turns => 1,
-        Slot::Unused => 0,
-        Slot::Nothing => 0,
+        _ => 0,
     }
 }
 
@@ -54,29 +51,11 @@ fn rule_of(form: Form, variables: u16, constants: u16) -> Rule
     }
 }
 
-// No row fits a number that is no kind's.
-const NO_RULE: Rule = Rule {
-    least_d: 0,
-    d: 0,
-    least_a: 0,
-    a: 0,
-    b: 0,
-    part: Part::Assignment,
-};
-
 // Every kind's rule, from the table of kinds.
 pub fn rules_of(variables: u16, constants: u16) -> [Rule; kinds::LAST + 1]
     ensures { RulesFor variables constants result }
 {
-    let forms = kinds::forms();
-    let mut rules = [NO_RULE; kinds::LAST + 1];
-    let mut kind: usize = 1;
-    while kind <= kinds::LAST {
-        let form = kinds::form_in(forms, kind as u16);
-        rules[kind] = rule_of(form, variables, constants);
-        kind += 1;
-    }
-    rules
+    kinds::forms().map(|form| rule_of(form, variables, constants))
 }
 
 fn in_range(least: u16, beyond: u16, word: u16) -> bool

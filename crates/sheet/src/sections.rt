@@ -1,12 +1,11 @@
 // The three counts of a sheet, each judged with its section before the next.
-ghost use Rattle.std.specs.Prelude.{◌≡◌, ◌+◌, ◌≤◌, length, take, drop};
+ghost use Rattle.std.specs.Prelude.{◌≡◌, ◌+◌, ◌≤◌, length, ltb, position};
 ghost use Rattle.sheet.specs.Bounds.{limit};
 ghost use Rattle.sheet.specs.Reading.{count_at, roles_fit};
 ghost use Rattle.sheet.specs.Inner.Steps.{count_said, roles_said, CountsSaid};
 
 use super::{
-    Counts, MAX_CONSTANTS, MAX_ROLE, MAX_ROWS, MAX_VARIABLES, MIN_VARIABLES, No,
-    ROW_WORDS, wide,
+    Counts, MAX_CONSTANTS, MAX_ROLE, MAX_ROWS, MAX_VARIABLES, MIN_VARIABLES, No, ROW_WORDS, wide,
 };
 
 // The count at a place, from low to high, of items of so many words each.
@@ -18,10 +17,7 @@ fn count_at(words: &[u16], place: usize, low: usize, high: usize, width: usize) 
         return Err(No::WordsEnd(place));
     }
     let count = wide(words[place]);
-    if count < low {
-        return Err(No::CountBeyond(place));
-    }
-    if high < count {
+    if !(low..=high).contains(&count) {
         return Err(No::CountBeyond(place));
     }
     let first = place + 1;
@@ -32,46 +28,35 @@ fn count_at(words: &[u16], place: usize, low: usize, high: usize, width: usize) 
     Ok(count)
 }
 
-// The V roles, from word 1 on.
-fn roles_fit(words: &[u16], count: usize) -> Result<(), No>
-    requires { 1 + count ≤ length words.now }
-    ensures { roles_said result ≡ roles_fit (take count (drop 1 words.now)) 1 }
+// The first role above the greatest.
+fn role_above(roles: &[u16]) -> Option<usize>
+    ensures { result ≡ position (λ role. ltb limit.greatest_role role) roles.now }
 {
-    let mut place: usize = 1;
-    let mut left = count;
-    while 0 < left {
-        let role = wide(words[place]);
-        if MAX_ROLE < role {
-            return Err(No::RoleAbove(place));
-        }
-        place = place + 1;
-        left = left - 1;
+    roles.iter().position(|role| MAX_ROLE < *role)
+}
+
+// The roles, which begin at word 1.
+fn roles_fit(roles: &[u16]) -> Result<(), No>
+    ensures { roles_said result ≡ roles_fit roles.now 1 }
+{
+    match role_above(roles) {
+        Some(before) => Err(No::RoleAbove(1 + before)),
+        None => Ok(()),
     }
-    Ok(())
 }
 
 pub fn counts_read(words: &[u16]) -> Result<Counts, No>
     ensures { CountsSaid words.now result }
 {
-    let variables = match count_at(words, 0, MIN_VARIABLES, MAX_VARIABLES, 1) {
-        Err(why) => return Err(why),
-        Ok(count) => count,
-    };
-    if let Err(why) = roles_fit(words, variables) {
-        return Err(why);
-    }
+    let variables = count_at(words, 0, MIN_VARIABLES, MAX_VARIABLES, 1)?;
     let constant_count = 1 + variables;
-    let constants = match count_at(words, constant_count, 0, MAX_CONSTANTS, 1) {
-        Err(why) => return Err(why),
-        Ok(count) => count,
-    };
+    roles_fit(&words[1..constant_count])?;
+    let constants = count_at(words, constant_count, 0, MAX_CONSTANTS, 1)?;
     let row_count = constant_count + 1 + constants;
-    match count_at(words, row_count, 0, MAX_ROWS, ROW_WORDS) {
-        Err(why) => Err(why),
-        Ok(rows) => Ok(Counts {
-            variables,
-            constants,
-            rows,
-        }),
-    }
+    let rows = count_at(words, row_count, 0, MAX_ROWS, ROW_WORDS)?;
+    Ok(Counts {
+        variables,
+        constants,
+        rows,
+    })
 }

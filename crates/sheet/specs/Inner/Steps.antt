@@ -9,6 +9,7 @@ use Rattle.sheet.specs.Reading.{words_fit, count_at, roles_fit, Block, Item, bod
 use Rattle.sheet.specs.Rows.{Row, Kind, kinds, kind_of}
 use Rattle.sheet.specs.Tree.{longest_run}
 use Rattle.sheet.specs.Answers.{refusal_of, shape_read}
+use Rattle.sheet.specs.declared.No.{No}
 use Rattle.sheet.specs.declared.No.TheVariants.{WordsLeft, BadBlock, TooLong}
 use Rattle.sheet.specs.declared.Shape.{Shape}
 use Rattle.sheet.specs.declared.Counts.{Counts}

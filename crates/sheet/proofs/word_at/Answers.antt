@@ -1,7 +1,0 @@
--- `sheet::word_at` meets its contract.
-use mathlib.Core.Path.{sym}
-use lib.ListN.{get_or-eq_default}
-use Rattle.sheet.proofs.word_at.Goals as goal
-
-pub returns : goal.returns
-returns c = sym (get_or-eq_default c.args.words.now 0 c.if-place-words.false)
