@@ -10,19 +10,17 @@ use lib.ListN.{length, get_or, set, take, drop, length-set}
 use lib.Dec.{eqb}
 use lib.Seq.{get_or-set_same, get_or-set_other, set_comm, set-set, set-get_or}
 use Rattle.sheet.specs.Tree.{basic, if_line, else_line, end_if, repeat, end_repeat}
-use Rattle.sheet.specs.Rows.{SheetLine}
+use Rattle.sheet.specs.Rows.{Assignment, SheetLine}
 use Rattle.sheet.specs.Inner.Kinds.{assigns, part_of}
-use Rattle.sets.specs.declared.transfers.MaskedAssignment.{MaskedAssignment}
 use Rattle.sets.specs.VariableSets.{VariableSet}
 use Rattle.sets.specs.Rounds.{set_at}
-use Rattle.sets.specs.Inner.Operations.{Gives}
+use Rattle.sets.specs.Inner.Analyses.{Which, Varied, Useful, Required, Lends, LendsAt, known_at, marks_left}
 use Rattle.sets.specs.Transfers.{Activity, activity_of}
 use Rattle.sets.specs.Marks.{mark_by, activity_at}
 use Rattle.sets.specs.MarkBytes.{weight, weight_if, byte_by, bit_of}
 use Rattle.sets.specs.Inner.RowEquations.{known_of_line}
 use Rattle.sets.specs.Inner.RowBytes.{byte_at, byte_for, bytes_of, written}
 use Rattle.sets.proofs.Truths.{never}
-use Rattle.sets.proofs.OperationLaws.{AssignedBy}
 
 -- ---- the marks read back
 
@@ -61,10 +59,10 @@ read_back known recorded =
 
 -- ---- by the cases that the code tells apart
 
-pub assigned_known : {operation : MaskedAssignment} {l : SheetLine} {known : Activity} (varied useful : List VariableSet) (p : ℕ) → AssignedBy operation l
-    → Gives operation known (λ b. activity_of b (set_at varied p) (set_at useful (p + 1))) → known ≡ known_of_line (set_at varied p) (set_at useful (suc p)) l
-unfolding known_of_line
-assigned_known varied useful p a gives = rw a.is (gives a.assignment a.performs ∙ rw (add-one p))
+pub assigned_known : (varied useful : List VariableSet) (p : ℕ) (l : SheetLine) (b : Assignment) → l ≡ basic b
+    → known_at Required varied useful p b ≡ known_of_line (set_at varied p) (set_at useful (suc p)) l
+unfolding known_at known_of_line
+assigned_known varied useful p l b e = rw (e, add-one p)
 
 module _ (varied useful required : List VariableSet) (p : ℕ) where
   pub no_byte : (l : SheetLine) → assigns (part_of l) ≡ false → 0 ≡ byte_at varied useful required p l
@@ -76,11 +74,11 @@ module _ (varied useful required : List VariableSet) (p : ℕ) where
   no_byte (repeat m) h = refl
   no_byte end_repeat h = refl
 
-  pub assigned_byte : {operation : MaskedAssignment} {l : SheetLine} {known : Activity} {r needed : ℕ} → AssignedBy operation l
+  pub assigned_byte : {l : SheetLine} {known : Activity} {needed : ℕ} (b : Assignment) → l ≡ basic b
       → known ≡ known_of_line (set_at varied p) (set_at useful (suc p)) l → needed ≡ set_at required p
-      → Gives operation r (byte_for known needed) → r ≡ byte_at varied useful required p l
+      → byte_for known needed b ≡ byte_at varied useful required p l
   unfolding byte_at mark_by known_of_line activity_at
-  assigned_byte a knows is gives = rw a.is (gives a.assignment a.performs ∙ rw (knows, a.is, is))
+  assigned_byte b e knows is = rw e (rw (knows, e, is))
 
 -- ---- what a row's byte asks of the required sets
 
@@ -173,3 +171,29 @@ module _ (line : ℕ → SheetLine) (varied useful : List VariableSet) (n : ℕ)
       → marks ≡ written (bytes_of varied useful sets line) n before
   marking_ends sets marks i m h =
       sym (written_self (bytes_of varied useful sets line) n marks (λ k l. m.passed k (omega arith))) ∙ m.over (bytes_of varied useful sets line)
+
+-- ---- and so by the analysis: that of the required variables marks the rows, the others leave the marks as they were
+
+abbrev pub MarkingSoFar : Which → (line : ℕ → SheetLine) (varied useful : List VariableSet) (n : ℕ) (before : List ℕ) (sets : List VariableSet) (marks : List ℕ) (i : ℕ) → Type 0
+MarkingSoFar Varied line varied useful n before sets marks i = marks ≡ before
+MarkingSoFar Useful line varied useful n before sets marks i = marks ≡ before
+MarkingSoFar Required line varied useful n before sets marks i = MarkedSoFar line varied useful n before sets marks i
+
+pub marks_start : (which : Which) (line : ℕ → SheetLine) (varied useful : List VariableSet) (n : ℕ) (before : List ℕ) (sets : List VariableSet)
+    → MarkingSoFar which line varied useful n before sets before 0
+marks_start Varied line varied useful n before sets = refl
+marks_start Useful line varied useful n before sets = refl
+marks_start Required line varied useful n before sets = marking_starts line varied useful n before sets
+
+pub marks_end : (which : Which) (line : ℕ → SheetLine) (varied useful : List VariableSet) (n : ℕ) (before : List ℕ) (sets : List VariableSet) (marks : List ℕ) (i : ℕ)
+    → MarkingSoFar which line varied useful n before sets marks i → n ≤ i → marks ≡ marks_left which varied useful sets line n before
+marks_end Varied line varied useful n before sets marks i m h = m
+marks_end Useful line varied useful n before sets marks i m h = m
+marks_end Required line varied useful n before sets marks i m h = marking_ends line varied useful n before sets marks i m h
+
+pub marks_lent : (which : Which) (line : ℕ → SheetLine) (varied useful : List VariableSet) (n : ℕ) (before : List ℕ) (sets : List VariableSet) (marks : List ℕ) (i p : ℕ)
+    → MarkingSoFar which line varied useful n before sets marks i → Lends which varied useful (length before) n → p < n
+    → LendsAt which varied useful (length marks) p
+marks_lent Varied line varied useful n before sets marks i p m lends h = tt
+marks_lent Useful line varied useful n before sets marks i p m lends h = tt
+marks_lent Required line varied useful n before sets marks i p m lends h = (omega arith, omega arith, omega (arith, m.long))

@@ -10,8 +10,7 @@ use Rattle.sheet.specs.Tree.{basic, if_line, else_line, end_if, repeat, end_repe
 use Rattle.sheet.specs.Rows.{Assignment, SheetLine}
 use Rattle.sheet.specs.Inner.Kinds.{assigns, part_of}
 use Rattle.sheet.specs.declared.kinds.Part.{Part}
-use Rattle.sets.specs.declared.Which.{Which}
-use Rattle.sets.specs.declared.Which.TheVariants.{Varied, Useful, Required}
+use Rattle.sets.specs.Inner.Analyses.{Which, Varied, Useful, Required}
 use Rattle.sets.specs.VariableSets.{VariableSet}
 use Rattle.sets.specs.Equations.{right_side, point_of}
 use Rattle.sets.specs.Transfers.{Activity}

@@ -9,7 +9,7 @@ use mir.Val.{bool_byte}
 use lib.ListN.{length, get_or, take, drop, replicate, length-drop, length-replicate}
 use lib.Seq.{drop-cons, get_or-take, get_or-drop, length-take-le, drop-length}
 use lib.Pow.{pow_mono}
-use Rattle.sets.specs.declared.Which.{Which}
+use Rattle.sets.specs.Inner.Analyses.{Which}
 use Rattle.sets.specs.VariableSets.{VariableSet, empty, places}
 use Rattle.sets.specs.Inner.Operations.{mask_bits}
 use Rattle.sets.specs.Inner.RowEquations.{has_role, seed_in}

@@ -14,8 +14,7 @@ use Rattle.sheet.proofs.RowsCounted.{rows_counted, lines_counted}
 use Rattle.sheet.proofs.ReadingParts.{accepted, same_given}
 use Rattle.sheet.proofs.TreeOfRows.{tree_of_rows}
 use Rattle.sheet.proofs.NamesPresent.{count_judged, counts, names_present}
-use Rattle.sets.specs.declared.Which.{Which}
-use Rattle.sets.specs.declared.Which.TheVariants.{Varied, Useful, Required}
+use Rattle.sets.specs.Inner.Analyses.{Which, Varied, Useful, Required, inactive}
 use Rattle.sets.specs.VariableSets.{VariableSet, empty, places}
 use Rattle.sets.specs.Equations.{Equation, starts}
 use Rattle.sets.specs.Inner.ProperEquations.{Proper}
@@ -24,7 +23,7 @@ use Rattle.sets.specs.Rounds.{points, set_at, least, varied, useful, required}
 use Rattle.sets.specs.Marks.{varied_equations, useful_equations, required_equations, activity_at}
 use Rattle.sets.specs.Partners.{CameFrom, GoesTo, came_by, goes_by}
 use Rattle.sets.specs.Inner.PartnerPass.{found, PartnersFound}
-use Rattle.sets.specs.Inner.RowEquations.{given_by, line_in, inactive, unasked, known_of_line, known_from, turn_of, equation_of, equation_in, row_in_turn}
+use Rattle.sets.specs.Inner.RowEquations.{given_by, line_in, unasked, known_of_line, known_from, turn_of, equation_of, equation_in, row_in_turn}
 use Rattle.sets.specs.Inner.RowEquations.{row_equations, start_of, all_equations, AllReadable, seed_in}
 use Rattle.sets.specs.Inner.Walks.{Wired, Settles}
 use Rattle.sets.specs.Inner.Operations.{mask_bits}

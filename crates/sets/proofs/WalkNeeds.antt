@@ -8,29 +8,31 @@ use mathlib.Core.List.{List}
 use lib.ListN.{length, get_or, set}
 use lib.Seq.{get_or-set_other}
 use Rattle.sheet.specs.Inner.Words.{word_values}
+use Rattle.sheet.specs.Tree.{basic}
 use Rattle.sheet.specs.Rows.{Assignment, SheetLine}
-use Rattle.sheet.specs.Inner.Kinds.{assigns, part_of}
+use Rattle.sheet.specs.Inner.Kinds.{assigns, part_of, all_forms}
 use Rattle.sheet.specs.declared.kinds.Form.{Form}
 use Rattle.sheet.specs.declared.kinds.Part.{Part}
 use Rattle.sheet.specs.declared.kinds.Part.TheVariants as part
 use Rattle.sets.specs.declared.transfers.MaskedAssignment.{MaskedAssignment}
 use Rattle.sets.specs.declared.walk.WalkedTo.{WalkedTo}
-use Rattle.sets.specs.declared.Which.{Which}
-use Rattle.sets.specs.declared.Which.TheVariants.{Varied, Useful, Required}
+use Rattle.sets.specs.Inner.Analyses.{Which, Varied, Useful, Required, Lends, known_at, marked_at, passed_over}
 use Rattle.sets.specs.VariableSets.{VariableSet, empty}
 use Rattle.sets.specs.Equations.{right_side}
 use Rattle.sets.specs.Rounds.{set_at, least}
-use Rattle.sets.specs.Inner.Operations.{mask_bits, InMask, Performs, PerformsRow}
+use Rattle.sets.specs.Inner.Operations.{mask_bits, InMask, Performs, PerformsRow, Gives}
 use Rattle.sets.specs.Inner.RowBytes.{byte_at}
 use Rattle.sets.specs.Transfers.{Activity}
-use Rattle.sets.specs.Inner.RowEquations.{Given, line_in, equation_in, turn_of, row_in_turn, own_point, settled_point, start_of, all_equations, seed_in, row_in, RowReadable, RowThere, Formed}
+use Rattle.sets.specs.Inner.RowEquations.{Given, known_by, line_in, equation_in, turn_of, row_in_turn, own_point, settled_point, start_of, all_equations, seed_in, row_in, RowReadable, RowThere, Formed, KindRead}
 use Rattle.sets.specs.Inner.Walks.{place_in_turn, ends_repeat, asks_partner, part_in, Due, onward, backward, Grown, PassedRow, AtBlock, own_side, Settles}
 use Rattle.sets.proofs.Truths.{never}
 use Rattle.sets.proofs.OperationLaws.{AssignedBy, assigned_by}
 use Rattle.sets.proofs.PartnerPass.{part_read}
+use Rattle.sheet.proofs.PartsRead.{form_in}
+use Rattle.sets.proofs.SheetRows.{form_read}
 use Rattle.sets.proofs.Seeds.{clear_length}
 use Rattle.sets.proofs.RightSides.{assigned_side, block_side}
-use Rattle.sets.proofs.MarkByteLaws.{MarkedSoFar, marking_on}
+use Rattle.sets.proofs.MarkByteLaws.{MarkedSoFar, MarkingSoFar, assigned_known, assigned_byte, no_byte, marking_on}
 use Rattle.sets.proofs.Walking.{turn_below, turn_back, own_place, start_place, Walk, left_of, walk_starts, walked, walk_ends}
 
 -- what holds before a row: besides the walk, that the set at its place is in hand
@@ -84,6 +86,12 @@ pub record AtRow (which : Which) (given : Given) (others : List ℕ) (n v : ℕ)
   pub in_turn : row ≡ row_in_turn which n reached.turn
   pub formed : Formed given.words given.first row form
 
+pub at_row : {which : Which} {given : Given} {others : List ℕ} {n v : ℕ} {sets₀ sets : List VariableSet} {reached : WalkedTo} {row kind : ℕ} {forms : List Form}
+    → Settles which given others n v sets₀ → Carried which given others n v sets reached → reached.turn < n → row ≡ row_in_turn which n reached.turn
+    → forms ≡ all_forms → KindRead given.words given.first row kind → AtRow which given others n v sets₀ sets reached row (form_in forms kind)
+at_row settles carried below in_turn table read =
+    record { settles = settles; carried = carried; below = below; in_turn = in_turn; formed = form_read table read }
+
 -- the row was passed by the right side of its equation
 pub record Passes (which : Which) (given : Given) (others : List ℕ) (n row : ℕ) (part : Part) (before after : List VariableSet) (reached : WalkedTo) : Type 0 where
   side : VariableSet
@@ -120,32 +128,32 @@ module _ {which : Which} {given : Given} {others : List ℕ} {n v : ℕ} {sets�
       → RowThere given.words given.first row × Formed given.words given.first row form × InMask (row_in given row)
   operation_there h = (readable.there, at.formed, readable.small (ap assigns (sym part_is) ∙ h))
 
-  pub assignment_there : {FitsMask : Type 0} → FitsMask → FitsMask × (row < word_values) × (suc row < length sets) × (reached.turn < word_values)
-  assignment_there small =
-      (small, readable.numbered, omega (arith, row_below, at.carried.walk.kept.long), (at.settles.readable reached.turn at.below).numbered)
+  pub assignment_there : {FitsMask Lent : Type 0} → FitsMask → Lent → FitsMask × (row < word_values) × (suc row < length sets) × (reached.turn < word_values) × Lent
+  assignment_there small lent =
+      (small, readable.numbered, omega (arith, row_below, at.carried.walk.kept.long), (at.settles.readable reached.turn at.below).numbered, lent)
 
   pub assigned : {operation : MaskedAssignment} → assigns form.3 ≡ true → PerformsRow operation (row_in given row) → AssignedBy operation line
   assigned h performs = assigned_by performs line readable.says.back (ap assigns (sym line_part) ∙ h)
 
-  pub assignment_passed : {operation : MaskedAssignment} {acts : Activity} {next : List VariableSet} {after : WalkedTo} → assigns form.3 ≡ true
-      → PerformsRow operation (row_in given row) → acts ≡ given.known row
-      → (after.turn ≡ reached.turn + 1)
-      × ((b : Assignment) → Performs operation b → Grown sets (settled_point which row) (turn_of which acts b reached.own) next after.own)
+  pub assignment_passed : {operation : MaskedAssignment} {acts : Assignment → Activity} {next : List VariableSet} {after : WalkedTo} → assigns form.3 ≡ true
+      → PerformsRow operation (row_in given row) → ((b : Assignment) → line ≡ basic b → acts b ≡ given.known row) → after.turn ≡ reached.turn + 1
+      → ((b : Assignment) → Performs operation b → Grown sets (settled_point which row) (turn_of which (acts b) b reached.own) next after.own)
       → Passes which given others n row form.3 sets next after
   unfolding equation_in
-  assignment_passed {operation} {acts} {next} {after} h performs same passed =
+  assignment_passed {operation} {acts} {next} {after} h performs same turned grown =
       let a = assigned h performs in
+      let side = turn_of which (acts a.assignment) a.assignment reached.own in
       record {
-        side = turn_of which acts a.assignment reached.own;
+        side = side;
         side_is =
-            ap (turn_of which acts a.assignment) in_hand_lem
-            ∙ rw (same, a.is) (assigned_side which (given.known row) sets row (get_or given.partners row 0) a.assignment);
+            ap (turn_of which (acts a.assignment) a.assignment) in_hand_lem
+            ∙ rw (same a.assignment a.is, a.is) (assigned_side which (given.known row) sets row (get_or given.partners row 0) a.assignment);
         went = record {
           due = row;
-          more = turn_of which acts a.assignment reached.own;
+          more = side;
           is_due = onward refl refl (ends_none which form.3 h);
-          grown = passed.1 a.assignment a.performs;
-          turns = passed.0 ∙ ap (λ t. t + 1) turns;
+          grown = grown a.assignment a.performs;
+          turns = turned ∙ ap (λ t. t + 1) turns;
         };
       }
 
@@ -220,3 +228,39 @@ module _ {given : Given} {others : List ℕ} {n v : ℕ} {sets₀ sets : List Va
       upto (backward e f ends more) =
           let near = at.settles.wired.back reached.turn at.below (rw at.in_turn at (ap (ends_repeat Required) (sym (part_is at)) ∙ ends)) in
           omega (arith, near.1, ap (λ q. get_or others q 0) at.in_turn, at.in_turn)
+
+-- what is known of an assignment is what is known of its row
+pub known_as : (which : Which) (words : List ℕ) (first : ℕ) (varied useful : List VariableSet) (p : ℕ) (b : Assignment) → line_in words first p ≡ basic b
+    → known_at which varied useful p b ≡ known_by which words first varied useful p
+unfolding known_at
+known_as Varied words first varied useful p b e = refl
+known_as Useful words first varied useful p b e = refl
+known_as Required words first varied useful p b e = assigned_known varied useful p _ b e
+
+pub assigned_marks : (which : Which) {given : Given} {others : List ℕ} {n v : ℕ} {sets₀ sets : List VariableSet} {reached : WalkedTo} {row : ℕ} {form : Form}
+    (at : AtRow which given others n v sets₀ sets reached row form) {operation : MaskedAssignment} {next : List VariableSet} {after : WalkedTo}
+    (varied useful before marks marks' : List ℕ) → assigns form.3 ≡ true → PerformsRow operation (row_in given row)
+    → Passes which given others n row form.3 sets next after → MarkingSoFar which (line_in given.words given.first) varied useful n before sets marks reached.turn
+    → Lends which varied useful (length before) n → Gives operation marks' (λ b. marked_at which varied useful row reached.own b marks)
+    → MarkingSoFar which (line_in given.words given.first) varied useful n before next marks' after.turn
+unfolding marked_at own_point
+assigned_marks Varied at varied useful before marks marks' h performs passes marking lends left =
+    let a = assigned at h performs in left a.assignment a.performs ∙ marking
+assigned_marks Useful at varied useful before marks marks' h performs passes marking lends left =
+    let a = assigned at h performs in left a.assignment a.performs ∙ marking
+assigned_marks Required {row = row} at varied useful before marks marks' h performs passes marking lends left =
+    let a = assigned at h performs in
+    rw (left a.assignment a.performs)
+    (marked_on at varied useful passes marking lends.2
+    (assigned_byte varied useful _ row a.assignment a.is (assigned_known varied useful row _ a.assignment a.is) (in_hand_lem at)))
+
+pub block_marks : (which : Which) {given : Given} {others : List ℕ} {n v : ℕ} {sets₀ sets : List VariableSet} {reached : WalkedTo} {row : ℕ} {form : Form}
+    (at : AtRow which given others n v sets₀ sets reached row form) {next : List VariableSet} {after : WalkedTo}
+    (varied useful before marks marks' : List ℕ) → assigns form.3 ≡ false → Passes which given others n row form.3 sets next after
+    → MarkingSoFar which (line_in given.words given.first) varied useful n before sets marks reached.turn
+    → Lends which varied useful (length before) n → marks' ≡ passed_over which row marks
+    → MarkingSoFar which (line_in given.words given.first) varied useful n before next marks' after.turn
+block_marks Varied at varied useful before marks marks' h passes marking lends left = left ∙ marking
+block_marks Useful at varied useful before marks marks' h passes marking lends left = left ∙ marking
+block_marks Required at varied useful before marks marks' h passes marking lends left =
+    rw left (marked_on at varied useful passes marking lends.2 (no_byte varied useful _ _ _ (ap assigns (sym (line_part at)) ∙ h)))

@@ -10,8 +10,7 @@ use mathlib.Core.Logic.{◌≢◌, ◌⊎◌, inl, inr}
 use lib.ListN.{length, get_or, set, replicate}
 use lib.Dec.{T}
 use Rattle.sheet.specs.declared.kinds.Part.{Part}
-use Rattle.sets.specs.declared.Which.{Which}
-use Rattle.sets.specs.declared.Which.TheVariants.{Varied, Useful, Required}
+use Rattle.sets.specs.Inner.Analyses.{Which, Varied, Useful, Required}
 use Rattle.sets.specs.VariableSets.{VariableSet, empty, has, ◌∪◌, ◌⊆◌}
 use Rattle.sets.specs.Equations.{Equation, starts, point_of, right_side}
 use Rattle.sets.specs.Rounds.{set_at, least}

@@ -13,8 +13,7 @@ use Rattle.sheet.specs.Inner.Kinds.{part_of, part_for}
 use Rattle.sheet.specs.declared.kinds.Part.{Part}
 use Rattle.sheet.specs.Inner.RowLines.{numbered_row}
 use Rattle.sheet.proofs.LinesByPart.{row_part}
-use Rattle.sets.specs.declared.Which.{Which}
-use Rattle.sets.specs.declared.Which.TheVariants.{Varied, Useful, Required}
+use Rattle.sets.specs.Inner.Analyses.{Which, Varied, Useful, Required}
 use Rattle.sets.specs.VariableSets.{VariableSet, ◌∪◌}
 use Rattle.sets.specs.Equations.{Equation, passes, joins, unchanged, left_from, right_side}
 use Rattle.sets.specs.Partners.{CameFrom, GoesTo}

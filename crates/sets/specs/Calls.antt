@@ -6,6 +6,7 @@ use Rattle.sheet.specs.Tree.{rows}
 use Rattle.sheet.specs.Sheets.{Sheet}
 use Rattle.sheet.specs.Reading.{read}
 use Rattle.sheet.specs.Answers.{refusal_of, shape_of}
+use Rattle.sheet.specs.declared.No.{No}
 use Rattle.sheet.specs.declared.Shape.{Shape}
 use Rattle.sets.specs.declared.Ends.{Ends}
 use Rattle.sets.specs.VariableSets.{VariableSet}

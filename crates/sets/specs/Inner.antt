@@ -3,6 +3,7 @@ pub mod ProperEquations
 pub mod Operations
 pub mod RowBytes
 pub mod PartnerPass
+pub mod Analyses
 pub mod RowEquations
 pub mod Walks
 pub mod Laid

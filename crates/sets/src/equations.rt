@@ -2,9 +2,9 @@
 ghost use Rattle.std.specs.Prelude.{◌≡◌, true, ◌||◌, ◌<◌, length};
 ghost use Rattle.sheet.specs.Inner.Words.{word_values};
 ghost use Rattle.sets.specs.Rounds.{set_at};
-ghost use Rattle.sets.specs.Inner.RowEquations.{splits, joins_on, joins_back, joins_by, own_point, settled_point, block_side};
+ghost use Rattle.sets.specs.Inner.RowEquations.{splits, joins_by, own_point, settled_point, block_side};
 
-use super::Which;
+use super::analyses::Analysis;
 use sheet::RowNumber;
 use sheet::kinds::Part;
 
@@ -16,60 +16,47 @@ pub fn set_at(sets: &[u64], point: usize) -> u64
     sets[point]
 }
 
-fn own_point(which: Which, row: RowNumber) -> usize
+#[tactic(auto, unfolding(crate::specs::Inner::RowEquations::own_point))]
+fn own_point<A: Analysis>(analysis: A, row: RowNumber) -> usize
     requires { row.0 < word_values }
-    ensures { result ≡ own_point which row.0 }
+    ensures { result ≡ own_point A.which row.0 }
 {
-    match which {
-        Which::Useful => row.0 + 1,
-        Which::Varied => row.0,
-        Which::Required => row.0,
+    if analysis.goes_back() {
+        row.0 + 1
+    } else {
+        row.0
     }
 }
 
 // The set at a row's own point, which its equation takes.
-pub fn own_set(which: Which, sets: &[u64], row: RowNumber) -> u64
-    requires { (row.0 < word_values) × (own_point which row.0 < length sets.now) }
-    ensures { result ≡ set_at sets.now (own_point which row.0) }
+pub fn own_set<A: Analysis>(analysis: A, sets: &[u64], row: RowNumber) -> u64
+    requires { (row.0 < word_values) × (own_point A.which row.0 < length sets.now) }
+    ensures { result ≡ set_at sets.now (own_point A.which row.0) }
 {
-    set_at(sets, own_point(which, row))
+    set_at(sets, own_point(analysis, row))
 }
 
-pub fn settled_point(which: Which, row: RowNumber) -> usize
+#[tactic(auto, unfolding(crate::specs::Inner::RowEquations::settled_point))]
+pub fn settled_point<A: Analysis>(analysis: A, row: RowNumber) -> usize
     requires { row.0 < word_values }
-    ensures { result ≡ settled_point which row.0 }
+    ensures { result ≡ settled_point A.which row.0 }
 {
-    match which {
-        Which::Useful => row.0,
-        Which::Varied => row.0 + 1,
-        Which::Required => row.0 + 1,
+    if analysis.goes_back() {
+        row.0
+    } else {
+        row.0 + 1
     }
 }
 
-// Whether a row of a block takes its partner's set besides its own: where sets are found from the first row on, and from the last row to the first.
-fn joins_on(part: Part) -> bool
-    ensures { result ≡ joins_on part }
+// Whether a row of a block takes its partner's set besides its own.
+#[tactic(auto, unfolding(crate::specs::Inner::RowEquations::joins_by))]
+fn joins<A: Analysis>(analysis: A, part: Part) -> bool
+    ensures { result ≡ joins_by A.which part }
 {
-    match part {
-        Part::Assignment => false,
-        Part::If => false,
-        Part::Else => false,
-        Part::EndIf => true,
-        Part::Repeat => true,
-        Part::EndRepeat => false,
-    }
-}
-
-fn joins_back(part: Part) -> bool
-    ensures { result ≡ joins_back part }
-{
-    match part {
-        Part::Assignment => false,
-        Part::If => true,
-        Part::Else => false,
-        Part::EndIf => false,
-        Part::Repeat => false,
-        Part::EndRepeat => true,
+    if analysis.goes_back() {
+        matches!(part, Part::If | Part::EndRepeat)
+    } else {
+        matches!(part, Part::EndIf | Part::Repeat)
     }
 }
 
@@ -77,36 +64,25 @@ fn joins_back(part: Part) -> bool
 fn splits(part: Part) -> bool
     ensures { result ≡ splits part }
 {
-    match part {
-        Part::Assignment => false,
-        Part::If => false,
-        Part::Else => true,
-        Part::EndIf => false,
-        Part::Repeat => false,
-        Part::EndRepeat => false,
-    }
-}
-
-fn joins(which: Which, part: Part) -> bool
-    ensures { result ≡ joins_by which part }
-{
-    match which {
-        Which::Useful => joins_back(part),
-        Which::Varied => joins_on(part),
-        Which::Required => joins_on(part),
-    }
+    matches!(part, Part::Else)
 }
 
 // What a row of a block that is no loop's far end puts into the set that it settles, `own` being the set at its own point.
-pub fn right_side(which: Which, part: Part, own: u64, sets: &[u64], partner: RowNumber) -> u64
-    requires { (partner.0 < word_values) × ((splits part || joins_by which part) ≡ true → own_point which partner.0 < length sets.now) }
-    ensures { result ≡ block_side which part own (set_at sets.now (own_point which partner.0)) }
+pub fn right_side<A: Analysis>(
+    analysis: A,
+    part: Part,
+    own: u64,
+    sets: &[u64],
+    partner: RowNumber,
+) -> u64
+    requires { (partner.0 < word_values) × ((splits part || joins_by A.which part) ≡ true → own_point A.which partner.0 < length sets.now) }
+    ensures { result ≡ block_side A.which part own (set_at sets.now (own_point A.which partner.0)) }
 {
     if splits(part) {
-        return own_set(which, sets, partner);
+        return own_set(analysis, sets, partner);
     }
-    if joins(which, part) {
-        return own | own_set(which, sets, partner);
+    if joins(analysis, part) {
+        return own | own_set(analysis, sets, partner);
     }
     own
 }

@@ -1,5 +1,5 @@
 // The sets: any words in; `mark` reads them, finds an accepted sheet's three least sets at every point, marks every row and hands up two of the sets.
-// In reading order: masks, rows, transfers, partners, equations, walk, marks.
+// In reading order: masks, rows, transfers, partners, marks, analyses, equations, walk.
 #![tactic(auto)]
 
 ghost use Rattle.std.specs.Prelude.{◌≡◌, ◌<◌, length};
@@ -12,6 +12,7 @@ ghost use Rattle.sets.specs.Inner.RowEquations.{line_in};
 ghost use Rattle.sets.specs.Inner.Laid.{Laid, ClearRoom, AllMarked, EndsFound};
 ghost use Rattle.sets.specs.Inner.PartnerPass.{PartnersFound};
 
+mod analyses;
 mod equations;
 mod marks;
 mod masks;
@@ -19,6 +20,8 @@ mod partners;
 mod rows;
 mod transfers;
 mod walk;
+
+use analyses::{Required, Useful, Varied};
 
 // The bits of a row's mark: whether a is varied before it, whether b is, whether the row is active, whether it is recorded.
 pub const VARIED_A: u8 = 1;
@@ -28,14 +31,6 @@ pub const VARIED_B: u8 = 2;
 pub const ACTIVE: u8 = 4;
 
 pub const SAVED: u8 = 8;
-
-// Which of the three sets is found: the useful variables from the last row to the first, the others from the first row on.
-#[derive(Clone, Copy)]
-enum Which {
-    Varied,
-    Useful,
-    Required,
-}
 
 // Where a sheet's rows start among its words, how many there are, and over how many variables.
 #[derive(Clone, Copy)]
@@ -91,9 +86,10 @@ fn settle_and_mark(
         variables,
     };
     partners::find_partners(words, extent, came, goes);
-    walk::settle_varied(words, extent, came, goes, varied);
-    walk::settle_useful(words, extent, goes, came, useful);
-    walk::settle_required(words, extent, varied, useful, came, goes, required, marks);
+    walk::settle(Varied, words, extent, came, goes, varied, marks);
+    walk::settle(Useful, words, extent, goes, came, useful, marks);
+    let by_both = Required { varied, useful };
+    walk::settle(by_both, words, extent, came, goes, required, marks);
     ends_of(varied, useful, rows)
 }
 
@@ -140,11 +136,7 @@ pub fn mark(
         × MarksSaid (read words.now) (lent marks.old came.old goes.old)
         (lent marks.new came.new goes.new) }
 {
-    match sheet::read_sheet(words) {
-        Err(why) => Err(why),
-        Ok(shape) => {
-            let ends = mark_accepted(words, shape, marks, came, goes);
-            Ok((shape, ends))
-        }
-    }
+    let shape = sheet::read_sheet(words)?;
+    let ends = mark_accepted(words, shape, marks, came, goes);
+    Ok((shape, ends))
 }

@@ -3,9 +3,9 @@ ghost use Rattle.std.specs.Prelude.{◌≡◌, ◌<◌};
 ghost use Rattle.sheet.specs.Inner.RowLines.{source_of, numbered_row};
 ghost use Rattle.sets.specs.Transfers.{any_read, reads, varied_after, useful_before, activity_of, adjoint_use, required_after, recorded_by};
 ghost use Rattle.sets.specs.Inner.Operations.{mask_bits, InMask, named_by, PerformsRow, TargetSmall, Gives, activity_by};
-ghost use Rattle.sets.specs.Inner.RowEquations.{turn_of, RowThere, Formed};
+ghost use Rattle.sets.specs.Inner.RowEquations.{RowThere, Formed};
 
-use super::{Which, masks};
+use super::masks;
 use sheet::kinds::{Form, Slot};
 use sheet::{RowNumber, Variable, kinds};
 
@@ -25,13 +25,6 @@ pub struct KnownActivity {
     pub varied_b: bool,
     pub active: bool,
 }
-
-// What the walks of the first two sets hand on, which don't ask it.
-pub const UNASKED: KnownActivity = KnownActivity {
-    varied_a: false,
-    varied_b: false,
-    active: false,
-};
 
 // The set of the variable that a word names, without a branch: kinds follow each other in no order that a processor could foresee. A word that names
 // none, such as a constant's number, never becomes a variable.
@@ -80,7 +73,7 @@ fn reads(row: MaskedAssignment) -> u64
     row.first | row.second
 }
 
-fn varied_after(row: MaskedAssignment, before: u64) -> u64
+pub fn varied_after(row: MaskedAssignment, before: u64) -> u64
     requires { TargetSmall row }
     ensures { Gives row result (λ b. varied_after b before) }
 {
@@ -91,7 +84,7 @@ fn varied_after(row: MaskedAssignment, before: u64) -> u64
     }
 }
 
-fn useful_before(row: MaskedAssignment, after: u64) -> u64
+pub fn useful_before(row: MaskedAssignment, after: u64) -> u64
     requires { TargetSmall row }
     ensures { Gives row result (λ b. useful_before b after) }
 {
@@ -132,7 +125,7 @@ fn adjoint_use(row: MaskedAssignment, known: KnownActivity) -> u64
     }
 }
 
-fn required_after(row: MaskedAssignment, known: KnownActivity, before: u64) -> u64
+pub fn required_after(row: MaskedAssignment, known: KnownActivity, before: u64) -> u64
     requires { TargetSmall row }
     ensures { Gives row result (λ b. required_after b (activity_by known) before) }
 {
@@ -144,15 +137,4 @@ pub fn recorded(row: MaskedAssignment, known: KnownActivity, required: u64) -> b
     ensures { Gives row result (λ b. recorded_by b (activity_by known) required) }
 {
     masks::has(required, row.target) | masks::has(adjoint_use(row, known), row.target)
-}
-
-pub fn transfer(which: Which, row: MaskedAssignment, known: KnownActivity, set: u64) -> u64
-    requires { TargetSmall row }
-    ensures { Gives row result (λ b. turn_of which (activity_by known) b set) }
-{
-    match which {
-        Which::Varied => varied_after(row, set),
-        Which::Useful => useful_before(row, set),
-        Which::Required => required_after(row, known, set),
-    }
 }

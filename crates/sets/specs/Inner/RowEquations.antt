@@ -10,8 +10,7 @@ use Rattle.sheet.specs.Inner.Kinds.{assigns, form_for, part_for}
 use Rattle.sheet.specs.declared.kinds.Form.{Form}
 use Rattle.sheet.specs.declared.kinds.Part.{Part}
 use Rattle.sheet.specs.declared.kinds.Part.TheVariants as part
-use Rattle.sets.specs.declared.Which.{Which}
-use Rattle.sets.specs.declared.Which.TheVariants.{Varied, Useful, Required}
+use Rattle.sets.specs.Inner.Analyses.{Which, Varied, Useful, Required, goes_back, inactive}
 use Rattle.sets.specs.VariableSets.{VariableSet, places, ◌∪◌}
 use Rattle.sets.specs.Equations.{Equation, starts, passes, joins, unchanged}
 use Rattle.sets.specs.Rounds.{set_at}
@@ -64,9 +63,6 @@ pub record Given : Type 0 where
 abbrev pub given_by : (words : List ℕ) (first : ℕ) (known : ℕ → Activity) (partners : List ℕ) → Given
 given_by words first known partners = record { words = words; first = first; known = known; partners = partners }
 
-abbrev pub inactive : Activity
-inactive = record { varied_a = false; varied_b = false; active = false }
-
 -- the first two sets don't ask what is known of a row
 abbrev pub unasked : ℕ → Activity
 unasked p = inactive
@@ -84,6 +80,11 @@ known_of_line varied useful end_repeat = inactive
 abbrev pub known_from : (words : List ℕ) (first : ℕ) (varied useful : List VariableSet) → ℕ → Activity
 known_from words first varied useful p = known_of_line (set_at varied p) (set_at useful (suc p)) (line_in words first p)
 
+abbrev pub known_by : Which → (words : List ℕ) (first : ℕ) (varied useful : List VariableSet) → ℕ → Activity
+known_by Varied words first varied useful = unasked
+known_by Useful words first varied useful = unasked
+known_by Required words first varied useful = known_from words first varied useful
+
 abbrev pub row_in : Given → ℕ → Row
 row_in given p = numbered_row given.words given.first p
 
@@ -93,18 +94,14 @@ equation_in which given p = equation_of which (given.known p) (line_of_row (row_
 
 -- in the order of the sweep: useful variables are found from the last row to the first
 unfoldable pub row_in_turn : Which → (rows turn : ℕ) → ℕ
-row_in_turn Varied n i = i
-row_in_turn Useful n i = n - suc i
-row_in_turn Required n i = i
+row_in_turn which n i = cond (goes_back which) (n - suc i) i
 
 unfoldable pub listed : (ℕ → Equation) → (from count : ℕ) → List Equation
 listed e i zero = []
 listed e i (suc n) = e i ∷ listed e (suc i) n
 
 unfoldable pub start_of : Which → (rows : ℕ) → ℕ
-start_of Varied n = 0
-start_of Useful n = n
-start_of Required n = 0
+start_of which n = cond (goes_back which) n 0
 
 unfoldable pub row_equations : Which → Given → (rows : ℕ) → List Equation
 unfolding equation_in row_in_turn listed
@@ -118,14 +115,10 @@ all_equations which given n seed = starts (start_of which n) seed ∷ row_equati
 
 -- the point that a row's own set stands at, and the point that the row settles
 unfoldable pub own_point : Which → ℕ → ℕ
-own_point Varied p = p
-own_point Useful p = p + 1
-own_point Required p = p
+own_point which p = cond (goes_back which) (p + 1) p
 
 unfoldable pub settled_point : Which → ℕ → ℕ
-settled_point Varied p = p + 1
-settled_point Useful p = p
-settled_point Required p = p + 1
+settled_point which p = cond (goes_back which) p (p + 1)
 
 -- whether a row takes its partner's set alone
 abbrev pub splits : Part → Bool
@@ -154,9 +147,7 @@ joins_back part.Repeat = false
 joins_back part.EndRepeat = true
 
 unfoldable pub joins_by : Which → Part → Bool
-joins_by Varied part = joins_on part
-joins_by Useful part = joins_back part
-joins_by Required part = joins_on part
+joins_by which part = cond (goes_back which) (joins_back part) (joins_on part)
 
 -- what a row of a block puts into the set that it settles, by the sets at its own point and at its partner's
 abbrev pub block_side : Which → Part → (own other : VariableSet) → VariableSet

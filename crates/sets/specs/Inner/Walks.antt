@@ -6,8 +6,7 @@ use Rattle.sheet.specs.declared.kinds.Part.{Part}
 use Rattle.sheet.specs.declared.kinds.Part.TheVariants as part
 use Rattle.sheet.specs.Inner.Words.{word_values}
 use Rattle.sets.specs.declared.walk.WalkedTo.{WalkedTo}
-use Rattle.sets.specs.declared.Which.{Which}
-use Rattle.sets.specs.declared.Which.TheVariants.{Varied, Useful, Required}
+use Rattle.sets.specs.Inner.Analyses.{Which, goes_back}
 use Rattle.sets.specs.VariableSets.{VariableSet, empty, ◌∪◌}
 use Rattle.sets.specs.Equations.{Equation, joins, right_side}
 use Rattle.sets.specs.Rounds.{set_at}
@@ -18,9 +17,7 @@ use Rattle.sets.specs.Inner.RowEquations.{AllReadable, all_equations, seed_in}
 
 -- the point where the i-th row in turn takes its own set
 unfoldable pub place_in_turn : Which → (rows turn : ℕ) → ℕ
-place_in_turn Varied n i = i
-place_in_turn Useful n i = n - i
-place_in_turn Required n i = i
+place_in_turn which n i = cond (goes_back which) (n - i) i
 
 -- a repeat's far end: where sets are found from the first row on, and from the last to the first
 abbrev pub ends_on : Part → Bool
@@ -40,9 +37,7 @@ ends_back part.Repeat = true
 ends_back part.EndRepeat = false
 
 unfoldable pub ends_repeat : Which → Part → Bool
-ends_repeat Varied part = ends_on part
-ends_repeat Useful part = ends_back part
-ends_repeat Required part = ends_on part
+ends_repeat which part = cond (goes_back which) (ends_back part) (ends_on part)
 
 -- a row whose equation asks its partner's set
 abbrev pub asks_partner : Which → Part → Bool

@@ -4,4 +4,4 @@ use Rattle.sets.specs.Rounds.{set_at}
 use Rattle.sets.proofs.equations.own_set.Goals as goal
 
 pub returns : goal.returns
-returns c = c.set_at.ensures ∙ ap (set_at c.args.sets.now) c.own_point.ensures
+returns g c = c.set_at.ensures ∙ ap (set_at c.args.sets.now) c.own_point.ensures

@@ -1,0 +1,20 @@
+-- What is passed holds, nothing has more than the least sets, and the next row's own set is in hand. The measure: each way back adds a member, which is worth
+-- a whole walk, and each other row leaves one row fewer.
+use Rattle.sets.specs.Inner.RowEquations.{given_by, known_by, line_in}
+use Rattle.sets.proofs.MarkByteLaws.{MarkingSoFar}
+use Rattle.sets.proofs.Walking.{left_of}
+use Rattle.sets.proofs.WalkNeeds.{Carried}
+use Rattle.sets.proofs.walk.settle.Given as goal
+
+abbrev pub invariant-loop-reached : goal.invariant-loop-reached
+invariant-loop-reached g l =
+    let analysis = g.A.Analysis in
+    let varied = analysis.varied l.analysis in
+    let useful = analysis.useful l.analysis in
+    record {
+      carried : Carried analysis.which (given_by l.words l.extent.first (known_by analysis.which l.words l.extent.first varied useful) l.partners) l.others l.extent.rows l.extent.variables l.sets l.reached;
+      marking : MarkingSoFar analysis.which (line_in l.words l.extent.first) varied useful l.extent.rows l.fn.marks l.sets l.marks l.reached.turn;
+    }
+
+abbrev pub decreases-loop-reached : goal.decreases-loop-reached
+decreases-loop-reached g l = left_of l.extent.variables l.extent.rows l.sets l.reached.turn

@@ -1,0 +1,141 @@
+// The three analyses, each of which finds a set at every point: what differs between them. One walk, compiled for each, does the rest (`walk`).
+ghost use Rattle.std.specs.Prelude.{◌≡◌, ℕ, List, [], length};
+ghost use Rattle.sets.specs.Inner.Operations.{TargetSmall, Gives};
+ghost use Rattle.sets.specs.Inner.RowEquations.{turn_of, has_role};
+ghost use Rattle.sets.specs.Inner.Analyses.{Which, Varied, Useful, Required, goes_back, LendsAt, known_at, marked_at, passed_over};
+
+use super::transfers::MaskedAssignment;
+use super::{marks, transfers};
+use sheet::RowNumber;
+
+// An analysis may read sets that were found before it, and leave the rows' marks on the way.
+pub trait Analysis: Copy {
+    ghost which: { Which };
+
+    ghost varied: { Self → List ℕ };
+
+    ghost useful: { Self → List ℕ };
+
+    // Whether its set is found from the last row to the first.
+    fn goes_back(self) -> bool
+        ensures { result ≡ goes_back which };
+
+    // Whether the start point's set has the variables of a role.
+    fn has_role(self, role: u16) -> bool
+        ensures { result ≡ has_role which role };
+
+    // What an assignment makes of the set at its own point.
+    fn assign(self, row: RowNumber, operation: MaskedAssignment, own: u64, marks: &mut [u8]) -> u64
+        requires { TargetSmall operation × LendsAt which (varied self) (useful self) (length marks.old) row.0 }
+        ensures set { Gives operation result (λ b. turn_of which (known_at which (varied self) (useful self) row.0 b) b own) }
+        ensures marks { Gives operation marks.new (λ b. marked_at which (varied self) (useful self) row.0 own b marks.old) };
+
+    // A row of a block, which changes no set by itself.
+    fn pass_over(self, row: RowNumber, marks: &mut [u8])
+        requires { LendsAt which (varied self) (useful self) (length marks.old) row.0 }
+        ensures { marks.new ≡ passed_over which row.0 marks.old };
+}
+
+#[derive(Clone, Copy)]
+pub struct Varied;
+
+impl Analysis for Varied {
+    ghost which = { Varied };
+
+    ghost varied = { λ _. [] };
+
+    ghost useful = { λ _. [] };
+
+    fn goes_back(self) -> bool {
+        false
+    }
+
+    fn has_role(self, role: u16) -> bool {
+        sheet::is_independent(role)
+    }
+
+    fn assign(
+        self,
+        _row: RowNumber,
+        operation: MaskedAssignment,
+        own: u64,
+        _marks: &mut [u8],
+    ) -> u64 {
+        transfers::varied_after(operation, own)
+    }
+
+    fn pass_over(self, _row: RowNumber, _marks: &mut [u8]) {}
+}
+
+#[derive(Clone, Copy)]
+pub struct Useful;
+
+impl Analysis for Useful {
+    ghost which = { Useful };
+
+    ghost varied = { λ _. [] };
+
+    ghost useful = { λ _. [] };
+
+    fn goes_back(self) -> bool {
+        true
+    }
+
+    fn has_role(self, role: u16) -> bool {
+        sheet::is_dependent(role)
+    }
+
+    fn assign(
+        self,
+        _row: RowNumber,
+        operation: MaskedAssignment,
+        own: u64,
+        _marks: &mut [u8],
+    ) -> u64 {
+        transfers::useful_before(operation, own)
+    }
+
+    fn pass_over(self, _row: RowNumber, _marks: &mut [u8]) {}
+}
+
+// By the other two sets. Each row's byte of marks is made on the way.
+#[derive(Clone, Copy)]
+pub struct Required<'a> {
+    pub varied: &'a [u64],
+    pub useful: &'a [u64],
+}
+
+impl<'a> Analysis for Required<'a> {
+    ghost which = { Required };
+
+    ghost varied = { λ s. s.varied.now };
+
+    ghost useful = { λ s. s.useful.now };
+
+    fn goes_back(self) -> bool {
+        false
+    }
+
+    fn has_role(self, _role: u16) -> bool {
+        false
+    }
+
+    fn assign(
+        self,
+        row: RowNumber,
+        operation: MaskedAssignment,
+        own: u64,
+        marks: &mut [u8],
+    ) -> u64 {
+        let number = row.0;
+        let known = marks::activity_at(row, operation, self.varied, self.useful);
+        let byte = marks::row_byte(operation, known, own);
+        marks[number] = byte;
+        transfers::required_after(operation, known, own)
+    }
+
+    fn pass_over(self, row: RowNumber, marks: &mut [u8]) {
+        let number = row.0;
+        marks[number] = 0;
+    }
+}
