@@ -27,8 +27,7 @@ pub fn sizes_of(words: &[u16], shape: sheet::Shape, marks: &[u8]) -> Sizes
     for p in 0..shape.rows {
         let row = sheet::row_of(words, shape.first_row, RowNumber(p));
         let kind = sheet::wide(row.kind);
-        let form = forms[kind];
-        let part = form.3;
+        let part = forms[kind].3;
         let mark = marks[p];
         rows += count::row_count(row, part, mark);
         match part {

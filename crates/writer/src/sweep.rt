@@ -34,22 +34,16 @@ fn forward_part(
     ensures { WroteNoted table.old from.place (forward_all words.now shape marks.now)
         table.new result.place (noting from.top beyond.old) (noting result.top beyond.new) }
 {
-    let rows = shape.rows;
     let forms = sheet::kinds::forms();
-    let mut next: usize = from.place;
-    let mut top: u16 = from.top;
-    let mut p: usize = 0;
-    while p < rows {
+    let SweptTo { mut place, mut top } = from;
+    for p in 0..shape.rows {
         let row = sheet::row_of(words, shape.first_row, RowNumber(p));
         let kind = sheet::wide(row.kind);
-        let form = forms[kind];
-        let part = form.3;
-        next = rows::forward_row(table, next, row, part, marks[p]);
-        let what = jumps::forward(part);
-        top = jumps::note(what, next, top, beyond);
-        p += 1;
+        let part = forms[kind].3;
+        place = rows::forward_row(table, place, row, part, marks[p]);
+        top = jumps::note(jumps::forward(part), place, top, beyond);
     }
-    SweptTo { place: next, top }
+    SweptTo { place, top }
 }
 
 // Where the backward walk goes from a row: to the end of what comes next there.
@@ -59,21 +53,9 @@ fn step_back(came: &[u16], goes: &[u16], row: RowNumber, part: Part) -> usize
     ensures { result ≡ step_back came.now goes.now row.0 part }
 {
     match part {
-        Part::Assignment => row.0,
-        Part::If => {
-            let end = partners::if_end(goes, row);
-            end.0
-        }
-        Part::Else => {
-            let start = partners::partner(came, row);
-            start.0
-        }
-        Part::EndIf => {
-            let split = partners::partner(came, row);
-            split.0
-        }
-        Part::Repeat => row.0,
-        Part::EndRepeat => row.0,
+        Part::Assignment | Part::Repeat | Part::EndRepeat => row.0,
+        Part::If => partners::if_end(goes, row).0,
+        Part::Else | Part::EndIf => partners::partner(came, row).0,
     }
 }
 
@@ -94,12 +76,10 @@ fn turns_back(words: &[u16], first: usize, goes: &[u16], row: RowNumber, part: P
         × (leads_on part ≡ true → first + (get_or goes.now row.0 0 + 1) * limit.row_words ≤ length words.now) }
     ensures { result ≡ turns_back words.now first goes.now row.0 part }
 {
-    if let Part::EndRepeat = part {
-        let start = partners::partner(goes, row);
-        let opened = sheet::row_of(words, first, start);
-        return turns_said(opened);
-    }
-    0
+    let Part::EndRepeat = part else {
+        return 0;
+    };
+    turns_said(sheet::row_of(words, first, partners::partner(goes, row)))
 }
 
 // The backward part: each row's rows once, from the last row on, each "if" with its branches in their places and reversed inside.
@@ -123,24 +103,19 @@ fn backward_part(
 {
     let variables = shape.variables as u16;
     let forms = sheet::kinds::forms();
-    let mut next: usize = from.place;
-    let mut top: u16 = from.top;
-    let mut end: usize = shape.rows;
-    let mut left: usize = shape.rows;
-    while 0 < left {
-        let q = end - 1;
+    let SweptTo { mut place, mut top } = from;
+    let mut until = shape.rows;
+    for _ in 0..shape.rows {
+        let q = until - 1;
         let row = sheet::row_of(words, shape.first_row, RowNumber(q));
         let kind = sheet::wide(row.kind);
-        let form = forms[kind];
-        let part = form.3;
+        let part = forms[kind].3;
         let turns = turns_back(words, shape.first_row, goes, RowNumber(q), part);
-        next = rows::backward_row(table, next, variables, row, part, marks[q], turns);
-        let what = jumps::backward(part);
-        top = jumps::note(what, next, top, beyond);
-        end = step_back(came, goes, RowNumber(q), part);
-        left -= 1;
+        place = rows::backward_row(table, place, variables, row, part, marks[q], turns);
+        top = jumps::note(jumps::backward(part), place, top, beyond);
+        until = step_back(came, goes, RowNumber(q), part);
     }
-    SweptTo { place: next, top }
+    SweptTo { place, top }
 }
 
 // The whole table: the row count, the forward part, row 17 and the backward part.
@@ -167,9 +142,6 @@ pub fn write_table(
     let first = SweptTo { place: 1, top: 0 };
     let turned = forward_part(words, shape, marks, table, first, beyond);
     let place = rows::put(table, turned.place, kinds::TURN_ROUND, 0, 0, 0);
-    let back = SweptTo {
-        place,
-        top: turned.top,
-    };
+    let back = SweptTo { place, ..turned };
     backward_part(words, shape, marks, came, goes, table, back, beyond)
 }
