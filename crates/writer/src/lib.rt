@@ -12,6 +12,7 @@ ghost use Rattle.table.specs.Calls.{write};
 ghost use Rattle.table.specs.Inner.Plans.{PlanSays};
 ghost use Rattle.writer.specs.Inner.JumpsNoted.{TableNoted};
 
+use sweep::Handed;
 use table::{MAX_TABLE_ROWS, Plan, Reply};
 
 pub mod jumps;
@@ -34,7 +35,14 @@ pub fn write_planned(
     ensures { (sheet : Sheet) → read words.now ≡ given sheet
         → TableNoted (table_of sheet) table.old table.new beyond.old beyond.new }
 {
-    sweep::write_table(words, plan, marks, came, goes, table, beyond);
+    let given = Handed {
+        words,
+        shape: plan.shape,
+        marks,
+        came,
+        goes,
+    };
+    sweep::write_table(given, plan.rows, table, beyond);
 }
 
 // Whether so many words hold the table's row count and its rows.

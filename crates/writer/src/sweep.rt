@@ -3,14 +3,24 @@ ghost use Rattle.std.specs.Prelude.{◌≡◌, true, set, length, get_or, ◌+�
 ghost use Rattle.sheet.specs.Bounds.{limit};
 ghost use Rattle.sheet.specs.Answers.{row_said};
 ghost use Rattle.table.specs.RowBounds.{most_table_rows};
-ghost use Rattle.table.specs.Inner.MarkedRows.{RowsReadable};
-ghost use Rattle.writer.specs.Inner.RowsWritten.{RowRoom, forward_all, leads_on, step_back, turns_said_by, turns_back, handed, Walkable, backward_all, whole_rows};
+ghost use Rattle.writer.specs.Inner.RowsWritten.{RowRoom, leads_on, step_back, turns_said_by, turns_back, Walkable, backward_all, whole_rows};
+ghost use Rattle.writer.specs.Inner.TableHanded.{handed_by, forward_of, Readable};
 ghost use Rattle.writer.specs.Inner.JumpsNoted.{noting, Numbered, WroteNoted};
 
 use super::{jumps, partners, rows};
 use sheet::kinds::Part;
 use sheet::{RowNumber, RowWords, Shape};
-use table::{MAX_TABLE_ROWS, Plan, kinds};
+use table::{MAX_TABLE_ROWS, kinds};
+
+// What a table is written from: a planned sheet's words and where they lie, every row's marks and partners.
+#[derive(Clone, Copy)]
+pub struct Handed<'a> {
+    pub words: &'a [u16],
+    pub shape: Shape,
+    pub marks: &'a [u8],
+    pub came: &'a [u16],
+    pub goes: &'a [u16],
+}
 
 // Where the writer is: the place after the last row, and the innermost open branch's or loop's row.
 #[derive(Clone, Copy)]
@@ -21,26 +31,25 @@ pub struct SweptTo {
 
 // The forward part: each row's rows in the sheet's order.
 fn forward_part(
-    words: &[u16],
-    shape: Shape,
-    marks: &[u8],
+    given: Handed,
     table: &mut [u16],
     from: SweptTo,
     beyond: &mut [u16; MAX_TABLE_ROWS],
 ) -> SweptTo
-    requires room { RowRoom table.old from.place (forward_all words.now shape marks.now) }
-    requires numbered { Numbered from.place (forward_all words.now shape marks.now) }
-    requires readable { RowsReadable words.now shape marks.now }
-    ensures { WroteNoted table.old from.place (forward_all words.now shape marks.now)
+    requires room { RowRoom table.old from.place (forward_of given) }
+    requires numbered { Numbered from.place (forward_of given) }
+    requires readable { Readable given }
+    ensures { WroteNoted table.old from.place (forward_of given.entry)
         table.new result.place (noting from.top beyond.old) (noting result.top beyond.new) }
 {
+    let shape = given.shape;
     let forms = sheet::kinds::forms();
     let SweptTo { mut place, mut top } = from;
     for p in 0..shape.rows {
-        let row = sheet::row_of(words, shape.first_row, RowNumber(p));
+        let row = sheet::row_of(given.words, shape.first_row, RowNumber(p));
         let kind = sheet::wide(row.kind);
         let part = forms[kind].3;
-        place = rows::forward_row(table, place, row, part, marks[p]);
+        place = rows::forward_row(table, place, row, part, given.marks[p]);
         top = jumps::note(jumps::forward(part), place, top, beyond);
     }
     SweptTo { place, top }
@@ -84,64 +93,55 @@ fn turns_back(words: &[u16], first: usize, goes: &[u16], row: RowNumber, part: P
 
 // The backward part: each row's rows once, from the last row on, each "if" with its branches in their places and reversed inside.
 fn backward_part(
-    words: &[u16],
-    shape: Shape,
-    marks: &[u8],
-    came: &[u16],
-    goes: &[u16],
+    given: Handed,
     table: &mut [u16],
     from: SweptTo,
     beyond: &mut [u16; MAX_TABLE_ROWS],
 ) -> SweptTo
-    requires room { RowRoom table.old from.place (backward_all (handed words.now shape marks.now came.now goes.now)) }
-    requires numbered { Numbered from.place (backward_all (handed words.now shape marks.now came.now goes.now)) }
-    requires readable { RowsReadable words.now shape marks.now }
-    requires walkable { Walkable (handed words.now shape marks.now came.now goes.now) }
-    ensures { WroteNoted table.old from.place
-        (backward_all (handed words.now shape marks.now came.now goes.now))
+    requires room { RowRoom table.old from.place (backward_all (handed_by given)) }
+    requires numbered { Numbered from.place (backward_all (handed_by given)) }
+    requires readable { Readable given }
+    requires walkable { Walkable (handed_by given) }
+    ensures { WroteNoted table.old from.place (backward_all (handed_by given.entry))
         table.new result.place (noting from.top beyond.old) (noting result.top beyond.new) }
 {
+    let shape = given.shape;
     let variables = shape.variables as u16;
     let forms = sheet::kinds::forms();
     let SweptTo { mut place, mut top } = from;
     let mut until = shape.rows;
     for _ in 0..shape.rows {
         let q = until - 1;
-        let row = sheet::row_of(words, shape.first_row, RowNumber(q));
+        let row = sheet::row_of(given.words, shape.first_row, RowNumber(q));
         let kind = sheet::wide(row.kind);
         let part = forms[kind].3;
-        let turns = turns_back(words, shape.first_row, goes, RowNumber(q), part);
-        place = rows::backward_row(table, place, variables, row, part, marks[q], turns);
+        let turns = turns_back(given.words, shape.first_row, given.goes, RowNumber(q), part);
+        place = rows::backward_row(table, place, variables, row, part, given.marks[q], turns);
         top = jumps::note(jumps::backward(part), place, top, beyond);
-        until = step_back(came, goes, RowNumber(q), part);
+        until = step_back(given.came, given.goes, RowNumber(q), part);
     }
     SweptTo { place, top }
 }
 
 // The whole table: the row count, the forward part, row 17 and the backward part.
 pub fn write_table(
-    words: &[u16],
-    plan: Plan,
-    marks: &[u8],
-    came: &[u16],
-    goes: &[u16],
+    given: Handed,
+    table_rows: usize,
     table: &mut [u16],
     beyond: &mut [u16; MAX_TABLE_ROWS],
 ) -> SweptTo
-    requires room { RowRoom table.old 1 (whole_rows (handed words.now plan.shape marks.now came.now goes.now)) }
-    requires numbered { Numbered 1 (whole_rows (handed words.now plan.shape marks.now came.now goes.now)) }
-    requires readable { RowsReadable words.now plan.shape marks.now }
-    requires walkable { Walkable (handed words.now plan.shape marks.now came.now goes.now) }
-    requires rows_few { plan.rows ≤ most_table_rows }
-    ensures { WroteNoted (set table.old 0 plan.rows) 1
-        (whole_rows (handed words.now plan.shape marks.now came.now goes.now))
+    requires room { RowRoom table.old 1 (whole_rows (handed_by given)) }
+    requires numbered { Numbered 1 (whole_rows (handed_by given)) }
+    requires readable { Readable given }
+    requires walkable { Walkable (handed_by given) }
+    requires rows_few { table_rows ≤ most_table_rows }
+    ensures { WroteNoted (set table.old 0 table_rows) 1 (whole_rows (handed_by given.entry))
         table.new result.place (noting 0 beyond.old) (noting result.top beyond.new) }
 {
-    let shape = plan.shape;
-    table[0] = plan.rows as u16;
+    table[0] = table_rows as u16;
     let first = SweptTo { place: 1, top: 0 };
-    let turned = forward_part(words, shape, marks, table, first, beyond);
+    let turned = forward_part(given, table, first, beyond);
     let place = rows::put(table, turned.place, kinds::TURN_ROUND, 0, 0, 0);
     let back = SweptTo { place, ..turned };
-    backward_part(words, shape, marks, came, goes, table, back, beyond)
+    backward_part(given, table, back, beyond)
 }

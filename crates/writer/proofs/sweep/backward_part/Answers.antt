@@ -13,7 +13,8 @@ use Rattle.sheet.proofs.PartsRead.{form_in, part_there}
 use Rattle.sheet.proofs.RowsByKind.{row_kind}
 use Rattle.table.specs.Inner.MarkedRows.{SaysPart, SmallWords, backward_of_line}
 use Rattle.table.proofs.LineRows.{says_part}
-use Rattle.writer.specs.Inner.RowsWritten.{leads_on, Handed, handed, backward_all, backward_rows, step_back, turns_back, Visited}
+use Rattle.writer.specs.Inner.RowsWritten.{leads_on, Handed, backward_all, backward_rows, step_back, turns_back, Visited}
+use Rattle.writer.specs.Inner.TableHanded.{handed_by}
 use Rattle.writer.proofs.WritingLaws.{underway_start, underway_room, underway_next, underway_end, underway_length, room_first}
 use Rattle.writer.proofs.JumpLaws.{jumping_start, backward_ends, row_ends, jumping_next, jumping_end}
 use Rattle.writer.proofs.BackwardOver.{backward_next, backward_none, visit_now, walk_on}
@@ -21,12 +22,12 @@ use Rattle.writer.proofs.sweep.backward_part.Goals.{In-loop, After-wide-kind}
 use Rattle.writer.proofs.sweep.backward_part.Goals as goal
 
 module _ (c : In-loop) where
-  visit : let x = c.args in Visited (handed x.words.now x.shape x.marks.now x.came.now x.goes.now) c.loop.until
+  visit : Visited (handed_by c.args.given) c.loop.until
   visit = visit_now _ _ _ (omega arith) c.loop.invariant.walks
 
 module _ (c : After-wide-kind) where
   abbrev given : Handed
-  given = let x = c.args in handed x.words.now x.shape x.marks.now x.came.now x.goes.now
+  given = handed_by c.args.given
 
   abbrev q : ℕ
   q = c.loop.until - 1
@@ -69,10 +70,9 @@ module _ (c : After-wide-kind) where
 
 pub loop-init : goal.loop-init
 loop-init c =
-    let x = c.args in
-    let given = handed x.words.now x.shape x.marks.now x.came.now x.goes.now in
-    let whole : x.shape.rows - 0 ≡ x.shape.rows = omega arith in
-    let all = ap (λ n. backward_rows given n x.shape.rows) whole in
+    let given = handed_by c.args.given in
+    let whole : given.rows - 0 ≡ given.rows = omega arith in
+    let all = ap (λ n. backward_rows given n given.rows) whole in
     record { walks = rw whole c.requires.walkable.walks; written = underway_start _ _ all; noted = jumping_start _ all c.requires.numbered }
 
 pub overflow_sub-q : goal.overflow_sub-q
@@ -89,8 +89,8 @@ turns_back-turns-requires c =
     let at_row = (goal.at.turns_back-turns-requires c).After-wide-kind in
     (omega (arith, there at_row, c.requires.walkable.goes_there), λ e. omega (arith, leads at_row e, c.requires.readable.there))
 
-pub bounds-marks-q : goal.bounds-marks-q
-bounds-marks-q c = omega (arith, there (goal.at.bounds-marks-q c).After-wide-kind, c.requires.readable.marked)
+pub bounds-given-q : goal.bounds-given-q
+bounds-given-q c = omega (arith, there (goal.at.bounds-given-q c).After-wide-kind, c.requires.readable.marked)
 
 pub backward_row-place-requires : goal.backward_row-place-requires
 backward_row-place-requires c =
@@ -123,8 +123,8 @@ loop-preserved c =
     let rows = c.backward_row-place.ensures in
     let goes = c.step_back-until.ensures in
     let rest = left at_row c.turns_back-turns.ensures goes in
-    let x = c.args in
-    let fewer : x.shape.rows - (c.loop.counter + 1) ≡ x.shape.rows - c.loop.counter - 1 = omega arith in
+    let rows_in = c.args.given.shape.rows in
+    let fewer : rows_in - (c.loop.counter + 1) ≡ rows_in - c.loop.counter - 1 = omega arith in
     record {
       walks = rw fewer (walk_on (given at_row) _ _ (some at_row) c.row_of-row.ensures (said at_row).is goes held.walks);
       written = underway_next _ held.written rest rows;
@@ -136,7 +136,6 @@ shape_of-table c = underway_length c.loop.invariant.written
 
 pub returns : goal.returns
 returns c =
-    let x = c.args in
-    let given = handed x.words.now x.shape x.marks.now x.came.now x.goes.now in
+    let given = handed_by c.args.given in
     let none = backward_none given _ _ (omega arith) in
     record { wrote = underway_end c.loop.invariant.written none; noted = jumping_end c.loop.invariant.noted none }

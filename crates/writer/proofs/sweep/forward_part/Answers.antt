@@ -27,15 +27,15 @@ module _ (c : After-wide-kind) where
   said = says_part _ _ says (part_there c.forms-forms.ensures c.wide-kind.ensures.0 (row_kind says))
 
   -- the row's rows before those of the rest
-  left : let x = c.args in let p = c.loop-p.p in let rest = forward_rows x.words.now x.shape.first_row x.marks.now in
+  left : let x = c.args.given in let p = c.loop-p.p in let rest = forward_rows x.words.now x.shape.first_row x.marks.now in
       rest p (x.shape.rows - p) ≡ forward_of_line (get_or x.marks.now p 0) (line_of_row (row_said c.row_of-row.result)) ++ rest (p + 1) (x.shape.rows - (p + 1))
   left =
-      let x = c.args in
+      let x = c.args.given in
       along_next forward_of_line x.words.now x.shape.first_row x.marks.now _ x.shape.rows c.loop-p-test.true c.row_of-row.ensures
 
 pub loop-p-init : goal.loop-p-init
 loop-p-init c =
-    let x = c.args in
+    let x = c.args.given in
     let whole : x.shape.rows - 0 ≡ x.shape.rows = omega arith in
     let all = ap (forward_rows x.words.now x.shape.first_row x.marks.now 0) whole in
     record { written = underway_start _ _ all; noted = jumping_start _ all c.requires.numbered }
@@ -68,6 +68,6 @@ shape_of-table c = underway_length c.loop-p.invariant.written
 
 pub returns : goal.returns
 returns c =
-    let x = c.args in
+    let x = c.args.given in
     let none = along_none forward_of_line x.words.now x.shape.first_row x.marks.now _ x.shape.rows c.loop-p-test.false in
     record { wrote = underway_end c.loop-p.invariant.written none; noted = jumping_end c.loop-p.invariant.noted none }
