@@ -1,6 +1,7 @@
 // The two parts of the table, each in one pass over the sheet's rows.
 ghost use Rattle.std.specs.Prelude.{◌≡◌, true, set, length, get_or, ◌+◌, ◌*◌, ◌≤◌, ◌<◌};
 ghost use Rattle.sheet.specs.Bounds.{limit};
+ghost use Rattle.sheet.specs.Sheets.{row_at};
 ghost use Rattle.sheet.specs.Answers.{row_said};
 ghost use Rattle.table.specs.RowBounds.{most_table_rows};
 ghost use Rattle.writer.specs.Inner.RowsWritten.{RowRoom, leads_on, step_back, turns_said_by, turns_back, Walkable, backward_all, whole_rows};
@@ -20,6 +21,41 @@ pub struct Handed<'a> {
     pub marks: &'a [u8],
     pub came: &'a [u16],
     pub goes: &'a [u16],
+}
+
+impl Handed<'_> {
+    fn row(self, row: RowNumber) -> RowWords
+        requires { self.shape.first_row + (row.0 + 1) * limit.row_words ≤ length self.words.now }
+        ensures { row_said result ≡ row_at self.entry.words.now (self.entry.shape.first_row + row.0 * limit.row_words) }
+    {
+        sheet::row_of(self.words, self.shape.first_row, row)
+    }
+
+    // Where the backward walk goes from a row: to the end of what comes next there.
+    fn step_back(self, row: RowNumber, part: Part) -> usize
+        requires { (row.0 < length self.came.now) × (row.0 < length self.goes.now)
+            × (leads_on part ≡ true → get_or self.goes.now row.0 0 < length self.goes.now) }
+        ensures { result ≡ step_back self.entry.came.now self.entry.goes.now row.0 part }
+    {
+        match part {
+            Part::Assignment | Part::Repeat | Part::EndRepeat => row.0,
+            Part::If => partners::if_end(self.goes, row).0,
+            Part::Else | Part::EndIf => partners::partner(self.came, row).0,
+        }
+    }
+
+    // The turns of the loop that an "end repeat" closes; 0 for any other row.
+    fn turns_back(self, row: RowNumber, part: Part) -> u16
+        requires { (row.0 < length self.goes.now)
+            × (leads_on part ≡ true
+            → self.shape.first_row + (get_or self.goes.now row.0 0 + 1) * limit.row_words ≤ length self.words.now) }
+        ensures { result ≡ turns_back self.entry.words.now self.entry.shape.first_row self.entry.goes.now row.0 part }
+    {
+        let Part::EndRepeat = part else {
+            return 0;
+        };
+        turns_said(self.row(partners::partner(self.goes, row)))
+    }
 }
 
 // Where the writer is: the place after the last row, and the innermost open branch's or loop's row.
@@ -46,26 +82,13 @@ fn forward_part(
     let forms = sheet::kinds::forms();
     let SweptTo { mut place, mut top } = from;
     for p in 0..shape.rows {
-        let row = sheet::row_of(given.words, shape.first_row, RowNumber(p));
+        let row = given.row(RowNumber(p));
         let kind = sheet::wide(row.kind);
         let part = forms[kind].3;
         place = rows::forward_row(table, place, row, part, given.marks[p]);
         top = jumps::note(jumps::forward(part), place, top, beyond);
     }
     SweptTo { place, top }
-}
-
-// Where the backward walk goes from a row: to the end of what comes next there.
-fn step_back(came: &[u16], goes: &[u16], row: RowNumber, part: Part) -> usize
-    requires { (row.0 < length came.now) × (row.0 < length goes.now)
-        × (leads_on part ≡ true → get_or goes.now row.0 0 < length goes.now) }
-    ensures { result ≡ step_back came.now goes.now row.0 part }
-{
-    match part {
-        Part::Assignment | Part::Repeat | Part::EndRepeat => row.0,
-        Part::If => partners::if_end(goes, row).0,
-        Part::Else | Part::EndIf => partners::partner(came, row).0,
-    }
 }
 
 // The turns that the backward part says of a loop: one with a test takes its count back, and says none.
@@ -77,18 +100,6 @@ fn turns_said(opened: RowWords) -> u16
     } else {
         opened.a
     }
-}
-
-// Those of the loop that an "end repeat" closes; 0 for any other row.
-fn turns_back(words: &[u16], first: usize, goes: &[u16], row: RowNumber, part: Part) -> u16
-    requires { (row.0 < length goes.now)
-        × (leads_on part ≡ true → first + (get_or goes.now row.0 0 + 1) * limit.row_words ≤ length words.now) }
-    ensures { result ≡ turns_back words.now first goes.now row.0 part }
-{
-    let Part::EndRepeat = part else {
-        return 0;
-    };
-    turns_said(sheet::row_of(words, first, partners::partner(goes, row)))
 }
 
 // The backward part: each row's rows once, from the last row on, each "if" with its branches in their places and reversed inside.
@@ -112,13 +123,13 @@ fn backward_part(
     let mut until = shape.rows;
     for _ in 0..shape.rows {
         let q = until - 1;
-        let row = sheet::row_of(given.words, shape.first_row, RowNumber(q));
+        let row = given.row(RowNumber(q));
         let kind = sheet::wide(row.kind);
         let part = forms[kind].3;
-        let turns = turns_back(given.words, shape.first_row, given.goes, RowNumber(q), part);
+        let turns = given.turns_back(RowNumber(q), part);
         place = rows::backward_row(table, place, variables, row, part, given.marks[q], turns);
         top = jumps::note(jumps::backward(part), place, top, beyond);
-        until = step_back(given.came, given.goes, RowNumber(q), part);
+        until = given.step_back(RowNumber(q), part);
     }
     SweptTo { place, top }
 }

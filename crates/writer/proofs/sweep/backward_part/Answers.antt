@@ -42,31 +42,31 @@ module _ (c : After-wide-kind) where
   there = omega (arith, here)
 
   -- the row that was read says a line
-  says : SaysLine (row_said c.row_of-row.result)
-  says = subst SaysLine (sym c.row_of-row.ensures) (c.requires.readable.says _ there)
+  says : SaysLine (row_said c.row-row.result)
+  says = subst SaysLine (sym c.row-row.ensures) (c.requires.readable.says _ there)
 
   abbrev part : Part
   part = (form_in c.forms-forms.result c.wide-kind.result).3
 
   -- and what its line is
-  said : SaysPart (row_said c.row_of-row.result) part
+  said : SaysPart (row_said c.row-row.result) part
   said = says_part _ _ says (part_there c.forms-forms.ensures c.wide-kind.ensures.0 (row_kind says))
 
   -- the row that it leads to is there
   leads : leads_on part ≡ true → get_or given.goes q 0 < given.rows
-  leads e = here.leads (ap leads_on (sym (said.is ∙ ap (λ r. part_of (line_of_row r)) c.row_of-row.ensures)) ∙ e)
+  leads e = here.leads (ap leads_on (sym (said.is ∙ ap (λ r. part_of (line_of_row r)) c.row-row.ensures)) ∙ e)
 
-  small : SmallWords given.variables (row_said c.row_of-row.result)
-  small = subst (SmallWords given.variables) (sym c.row_of-row.ensures) (c.requires.walkable.small _ there)
+  small : SmallWords given.variables (row_said c.row-row.result)
+  small = subst (SmallWords given.variables) (sym c.row-row.ensures) (c.requires.walkable.small _ there)
 
   -- the row's rows before those of the rest of the walk
   left : {turns next : ℕ} → turns ≡ turns_back given.words given.first given.goes q part → next ≡ step_back given.came given.goes q part
       → backward_rows given (given.rows - c.loop.counter) c.loop.until
-      ≡ backward_of_line given.variables (get_or given.marks q 0) turns (line_of_row (row_said c.row_of-row.result))
+      ≡ backward_of_line given.variables (get_or given.marks q 0) turns (line_of_row (row_said c.row-row.result))
       ++ backward_rows given (given.rows - (c.loop.counter + 1)) next
   left turns goes =
       let fewer : given.rows - (c.loop.counter + 1) ≡ given.rows - c.loop.counter - 1 = omega arith in
-      rw fewer (backward_next given _ _ some c.row_of-row.ensures said.is turns goes)
+      rw fewer (backward_next given _ _ some c.row-row.ensures said.is turns goes)
 
 pub loop-init : goal.loop-init
 loop-init c =
@@ -78,8 +78,8 @@ loop-init c =
 pub overflow_sub-q : goal.overflow_sub-q
 overflow_sub-q c = omega (arith, visit (goal.at.overflow_sub-q c).In-loop)
 
-pub row_of-row-requires : goal.row_of-row-requires
-row_of-row-requires c = omega (arith, visit (goal.at.row_of-row-requires c).In-loop, c.requires.readable.there)
+pub row-row-requires : goal.row-row-requires
+row-row-requires c = omega (arith, visit (goal.at.row-row-requires c).In-loop, c.requires.readable.there)
 
 pub bounds-forms-kind : goal.bounds-forms-kind
 bounds-forms-kind c = omega (arith, c.wide-kind.ensures.0, row_kind (says (goal.at.bounds-forms-kind c).After-wide-kind))
@@ -126,7 +126,7 @@ loop-preserved c =
     let rows_in = c.args.given.shape.rows in
     let fewer : rows_in - (c.loop.counter + 1) ≡ rows_in - c.loop.counter - 1 = omega arith in
     record {
-      walks = rw fewer (walk_on (given at_row) _ _ (some at_row) c.row_of-row.ensures (said at_row).is goes held.walks);
+      walks = rw fewer (walk_on (given at_row) _ _ (some at_row) c.row-row.ensures (said at_row).is goes held.walks);
       written = underway_next _ held.written rest rows;
       noted = jumping_next held.noted _ rest rows (backward_ends (said at_row) _ _ _ c.backward.ensures) c.note-top.ensures;
     }

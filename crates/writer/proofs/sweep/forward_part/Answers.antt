@@ -19,19 +19,19 @@ use Rattle.writer.proofs.sweep.forward_part.Goals as goal
 
 module _ (c : After-wide-kind) where
   -- the row that was read says a line
-  says : SaysLine (row_said c.row_of-row.result)
-  says = subst SaysLine (sym c.row_of-row.ensures) (c.requires.readable.says _ c.loop-p-test.true)
+  says : SaysLine (row_said c.row-row.result)
+  says = subst SaysLine (sym c.row-row.ensures) (c.requires.readable.says _ c.loop-p-test.true)
 
   -- and what its line is
-  said : SaysPart (row_said c.row_of-row.result) (form_in c.forms-forms.result c.wide-kind.result).3
+  said : SaysPart (row_said c.row-row.result) (form_in c.forms-forms.result c.wide-kind.result).3
   said = says_part _ _ says (part_there c.forms-forms.ensures c.wide-kind.ensures.0 (row_kind says))
 
   -- the row's rows before those of the rest
   left : let x = c.args.given in let p = c.loop-p.p in let rest = forward_rows x.words.now x.shape.first_row x.marks.now in
-      rest p (x.shape.rows - p) ≡ forward_of_line (get_or x.marks.now p 0) (line_of_row (row_said c.row_of-row.result)) ++ rest (p + 1) (x.shape.rows - (p + 1))
+      rest p (x.shape.rows - p) ≡ forward_of_line (get_or x.marks.now p 0) (line_of_row (row_said c.row-row.result)) ++ rest (p + 1) (x.shape.rows - (p + 1))
   left =
       let x = c.args.given in
-      along_next forward_of_line x.words.now x.shape.first_row x.marks.now _ x.shape.rows c.loop-p-test.true c.row_of-row.ensures
+      along_next forward_of_line x.words.now x.shape.first_row x.marks.now _ x.shape.rows c.loop-p-test.true c.row-row.ensures
 
 pub loop-p-init : goal.loop-p-init
 loop-p-init c =

@@ -1,8 +1,8 @@
--- `writer::sweep::step_back` meets its contract, by what the row is to the blocks.
+-- `writer::sweep::Handed::step_back` meets its contract, by what the row is to the blocks.
 use mathlib.Core.Path.{ap}
 use mathlib.Core.Logic.{inl, inr}
 use Rattle.writer.specs.Inner.RowsWritten.{leads_on, step_back}
-use Rattle.writer.proofs.sweep.step_back.Goals as goal
+use Rattle.writer.proofs.sweep.Handed.step_back.Goals as goal
 
 pub if_end-requires : goal.if_end-requires
 if_end-requires c = (c.requires.1, c.requires.2 (ap leads_on c.in-If.is))
