@@ -24,29 +24,34 @@ use Rattle.table.proofs.SheetLaid.{sheet_lies}
 
 -- ---- the pass over the rows
 
-pub record Looking (words : List ℕ) (first rows place left : ℕ) : Type 0 where
-  pub same : undivided (rows_at words place left) place ≡ undivided (rows_at words first rows) first
-  pub there : place + left * limit.row_words ≤ length words
+-- the rows from row p on come to what all rows come to
+pub record Looking (words : List ℕ) (first rows p : ℕ) : Type 0 where
+  pub same : undivided (rows_at words (first + p * limit.row_words) (rows - p)) (first + p * limit.row_words)
+      ≡ undivided (rows_at words first rows) first
 
-module _ {words : List ℕ} {first rows place : ℕ} where
-  pub looked_through : {left : ℕ} → Looking words first rows place left → left ≤ 0 → given tt ≡ undivided (rows_at words first rows) first
+module _ {words : List ℕ} {first rows p : ℕ} (looking : Looking words first rows p) where
+  pub looked_through : rows ≤ p → given tt ≡ undivided (rows_at words first rows) first
   unfolding rows_at undivided
-  looked_through {left = zero} looking none = looking.same
-  looked_through {left = suc left} looking none = absurd (omega arith)
+  looked_through none = let over : rows - p ≡ 0 = omega arith in rw over at looking.same
 
-  pub quotient_met : {left : ℕ} → Looking words first rows place left → 0 < left → get_or words place 0 ≡ quotient_kind
+  abbrev place : ℕ
+  place = first + p * limit.row_words
+
+  -- with the row at hand first
+  with_row : p < rows → undivided (rows_at words place (suc (rows - suc p))) place ≡ undivided (rows_at words first rows) first
+  with_row some = let left : rows - p ≡ suc (rows - suc p) = omega arith in rw left at looking.same
+
+  pub quotient_met : p < rows → get_or words place 0 ≡ quotient_kind
       → refused (holds_quotient place) ≡ undivided (rows_at words first rows) first
   unfolding rows_at undivided row_at
-  quotient_met {left = zero} looking some is = absurd (omega arith)
-  quotient_met {left = suc left} looking some is = rw (eq-eqb _ _ is) at looking.same
+  quotient_met some is = rw (eq-eqb _ _ is) at (with_row some)
 
-  pub another_met : {left : ℕ} → Looking words first rows place left → 0 < left → get_or words place 0 ≢ quotient_kind
-      → Looking words first rows (place + limit.row_words) (left - 1)
+  pub another_met : p < rows → get_or words place 0 ≢ quotient_kind → Looking words first rows (p + 1)
   unfolding rows_at undivided row_at
-  another_met {left = zero} looking some other = absurd (omega arith)
-  another_met {left = suc left} looking some other =
-      let fewer : suc left - 1 ≡ left = omega arith in
-      rw fewer (record { same = rw (ne_eqb _ _ other) at looking.same; there = omega (arith, looking.there) })
+  another_met some other =
+      let next : p + 1 ≡ suc p = omega arith in
+      let after : first + suc p * limit.row_words ≡ place + limit.row_words = omega arith in
+      record { same = rw (next, after) (rw (ne_eqb _ _ other) at (with_row some)) }
 
 -- ---- of a planned sheet
 

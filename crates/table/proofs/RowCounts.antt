@@ -3,6 +3,7 @@ use Prim.Native.Nat.{ℕ, zero, suc, ◌+◌, ◌*◌, ◌-◌, ◌≤◌, ◌<�
 use mathlib.Core.Path.{◌≡◌, refl, ap, ◌∙◌}
 use mathlib.Core.Bool.{Bool, true, false, cond, not, ◌&&◌, ◌||◌}
 use mathlib.Core.List.{List, [], ◌∷◌, ◌++◌}
+use mir.Val.{bool_byte as from_bool}
 use lib.ListN.{length, length-append, get_or}
 use lib.Dec.{eqb}
 use native.Mathlib.Decide.{ℕ_discrete}
@@ -14,16 +15,16 @@ use Rattle.table.specs.Inner.MarkedRows.{row_if, known_by, saved_by, Assigns, Sa
 use Rattle.table.proofs.AssignmentRows.{constant_rows, copy_rows, negation_rows, two_rows, product_rows, quotient_rows, active_rows, inactive_rows, assignment_rows}
 use Rattle.table.proofs.LineRows.{forward_for, forward_by, backward_for, backward_by}
 
-one_if : (b : Bool) (r : Row) → length (row_if b r) ≡ cond b 1 0
+one_if : (b : Bool) (r : Row) → length (row_if b r) ≡ from_bool b
 one_if true r = refl
 one_if false r = refl
 
 -- whether an operand names a varied variable: a constant has none, and a sum, a difference, a product and a quotient have two
 abbrev pub first_of : (kind : ℕ) (first : Bool) → ℕ
-first_of kind first = cond (not (eqb kind 2) && first) 1 0
+first_of kind first = from_bool (not (eqb kind 2) && first)
 
 abbrev pub second_of : (kind : ℕ) (second : Bool) → ℕ
-second_of kind second = cond ((((eqb kind 3 || eqb kind 4) || eqb kind 5) || eqb kind quotient_kind) && second) 1 0
+second_of kind second = from_bool ((((eqb kind 3 || eqb kind 4) || eqb kind 5) || eqb kind quotient_kind) && second)
 
 -- each has one row of the parts, and in a product two; in a quotient the first has one and the second three, after one for both
 abbrev pub part_count : (kind : ℕ) (first second : ℕ) → ℕ
@@ -59,13 +60,13 @@ module _ (v : ℕ) (r : Row) (mark : ℕ) where
 
   -- an assignment's rows backward: the take back if it is saved, two more where it is active
   module _ {saved : Bool} (is_saved : saved ≡ saved_by mark) where
-    taken_count : length (assignment_back v r mark) ≡ cond saved 1 0 + length (derivatives_of v r mark)
+    taken_count : length (assignment_back v r mark) ≡ from_bool saved + length (derivatives_of v r mark)
     taken_count = ap length (assignment_rows v r mark is_saved) ∙ simp (length-append, one_if)
 
-    pub active_count : (known_by mark).active ≡ true → length (assignment_back v r mark) ≡ cond saved 1 0 + (2 + length (part_rows v r mark))
+    pub active_count : (known_by mark).active ≡ true → length (assignment_back v r mark) ≡ from_bool saved + (2 + length (part_rows v r mark))
     active_count e = omega (arith, taken_count, ap length (active_rows v r mark refl e))
 
-    pub inactive_count : (known_by mark).active ≡ false → length (assignment_back v r mark) ≡ cond saved 1 0 + 1
+    pub inactive_count : (known_by mark).active ≡ false → length (assignment_back v r mark) ≡ from_bool saved + 1
     inactive_count e = omega (arith, taken_count, ap length (inactive_rows v r mark e))
 
 -- ---- both parts
@@ -78,7 +79,7 @@ pub both_by : {r : Row} {p q : Part} → SaysPart r p → p ≡ q → (v mark : 
     → length (both_parts v mark (line_of_row r)) ≡ length (forward_for q saved r) + length (backward_for v mark 0 q r)
 both_by {r} s told v mark e = both_length v mark r ∙ rw (forward_by s told mark e, backward_by s told v mark 0)
 
-pub saved_first : (saved : Bool) (first r : Row) → length (row_if saved first ++ (r ∷ [])) ≡ cond saved 1 0 + 1
+pub saved_first : (saved : Bool) (first r : Row) → length (row_if saved first ++ (r ∷ [])) ≡ from_bool saved + 1
 saved_first saved first r = simp (length-append, one_if)
 
 -- ---- all rows

@@ -6,7 +6,8 @@ ghost use Rattle.std.specs.Prelude.{◌≡◌};
 ghost use Rattle.sheet.specs.Judging.{given};
 ghost use Rattle.sheet.specs.Sheets.{Sheet};
 ghost use Rattle.sheet.specs.Reading.{read};
-ghost use Rattle.sheet.specs.Answers.{shape_read};
+ghost use Rattle.sheet.specs.Refusals.{number_of, place_of};
+ghost use Rattle.sheet.specs.Answers.{refusal_of, shape_read};
 ghost use Rattle.sets.specs.Calls.{lent, MarksSaid};
 ghost use Rattle.table.specs.Sizes.{checked_said};
 ghost use Rattle.table.specs.Calls.{check};
@@ -20,6 +21,7 @@ mod quotients;
 mod sizes;
 
 pub use quotients::undivided;
+use sizes::Sizes;
 
 // "Hence R is at most": for each of a sheet's rows these forward and backward, the parts among the latter, and row 17.
 const MAX_FORWARD: usize = 2;
@@ -42,6 +44,28 @@ pub const SMALL_TABLE: u16 = 8;
 pub struct Reply {
     pub number: u16,
     pub place: usize,
+}
+
+impl Reply {
+    pub fn done() -> Self
+        ensures { (result.number ≡ 0) × (result.place ≡ 0) }
+    {
+        Reply::refused(DONE, 0)
+    }
+
+    pub fn refused(number: u16, place: usize) -> Self
+        ensures { (result.number ≡ number) × (result.place ≡ place) }
+    {
+        Reply { number, place }
+    }
+}
+
+impl From<sheet::No> for Reply {
+    ghost from_gives = { λ why reply. (reply.number ≡ number_of (refusal_of why)) × (reply.place ≡ place_of (refusal_of why)) };
+
+    fn from(why: sheet::No) -> Reply {
+        Reply::refused(sheet::number_of(why), sheet::place_of(why))
+    }
 }
 
 // The same with W, R, S and T, all 0 when refused.
@@ -76,11 +100,10 @@ fn plan_of(
     requires noted { ((sheet : Sheet) → read words.now ≡ given sheet → SheetNoted sheet marks.now came.now goes.now) }
     ensures { PlanMade words.now result marks.now came.now goes.now }
 {
-    let sizes = sizes::sizes_of(words, shape, marks);
-    let need = sizes.need;
+    let Sizes { rows, need } = sizes::sizes_of(words, shape, marks);
     Plan {
         shape,
-        rows: sizes.rows,
+        rows,
         values: need.values,
         turns: need.turns,
     }
@@ -109,6 +132,14 @@ pub fn check(words: &[u16]) -> Checked
     let mut came = [0u16; sheet::MAX_ROWS];
     let mut goes = [0u16; sheet::MAX_ROWS];
     match plan_sheet(words, &mut marks, &mut came, &mut goes) {
+        Ok(plan) => Checked {
+            number: DONE,
+            place: 0,
+            longest: plan.shape.longest,
+            rows: plan.rows,
+            values: plan.values,
+            turns: plan.turns,
+        },
         Err(why) => Checked {
             number: sheet::number_of(why),
             place: sheet::place_of(why),
@@ -117,16 +148,5 @@ pub fn check(words: &[u16]) -> Checked
             values: 0,
             turns: 0,
         },
-        Ok(plan) => {
-            let shape = plan.shape;
-            Checked {
-                number: DONE,
-                place: 0,
-                longest: shape.longest,
-                rows: plan.rows,
-                values: plan.values,
-                turns: plan.turns,
-            }
-        }
     }
 }

@@ -1,12 +1,12 @@
 // What rows need of the two stacks, and what is kept of the blocks that are open around them.
-ghost use Rattle.std.specs.Prelude.{◌≡◌, max, eqb};
+ghost use Rattle.std.specs.Prelude.{◌≡◌, eqb};
 ghost use Rattle.table.specs.Inner.MarkedRows.{saved_by};
 ghost use Rattle.sheet.specs.Rows.{while_kind};
 ghost use Rattle.sheet.specs.Answers.{row_said};
 ghost use Rattle.sheet.specs.Inner.Kinds.{turns_in};
 ghost use Rattle.table.specs.Inner.Needs.{Few, with_saved, with_count, opened, split, after_if, after_repeat};
 
-use super::{count, marks};
+use super::marks;
 use sheet::{RowWords, kinds};
 
 // Of the value stack and of the turn stack: S and T of the rows.
@@ -41,11 +41,9 @@ pub fn with_saved(need: Need, mark: u8) -> Need
     ensures { result ≡ with_saved (saved_by mark) need }
 {
     let saved = marks::bit(mark, sets::SAVED);
-    let more = count::one_if(saved);
-    let turns = need.turns;
     Need {
-        values: need.values + more,
-        turns,
+        values: need.values + usize::from(saved),
+        ..need
     }
 }
 
@@ -54,11 +52,9 @@ fn with_count(need: Need, kind: u16) -> Need
     requires { Few (with_count (eqb kind while_kind) need) }
     ensures { result ≡ with_count (eqb kind while_kind) need }
 {
-    let more = count::one_if(kind == kinds::WHILE);
-    let values = need.values;
     Need {
-        values,
-        turns: need.turns + more,
+        turns: need.turns + usize::from(kind == kinds::WHILE),
+        ..need
     }
 }
 
@@ -86,19 +82,7 @@ pub fn loop_opened(need: Need, row: RowWords) -> Level
 pub fn split(level: Level, first: Need) -> Level
     ensures { result ≡ split level first }
 {
-    let before = level.before;
-    let times = level.times;
-    Level {
-        before,
-        first,
-        times,
-    }
-}
-
-fn larger(first: usize, second: usize) -> usize
-    ensures { result ≡ max first second }
-{
-    if first < second { second } else { first }
+    Level { first, ..level }
 }
 
 // "end if": one of the branches is run, and the turn is saved.
@@ -106,13 +90,10 @@ pub fn after_if(level: Level, second: Need) -> Need
     requires { Few (after_if level second) }
     ensures { result ≡ after_if level second }
 {
-    let before = level.before;
-    let first = level.first;
-    let values = larger(first.values, second.values);
-    let turns = larger(first.turns, second.turns);
+    let Level { before, first, .. } = level;
     Need {
-        values: before.values + values,
-        turns: before.turns + 1 + turns,
+        values: before.values + first.values.max(second.values),
+        turns: before.turns + 1 + first.turns.max(second.turns),
     }
 }
 
@@ -121,8 +102,7 @@ pub fn after_repeat(level: Level, body: Need) -> Need
     requires { Few (after_repeat level body) }
     ensures { result ≡ after_repeat level body }
 {
-    let before = level.before;
-    let times = level.times;
+    let Level { before, times, .. } = level;
     Need {
         values: before.values + times * body.values,
         turns: before.turns + times * body.turns,

@@ -14,14 +14,11 @@ fn first_quotient(words: &[u16], first: usize, rows: usize) -> Option<usize>
     requires { first + rows * limit.row_words ≤ length words.now }
     ensures { quotients_said result ≡ undivided (rows_at words.now first rows) first }
 {
-    let mut place = first;
-    let mut left = rows;
-    while 0 < left {
+    for p in 0..rows {
+        let place = first + p * ROW_WORDS;
         if words[place] == kinds::QUOTIENT {
             return Some(place);
         }
-        place += ROW_WORDS;
-        left -= 1;
     }
     None
 }

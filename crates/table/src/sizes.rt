@@ -24,19 +24,16 @@ pub fn sizes_of(words: &[u16], shape: sheet::Shape, marks: &[u8]) -> Sizes
     let mut depth: usize = 0;
     let mut need = needs::NOTHING;
     let mut rows: usize = 1;
-    let mut p: usize = 0;
-    while p < shape.rows {
+    for p in 0..shape.rows {
         let row = sheet::row_of(words, shape.first_row, RowNumber(p));
         let kind = sheet::wide(row.kind);
-        let form = forms[kind];
-        let part = form.3;
+        let part = forms[kind].3;
         let mark = marks[p];
         rows += count::row_count(row, part, mark);
-        p += 1;
         match part {
             Part::Assignment => need = needs::with_saved(need, mark),
             Part::If => {
-                depth = depth + 1;
+                depth += 1;
                 levels[depth] = needs::opened(need, 1);
                 need = needs::NOTHING;
             }
@@ -46,16 +43,16 @@ pub fn sizes_of(words: &[u16], shape: sheet::Shape, marks: &[u8]) -> Sizes
             }
             Part::EndIf => {
                 need = needs::after_if(levels[depth], need);
-                depth = depth - 1;
+                depth -= 1;
             }
             Part::Repeat => {
-                depth = depth + 1;
+                depth += 1;
                 levels[depth] = needs::loop_opened(need, row);
                 need = needs::NOTHING;
             }
             Part::EndRepeat => {
                 need = needs::after_repeat(levels[depth], need);
-                depth = depth - 1;
+                depth -= 1;
             }
         }
     }

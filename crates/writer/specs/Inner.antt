@@ -2,3 +2,4 @@
 -- cites it, so nothing rests on its being right.
 pub mod RowsWritten
 pub mod JumpsNoted
+pub mod TableHanded

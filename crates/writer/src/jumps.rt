@@ -20,11 +20,9 @@ pub fn forward(part: Part) -> Branching
 {
     match part {
         Part::Assignment => Branching::Passes,
-        Part::If => Branching::Opens,
+        Part::If | Part::Repeat => Branching::Opens,
         Part::Else => Branching::Splits,
-        Part::EndIf => Branching::Closes,
-        Part::Repeat => Branching::Opens,
-        Part::EndRepeat => Branching::Closes,
+        Part::EndIf | Part::EndRepeat => Branching::Closes,
     }
 }
 
@@ -35,17 +33,16 @@ pub fn backward(part: Part) -> Branching
     match part {
         Part::Assignment => Branching::Passes,
         Part::If => Branching::Splits,
-        Part::Else => Branching::Closes,
-        Part::EndIf => Branching::Opens,
-        Part::Repeat => Branching::Closes,
-        Part::EndRepeat => Branching::Opens,
+        Part::Else | Part::Repeat => Branching::Closes,
+        Part::EndIf | Part::EndRepeat => Branching::Opens,
     }
 }
 
 fn put(beyond: &mut [u16], row: u16, to: u16)
     ensures { beyond.new ≡ set beyond.old row to }
 {
-    let place = row as usize;
+    let place = usize::from(row);
+    // `get_mut`, as tried, leaves a proof nothing of the slice's elements.
     if place < beyond.len() {
         beyond[place] = to;
     }
@@ -55,7 +52,7 @@ fn put(beyond: &mut [u16], row: u16, to: u16)
 fn end_branch(top: u16, to: u16, beyond: &mut [u16]) -> u16
     ensures { (result ≡ get_or beyond.old top 0) × (beyond.new ≡ set beyond.old top to) }
 {
-    let outer = sheet::word_at(beyond, top as usize);
+    let outer = sheet::word_at(beyond, usize::from(top));
     put(beyond, top, to);
     outer
 }

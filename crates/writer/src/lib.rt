@@ -12,6 +12,7 @@ ghost use Rattle.table.specs.Calls.{write};
 ghost use Rattle.table.specs.Inner.Plans.{PlanSays};
 ghost use Rattle.writer.specs.Inner.JumpsNoted.{TableNoted};
 
+use sweep::Handed;
 use table::{MAX_TABLE_ROWS, Plan, Reply};
 
 pub mod jumps;
@@ -34,20 +35,21 @@ pub fn write_planned(
     ensures { (sheet : Sheet) → read words.now ≡ given sheet
         → TableNoted (table_of sheet) table.old table.new beyond.old beyond.new }
 {
-    sweep::write_table(words, plan, marks, came, goes, table, beyond);
+    let given = Handed {
+        words,
+        shape: plan.shape,
+        marks,
+        came,
+        goes,
+    };
+    sweep::write_table(given, plan.rows, table, beyond);
 }
 
 // Whether so many words hold the table's row count and its rows.
 pub fn has_room(rows: usize, room: usize) -> bool
     ensures { result ≡ leb (table_room rows) room }
 {
-    if room < 1 {
-        return false;
-    }
-    if (room - 1) / sheet::ROW_WORDS < rows {
-        return false;
-    }
-    true
+    0 < room && rows <= (room - 1) / sheet::ROW_WORDS
 }
 
 // Any words and a buffer: the first refusal of 1 to 8, or the table of the sheet that they are, at the buffer's start.
@@ -57,24 +59,14 @@ pub fn write(words: &[u16], table: &mut [u16]) -> Reply
     let mut marks = [0u8; sheet::MAX_ROWS];
     let mut came = [0u16; sheet::MAX_ROWS];
     let mut goes = [0u16; sheet::MAX_ROWS];
-    match table::plan_sheet(words, &mut marks, &mut came, &mut goes) {
-        Err(why) => Reply {
-            number: sheet::number_of(why),
-            place: sheet::place_of(why),
-        },
-        Ok(plan) => {
-            if !has_room(plan.rows, table.len()) {
-                return Reply {
-                    number: table::SMALL_TABLE,
-                    place: 0,
-                };
-            }
-            let mut beyond = [0u16; MAX_TABLE_ROWS];
-            write_planned(words, plan, &marks, &came, &goes, table, &mut beyond);
-            Reply {
-                number: table::DONE,
-                place: 0,
-            }
-        }
+    let plan = match table::plan_sheet(words, &mut marks, &mut came, &mut goes) {
+        Ok(plan) => plan,
+        Err(why) => return Reply::from(why),
+    };
+    if !has_room(plan.rows, table.len()) {
+        return Reply::refused(table::SMALL_TABLE, 0);
     }
+    let mut beyond = [0u16; MAX_TABLE_ROWS];
+    write_planned(words, plan, &marks, &came, &goes, table, &mut beyond);
+    Reply::done()
 }

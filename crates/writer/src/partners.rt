@@ -9,8 +9,7 @@ pub fn partner(noted: &[u16], row: RowNumber) -> RowNumber
     requires { row.0 < length noted.now }
     ensures { result.0 ≡ get_or noted.now row.0 0 }
 {
-    let number = row.0;
-    RowNumber(sheet::wide(noted[number]))
+    RowNumber(sheet::wide(noted[row.0]))
 }
 
 // The last row of the if block that a row opens: the partner of its "else".
@@ -18,6 +17,5 @@ pub fn if_end(goes: &[u16], row: RowNumber) -> RowNumber
     requires { (row.0 < length goes.now) × (get_or goes.now row.0 0 < length goes.now) }
     ensures { result.0 ≡ if_end goes.now row.0 }
 {
-    let split = partner(goes, row);
-    partner(goes, split)
+    partner(goes, partner(goes, row))
 }

@@ -17,11 +17,9 @@ pub fn put(table: &mut [u16], place: usize, kind: u16, d: u16, a: u16, b: u16) -
     requires { RowRoom table.old place (row_with kind d a b ∷ []) }
     ensures { Wrote table.old place (row_with kind d a b ∷ []) table.new result }
 {
-    table[place] = kind;
-    table[place + 1] = d;
-    table[place + 2] = a;
-    table[place + 3] = b;
-    place + sheet::ROW_WORDS
+    let after = place + sheet::ROW_WORDS;
+    table[place..after].copy_from_slice(&[kind, d, a, b]);
+    after
 }
 
 // The same, only if given.
@@ -38,9 +36,10 @@ pub fn put_if(
     ensures { Wrote table.old place (row_if given (row_with kind d a b)) table.new result }
 {
     if given {
-        return put(table, place, kind, d, a, b);
+        put(table, place, kind, d, a, b)
+    } else {
+        place
     }
-    place
 }
 
 fn t_of(variables: u16) -> u16
@@ -133,25 +132,29 @@ fn parts(table: &mut [u16], place: usize, variables: u16, row: RowWords, mark: u
     let to_b = variables + row.b;
     let first = bit(mark, sets::VARIED_A);
     let second = bit(mark, sets::VARIED_B);
-    if row.kind == sheet::kinds::COPY {
-        return put_if(first, table, place, sheet::kinds::SUM, to_a, to_a, t);
+    match row.kind {
+        sheet::kinds::COPY => put_if(first, table, place, sheet::kinds::SUM, to_a, to_a, t),
+        sheet::kinds::CONSTANT => place,
+        sheet::kinds::NEGATION => put_if(
+            first,
+            table,
+            place,
+            sheet::kinds::DIFFERENCE,
+            to_a,
+            to_a,
+            t,
+        ),
+        sheet::kinds::PRODUCT => {
+            let added_to_a = scaled(first, table, place, variables, row.b, row.a);
+            scaled(second, table, added_to_a, variables, row.a, row.b)
+        }
+        sheet::kinds::QUOTIENT => divided(table, place, variables, first, second, row.a, row.b),
+        // A sum and a difference add into ā, and into b̄ do as they do themselves.
+        _ => {
+            let added = put_if(first, table, place, sheet::kinds::SUM, to_a, to_a, t);
+            put_if(second, table, added, row.kind, to_b, to_b, t)
+        }
     }
-    if row.kind == sheet::kinds::CONSTANT {
-        return place;
-    }
-    if row.kind == sheet::kinds::NEGATION {
-        return put_if(first, table, place, sheet::kinds::DIFFERENCE, to_a, to_a, t);
-    }
-    if row.kind == sheet::kinds::PRODUCT {
-        let added_to_a = scaled(first, table, place, variables, row.b, row.a);
-        return scaled(second, table, added_to_a, variables, row.a, row.b);
-    }
-    if row.kind == sheet::kinds::QUOTIENT {
-        return divided(table, place, variables, first, second, row.a, row.b);
-    }
-    // A sum and a difference add into ā, and into b̄ do as they do themselves.
-    let added = put_if(first, table, place, sheet::kinds::SUM, to_a, to_a, t);
-    put_if(second, table, added, row.kind, to_b, to_b, t)
 }
 
 // An assignment's derivative rows: d̄ := 0, and where the row is active t := d̄ before it and the parts after it.
@@ -162,15 +165,13 @@ fn derivatives(table: &mut [u16], place: usize, variables: u16, row: RowWords, m
     ensures { Wrote table.old place (derivatives_of variables (row_said row) mark) table.new result }
 {
     let adjoint = variables + row.d;
-    let active = bit(mark, sets::ACTIVE);
-    if active {
-        let t = t_of(variables);
-        let held = put(table, place, sheet::kinds::COPY, t, adjoint, 0);
-        let cleared = put(table, held, kinds::CLEAR, adjoint, 0, 0);
-        return parts(table, cleared, variables, row, mark);
+    if !bit(mark, sets::ACTIVE) {
+        return put(table, place, kinds::CLEAR, adjoint, 0, 0);
     }
-    let cleared = put(table, place, kinds::CLEAR, adjoint, 0, 0);
-    cleared
+    let t = t_of(variables);
+    let held = put(table, place, sheet::kinds::COPY, t, adjoint, 0);
+    let cleared = put(table, held, kinds::CLEAR, adjoint, 0, 0);
+    parts(table, cleared, variables, row, mark)
 }
 
 // An assignment's backward rows: take back d if it is saved, then its derivative rows.
@@ -203,7 +204,9 @@ pub fn forward_row(table: &mut [u16], place: usize, row: RowWords, part: Part, m
             let next = put_if(saved, table, place, kinds::SAVE, row.d, 0, 0);
             put(table, next, row.kind, row.d, row.a, row.b)
         }
-        Part::If => put(table, place, row.kind, row.d, row.a, row.b),
+        Part::If | Part::Repeat | Part::EndRepeat => {
+            put(table, place, row.kind, row.d, row.a, row.b)
+        }
         Part::Else => {
             let next = put(table, place, kinds::SAVE_TURN, 0, 1, 0);
             put(table, next, row.kind, row.d, row.a, row.b)
@@ -212,8 +215,6 @@ pub fn forward_row(table: &mut [u16], place: usize, row: RowWords, part: Part, m
             let next = put(table, place, kinds::SAVE_TURN, 0, 0, 0);
             put(table, next, row.kind, row.d, row.a, row.b)
         }
-        Part::Repeat => put(table, place, row.kind, row.d, row.a, row.b),
-        Part::EndRepeat => put(table, place, row.kind, row.d, row.a, row.b),
     }
 }
 
@@ -222,9 +223,10 @@ fn loop_kind(turns: u16) -> u16
     ensures { row_with result 0 turns 0 ≡ loop_back turns }
 {
     if turns == 0 {
-        return kinds::ON_COUNT;
+        kinds::ON_COUNT
+    } else {
+        sheet::kinds::REPEAT
     }
-    sheet::kinds::REPEAT
 }
 
 // A sheet row's rows in the backward part; turns are those of an "end repeat"'s "repeat".

@@ -1,16 +1,62 @@
 // The two parts of the table, each in one pass over the sheet's rows.
 ghost use Rattle.std.specs.Prelude.{◌≡◌, true, set, length, get_or, ◌+◌, ◌*◌, ◌≤◌, ◌<◌};
 ghost use Rattle.sheet.specs.Bounds.{limit};
+ghost use Rattle.sheet.specs.Sheets.{row_at};
 ghost use Rattle.sheet.specs.Answers.{row_said};
 ghost use Rattle.table.specs.RowBounds.{most_table_rows};
-ghost use Rattle.table.specs.Inner.MarkedRows.{RowsReadable};
-ghost use Rattle.writer.specs.Inner.RowsWritten.{RowRoom, forward_all, leads_on, step_back, turns_said_by, turns_back, handed, Walkable, backward_all, whole_rows};
+ghost use Rattle.writer.specs.Inner.RowsWritten.{RowRoom, leads_on, step_back, turns_said_by, turns_back, Walkable, backward_all, whole_rows};
+ghost use Rattle.writer.specs.Inner.TableHanded.{handed_by, forward_of, Readable};
 ghost use Rattle.writer.specs.Inner.JumpsNoted.{noting, Numbered, WroteNoted};
 
 use super::{jumps, partners, rows};
 use sheet::kinds::Part;
 use sheet::{RowNumber, RowWords, Shape};
-use table::{MAX_TABLE_ROWS, Plan, kinds};
+use table::{MAX_TABLE_ROWS, kinds};
+
+// What a table is written from: a planned sheet's words and where they lie, every row's marks and partners.
+#[derive(Clone, Copy)]
+pub struct Handed<'a> {
+    pub words: &'a [u16],
+    pub shape: Shape,
+    pub marks: &'a [u8],
+    pub came: &'a [u16],
+    pub goes: &'a [u16],
+}
+
+impl Handed<'_> {
+    fn row(self, row: RowNumber) -> RowWords
+        requires { self.shape.first_row + (row.0 + 1) * limit.row_words ≤ length self.words.now }
+        ensures { row_said result ≡ row_at self.entry.words.now (self.entry.shape.first_row + row.0 * limit.row_words) }
+    {
+        sheet::row_of(self.words, self.shape.first_row, row)
+    }
+
+    // Where the backward walk goes from a row: to the end of what comes next there.
+    fn step_back(self, row: RowNumber, part: Part) -> usize
+        requires { (row.0 < length self.came.now) × (row.0 < length self.goes.now)
+            × (leads_on part ≡ true → get_or self.goes.now row.0 0 < length self.goes.now) }
+        ensures { result ≡ step_back self.entry.came.now self.entry.goes.now row.0 part }
+    {
+        match part {
+            Part::Assignment | Part::Repeat | Part::EndRepeat => row.0,
+            Part::If => partners::if_end(self.goes, row).0,
+            Part::Else | Part::EndIf => partners::partner(self.came, row).0,
+        }
+    }
+
+    // The turns of the loop that an "end repeat" closes; 0 for any other row.
+    fn turns_back(self, row: RowNumber, part: Part) -> u16
+        requires { (row.0 < length self.goes.now)
+            × (leads_on part ≡ true
+            → self.shape.first_row + (get_or self.goes.now row.0 0 + 1) * limit.row_words ≤ length self.words.now) }
+        ensures { result ≡ turns_back self.entry.words.now self.entry.shape.first_row self.entry.goes.now row.0 part }
+    {
+        let Part::EndRepeat = part else {
+            return 0;
+        };
+        turns_said(self.row(partners::partner(self.goes, row)))
+    }
+}
 
 // Where the writer is: the place after the last row, and the innermost open branch's or loop's row.
 #[derive(Clone, Copy)]
@@ -21,60 +67,28 @@ pub struct SweptTo {
 
 // The forward part: each row's rows in the sheet's order.
 fn forward_part(
-    words: &[u16],
-    shape: Shape,
-    marks: &[u8],
+    given: Handed,
     table: &mut [u16],
     from: SweptTo,
     beyond: &mut [u16; MAX_TABLE_ROWS],
 ) -> SweptTo
-    requires room { RowRoom table.old from.place (forward_all words.now shape marks.now) }
-    requires numbered { Numbered from.place (forward_all words.now shape marks.now) }
-    requires readable { RowsReadable words.now shape marks.now }
-    ensures { WroteNoted table.old from.place (forward_all words.now shape marks.now)
+    requires room { RowRoom table.old from.place (forward_of given) }
+    requires numbered { Numbered from.place (forward_of given) }
+    requires readable { Readable given }
+    ensures { WroteNoted table.old from.place (forward_of given.entry)
         table.new result.place (noting from.top beyond.old) (noting result.top beyond.new) }
 {
-    let rows = shape.rows;
+    let shape = given.shape;
     let forms = sheet::kinds::forms();
-    let mut next: usize = from.place;
-    let mut top: u16 = from.top;
-    let mut p: usize = 0;
-    while p < rows {
-        let row = sheet::row_of(words, shape.first_row, RowNumber(p));
+    let SweptTo { mut place, mut top } = from;
+    for p in 0..shape.rows {
+        let row = given.row(RowNumber(p));
         let kind = sheet::wide(row.kind);
-        let form = forms[kind];
-        let part = form.3;
-        next = rows::forward_row(table, next, row, part, marks[p]);
-        let what = jumps::forward(part);
-        top = jumps::note(what, next, top, beyond);
-        p += 1;
+        let part = forms[kind].3;
+        place = rows::forward_row(table, place, row, part, given.marks[p]);
+        top = jumps::note(jumps::forward(part), place, top, beyond);
     }
-    SweptTo { place: next, top }
-}
-
-// Where the backward walk goes from a row: to the end of what comes next there.
-fn step_back(came: &[u16], goes: &[u16], row: RowNumber, part: Part) -> usize
-    requires { (row.0 < length came.now) × (row.0 < length goes.now)
-        × (leads_on part ≡ true → get_or goes.now row.0 0 < length goes.now) }
-    ensures { result ≡ step_back came.now goes.now row.0 part }
-{
-    match part {
-        Part::Assignment => row.0,
-        Part::If => {
-            let end = partners::if_end(goes, row);
-            end.0
-        }
-        Part::Else => {
-            let start = partners::partner(came, row);
-            start.0
-        }
-        Part::EndIf => {
-            let split = partners::partner(came, row);
-            split.0
-        }
-        Part::Repeat => row.0,
-        Part::EndRepeat => row.0,
-    }
+    SweptTo { place, top }
 }
 
 // The turns that the backward part says of a loop: one with a test takes its count back, and says none.
@@ -88,88 +102,57 @@ fn turns_said(opened: RowWords) -> u16
     }
 }
 
-// Those of the loop that an "end repeat" closes; 0 for any other row.
-fn turns_back(words: &[u16], first: usize, goes: &[u16], row: RowNumber, part: Part) -> u16
-    requires { (row.0 < length goes.now)
-        × (leads_on part ≡ true → first + (get_or goes.now row.0 0 + 1) * limit.row_words ≤ length words.now) }
-    ensures { result ≡ turns_back words.now first goes.now row.0 part }
-{
-    if let Part::EndRepeat = part {
-        let start = partners::partner(goes, row);
-        let opened = sheet::row_of(words, first, start);
-        return turns_said(opened);
-    }
-    0
-}
-
 // The backward part: each row's rows once, from the last row on, each "if" with its branches in their places and reversed inside.
 fn backward_part(
-    words: &[u16],
-    shape: Shape,
-    marks: &[u8],
-    came: &[u16],
-    goes: &[u16],
+    given: Handed,
     table: &mut [u16],
     from: SweptTo,
     beyond: &mut [u16; MAX_TABLE_ROWS],
 ) -> SweptTo
-    requires room { RowRoom table.old from.place (backward_all (handed words.now shape marks.now came.now goes.now)) }
-    requires numbered { Numbered from.place (backward_all (handed words.now shape marks.now came.now goes.now)) }
-    requires readable { RowsReadable words.now shape marks.now }
-    requires walkable { Walkable (handed words.now shape marks.now came.now goes.now) }
-    ensures { WroteNoted table.old from.place
-        (backward_all (handed words.now shape marks.now came.now goes.now))
+    requires room { RowRoom table.old from.place (backward_all (handed_by given)) }
+    requires numbered { Numbered from.place (backward_all (handed_by given)) }
+    requires readable { Readable given }
+    requires walkable { Walkable (handed_by given) }
+    ensures { WroteNoted table.old from.place (backward_all (handed_by given.entry))
         table.new result.place (noting from.top beyond.old) (noting result.top beyond.new) }
 {
+    let shape = given.shape;
     let variables = shape.variables as u16;
     let forms = sheet::kinds::forms();
-    let mut next: usize = from.place;
-    let mut top: u16 = from.top;
-    let mut end: usize = shape.rows;
-    let mut left: usize = shape.rows;
-    while 0 < left {
-        let q = end - 1;
-        let row = sheet::row_of(words, shape.first_row, RowNumber(q));
+    let SweptTo { mut place, mut top } = from;
+    let mut until = shape.rows;
+    for _ in 0..shape.rows {
+        let q = until - 1;
+        let row = given.row(RowNumber(q));
         let kind = sheet::wide(row.kind);
-        let form = forms[kind];
-        let part = form.3;
-        let turns = turns_back(words, shape.first_row, goes, RowNumber(q), part);
-        next = rows::backward_row(table, next, variables, row, part, marks[q], turns);
-        let what = jumps::backward(part);
-        top = jumps::note(what, next, top, beyond);
-        end = step_back(came, goes, RowNumber(q), part);
-        left -= 1;
+        let part = forms[kind].3;
+        let turns = given.turns_back(RowNumber(q), part);
+        place = rows::backward_row(table, place, variables, row, part, given.marks[q], turns);
+        top = jumps::note(jumps::backward(part), place, top, beyond);
+        until = given.step_back(RowNumber(q), part);
     }
-    SweptTo { place: next, top }
+    SweptTo { place, top }
 }
 
 // The whole table: the row count, the forward part, row 17 and the backward part.
 pub fn write_table(
-    words: &[u16],
-    plan: Plan,
-    marks: &[u8],
-    came: &[u16],
-    goes: &[u16],
+    given: Handed,
+    table_rows: usize,
     table: &mut [u16],
     beyond: &mut [u16; MAX_TABLE_ROWS],
 ) -> SweptTo
-    requires room { RowRoom table.old 1 (whole_rows (handed words.now plan.shape marks.now came.now goes.now)) }
-    requires numbered { Numbered 1 (whole_rows (handed words.now plan.shape marks.now came.now goes.now)) }
-    requires readable { RowsReadable words.now plan.shape marks.now }
-    requires walkable { Walkable (handed words.now plan.shape marks.now came.now goes.now) }
-    requires rows_few { plan.rows ≤ most_table_rows }
-    ensures { WroteNoted (set table.old 0 plan.rows) 1
-        (whole_rows (handed words.now plan.shape marks.now came.now goes.now))
+    requires room { RowRoom table.old 1 (whole_rows (handed_by given)) }
+    requires numbered { Numbered 1 (whole_rows (handed_by given)) }
+    requires readable { Readable given }
+    requires walkable { Walkable (handed_by given) }
+    requires rows_few { table_rows ≤ most_table_rows }
+    ensures { WroteNoted (set table.old 0 table_rows) 1 (whole_rows (handed_by given.entry))
         table.new result.place (noting 0 beyond.old) (noting result.top beyond.new) }
 {
-    let shape = plan.shape;
-    table[0] = plan.rows as u16;
+    table[0] = table_rows as u16;
     let first = SweptTo { place: 1, top: 0 };
-    let turned = forward_part(words, shape, marks, table, first, beyond);
+    let turned = forward_part(given, table, first, beyond);
     let place = rows::put(table, turned.place, kinds::TURN_ROUND, 0, 0, 0);
-    let back = SweptTo {
-        place,
-        top: turned.top,
-    };
-    backward_part(words, shape, marks, came, goes, table, back, beyond)
+    let back = SweptTo { place, ..turned };
+    backward_part(given, table, back, beyond)
 }

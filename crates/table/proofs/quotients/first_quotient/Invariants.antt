@@ -2,8 +2,5 @@
 use Rattle.table.proofs.QuotientLaws.{Looking}
 use Rattle.table.proofs.quotients.first_quotient.Given as goal
 
-abbrev pub invariant-loop-left : goal.invariant-loop-left
-invariant-loop-left l = Looking l.words l.first l.rows l.place l.left
-
-abbrev pub decreases-loop-left : goal.decreases-loop-left
-decreases-loop-left l = l.left
+abbrev pub invariant-loop-p : goal.invariant-loop-p
+invariant-loop-p l = Looking l.words l.first l.rows l.p

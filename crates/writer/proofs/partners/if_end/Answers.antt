@@ -4,11 +4,11 @@ use mathlib.Core.Path.{ap, ◌∙◌}
 use lib.ListN.{get_or}
 use Rattle.writer.proofs.partners.if_end.Goals as goal
 
-pub partner-split-requires : goal.partner-split-requires
-partner-split-requires c = c.requires.0
-
 pub partner-requires : goal.partner-requires
-partner-requires c = omega (arith, c.partner-split.ensures, c.requires.1)
+partner-requires c = c.requires.0
+
+pub partner-requires-2 : goal.partner-requires-2
+partner-requires-2 c = omega (arith, c.partner.ensures, c.requires.1)
 
 pub returns : goal.returns
-returns c = c.partner.ensures ∙ ap (λ split. get_or c.args.goes.now split 0) c.partner-split.ensures
+returns c = c.partner-2.ensures ∙ ap (λ split. get_or c.args.goes.now split 0) c.partner.ensures

@@ -11,5 +11,5 @@ repeats (suc m) some = refl
 pub returns-then-turns-eq0 : goal.returns-then-turns-eq0
 returns-then-turns-eq0 c = rw c.if-turns-eq0.true
 
-pub returns : goal.returns
-returns c = repeats _ c.if-turns-eq0.false
+pub returns-else-turns-eq0 : goal.returns-else-turns-eq0
+returns-else-turns-eq0 c = repeats _ c.if-turns-eq0.false

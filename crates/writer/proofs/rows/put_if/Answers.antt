@@ -8,5 +8,5 @@ put-requires c = rw c.if-given.true at c.requires
 pub returns-then-given : goal.returns-then-given
 returns-then-given c = rw c.if-given.true c.put.ensures
 
-pub returns : goal.returns
-returns c = rw c.if-given.false (wrote_none _ _)
+pub returns-else-given : goal.returns-else-given
+returns-else-given c = rw c.if-given.false (wrote_none _ _)
