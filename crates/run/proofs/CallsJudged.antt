@@ -2,7 +2,7 @@
 use Prim.Native.Nat.{ℕ}
 use Rattle.run.specs.declared.Unfit.{Unfit}
 use Rattle.sheet.specs.declared.No.{No}
-use Rattle.std.specs.Prelude.{Err, Ok, Result}
+use Rattle.std.specs.Prelude.{Err, Ok, Result, IsErrAnd}
 use mathlib.Core.Path.{◌≡◌, sym, ap, ◌∙◌}
 use mathlib.Core.Bool.{Bool, true}
 use mathlib.Core.List.{List, ◌++◌}
@@ -32,6 +32,11 @@ use Rattle.run.specs.Inner.CallAnswers.{TableInPlace, RanTo}
 -- what a judgement comes to, by the code's answer
 pub said : {judgement : Answer (Unit {0})} {fit answer : Result (Unit {0}) Unfit} → fit_said fit ≡ judgement → fit ≡ answer → judgement ≡ fit_said answer
 said {judgement} {fit} {answer} is told = sym is ∙ ap fit_said told
+
+-- what `?` hands on
+pub handed_on : {X : Type 0} {answer : Result X Unfit} {why : Unfit} → IsErrAnd answer (λ e. e ≡ why) → answer ≡ Err why
+handed_on {answer = Ok x} never = absurd never
+handed_on {answer = Err e} is = ap Err is
 
 -- ---- 1 to 10, by a plan
 

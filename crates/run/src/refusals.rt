@@ -110,38 +110,19 @@ fn rooms_fit(plan: Plan, rooms: Rooms) -> Result<(), Unfit>
     lengths_fit(shape.variables, rooms.starts, rooms.seeds, rooms.result)
 }
 
-pub fn answer_no(why: Unfit) -> Reply
-    ensures { Answers result (unfit_refusal why) }
-{
-    match why {
-        Unfit::SmallTable => Reply {
-            number: table::SMALL_TABLE,
-            place: 0,
-        },
-        Unfit::SmallValueStack => Reply {
-            number: SMALL_STACK,
-            place: 0,
-        },
-        Unfit::SmallTurnStack => Reply {
-            number: SMALL_STACK,
-            place: 1,
-        },
-        Unfit::WrongStarts => Reply {
-            number: WRONG_LENGTH,
-            place: 0,
-        },
-        Unfit::WrongSeeds => Reply {
-            number: WRONG_LENGTH,
-            place: 1,
-        },
-        Unfit::WrongResult => Reply {
-            number: WRONG_LENGTH,
-            place: 2,
-        },
-        Unfit::NotFinite(place) => Reply {
-            number: NOT_FINITE_GIVEN,
-            place,
-        },
+impl From<Unfit> for Reply {
+    ghost from_gives = { λ why reply. Answers reply (unfit_refusal why) };
+
+    fn from(why: Unfit) -> Reply {
+        match why {
+            Unfit::SmallTable => Reply::refused(table::SMALL_TABLE, 0),
+            Unfit::SmallValueStack => Reply::refused(SMALL_STACK, 0),
+            Unfit::SmallTurnStack => Reply::refused(SMALL_STACK, 1),
+            Unfit::WrongStarts => Reply::refused(WRONG_LENGTH, 0),
+            Unfit::WrongSeeds => Reply::refused(WRONG_LENGTH, 1),
+            Unfit::WrongResult => Reply::refused(WRONG_LENGTH, 2),
+            Unfit::NotFinite(place) => Reply::refused(NOT_FINITE_GIVEN, place),
+        }
     }
 }
 
@@ -150,16 +131,9 @@ pub fn judge(planned: Result<Plan, No>, rooms: Rooms) -> Result<Plan, Reply>
     ensures { (divides : Bool) (needs : Sheet → Needs) (words marks came goes : List ℕ) → PlanSaysIn divides needs words marks came goes planned
         → JudgedAs divides needs words rooms marks came goes result }
 {
-    match planned {
-        Err(why) => Err(Reply {
-            number: sheet::number_of(why),
-            place: sheet::place_of(why),
-        }),
-        Ok(plan) => match rooms_fit(plan, rooms) {
-            Err(why) => Err(answer_no(why)),
-            Ok(()) => Ok(plan),
-        },
-    }
+    let plan = planned?;
+    rooms_fit(plan, rooms)?;
+    Ok(plan)
 }
 
 // What a run's end is answered by: 0, 12 at its row, or the number of no run.
@@ -167,21 +141,8 @@ pub fn answer_end(end: Ended) -> Reply
     ensures { result ≡ answer_at end }
 {
     match end {
-        Ended::Finished => Reply {
-            number: table::DONE,
-            place: 0,
-        },
-        Ended::Stopped(row) => Reply {
-            number: NOT_FINITE_RESULT,
-            place: row.0,
-        },
-        Ended::Stuck => Reply {
-            number: STUCK,
-            place: 0,
-        },
-        Ended::Unfinished => Reply {
-            number: STUCK,
-            place: 0,
-        },
+        Ended::Finished => Reply::done(),
+        Ended::Stopped(row) => Reply::refused(NOT_FINITE_RESULT, row.0),
+        Ended::Stuck | Ended::Unfinished => Reply::refused(STUCK, 0),
     }
 }
