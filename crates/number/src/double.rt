@@ -1,5 +1,6 @@
 // Doubles: each operation rounded once, and a stop where the result isn't finite.
 ghost use Rattle.std.specs.Prelude.{◌≡◌};
+ghost use Rattle.std.proofs.Common.{lit<};
 ghost use Rattle.number.specs.Arithmetic.{operations_of};
 ghost use Rattle.number.specs.Answers.{outcome_of, why_not_finite, is_doubles};
 ghost use Rattle.number.specs.Doubles.{doubles, Reason, finite_or_stop};
@@ -75,4 +76,6 @@ impl Number for f64 {
     fn divides() -> bool {
         true
     }
+
+    ghost takes_little = { lit< tt };
 }

@@ -1,5 +1,6 @@
 // Residues modulo 2^32: an operation on u32 goes through u64, where nothing wraps, and is reduced once. No operation stops, and none divides.
 ghost use Rattle.std.specs.Prelude.{◌≡◌};
+ghost use Rattle.std.proofs.Common.{lit<};
 ghost use Rattle.number.specs.Arithmetic.{operations_of};
 ghost use Rattle.number.specs.Answers.{why_never, is_residues};
 ghost use Rattle.number.specs.Residues.{residue, opposite, residues};
@@ -70,4 +71,6 @@ impl Number for u32 {
     fn divides() -> bool {
         false
     }
+
+    ghost takes_little = { lit< tt };
 }

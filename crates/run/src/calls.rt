@@ -150,8 +150,8 @@ fn run_written<N: Number>(
     let first_constant = shape.first_constant;
     let constants_end = first_constant + shape.constants;
     let size = 2 * variables + 2;
-    let mut store = [N::zero(); buffers::STORE];
-    let mut copied = [N::zero(); MAX_VARIABLES];
+    let store: &mut [N] = &mut [N::zero(); buffers::STORE];
+    let copied: &mut [N] = &mut [N::zero(); MAX_VARIABLES];
     run_in(
         &words[1..roles_end],
         &words[first_constant..constants_end],

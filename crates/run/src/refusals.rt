@@ -1,6 +1,7 @@
 // Refusals 1 to 11 and 13, judged one after another, and the numbers 9 to 12.
 ghost use Rattle.std.specs.Prelude.{◌≡◌, Bool, List, ◌++◌, ℕ, ◌+◌, ◌^◌, ◌<◌, length};
 ghost use Rattle.number.specs.Arithmetic.{arithmetic_on, divides};
+ghost use Rattle.number.specs.Doubles.{doubles};
 ghost use Rattle.sheet.specs.Sheets.{Sheet};
 ghost use Rattle.table.specs.Sizes.{Needs};
 ghost use Rattle.table.specs.Inner.Plans.{PlanSaysFor, PlanSaysIn, RowsWithin};
@@ -81,10 +82,18 @@ fn admitted_from<N: Number>(numbers: &[N], place: usize) -> Result<(), Unfit>
 }
 
 pub fn all_admitted<N: Number>(starts: &[N], seeds: &[N]) -> Result<(), Unfit>
+    requires { length starts.now + length seeds.now < 2 ^ 64 }
     ensures { fit_said result ≡ all_admitted (arithmetic_on N.operations) (starts.now ++ seeds.now) 0 }
 {
     admitted_from(starts, 0)?;
     admitted_from(seeds, starts.len())
+}
+
+// The same of doubles, of which no memory holds so many that their places aren't numbers.
+pub fn all_finite(starts: &[f64], seeds: &[f64]) -> Result<(), Unfit>
+    ensures { fit_said result ≡ all_admitted doubles (starts.now ++ seeds.now) 0 }
+{
+    all_admitted(starts, seeds)
 }
 
 // 13, where the arithmetic doesn't divide: the plan is for it as well, or refused.
