@@ -3,15 +3,15 @@ ghost use Rattle.std.specs.Prelude.{◌≡◌, suc, ◌+◌, ◌≤◌, ◌<◌,
 ghost use Rattle.sheet.specs.Inner.Words.{word_values};
 ghost use Rattle.sheet.specs.Rows.{Assignment};
 ghost use Rattle.sets.specs.Rounds.{set_at, least};
-ghost use Rattle.sets.specs.Inner.Operations.{TargetSmall, Gives, Performs};
+ghost use Rattle.sets.specs.Inner.Operations.{Gives, Performs};
 ghost use Rattle.sets.specs.Inner.Analyses.{Lends, LendsAt, known_at, marked_at, marks_left};
 ghost use Rattle.sets.specs.Inner.RowEquations.{given_by, known_by, line_in, turn_of, row_in_turn, own_point, settled_point};
 ghost use Rattle.sets.specs.Inner.RowEquations.{start_of, all_equations, seed_in};
 ghost use Rattle.sets.specs.Inner.Walks.{ends_repeat, asks_partner, side_by, Grown, Judging, Brings, AtBlock, own_side, PassedRow, Settles};
 
 use super::analyses::Analysis;
+use super::operations::MaskedAssignment;
 use super::partners::Partners;
-use super::transfers::MaskedAssignment;
 use super::{LaidSheet, equations, partners, rows, transfers};
 use sheet::kinds::Part;
 use sheet::{RowNumber, kinds};
@@ -101,7 +101,7 @@ fn pass_assignment<A: Analysis>(
     marks: &mut [u8],
     reached: WalkedTo,
 ) -> WalkedTo
-    requires { TargetSmall operation × (row.0 < word_values) × (suc row.0 < length sets.old) × (reached.turn < word_values)
+    requires { (row.0 < word_values) × (suc row.0 < length sets.old) × (reached.turn < word_values)
         × LendsAt A.which (A.varied analysis) (A.useful analysis) (length marks.old) row.0 }
     ensures turn { result.turn ≡ reached.turn + 1 }
     ensures set { (b : Assignment) → Performs operation b → Grown sets.old (settled_point A.which row.0)
