@@ -56,12 +56,14 @@ pub fn operation_at(laid: LaidSheet, row: RowNumber, form: Form) -> MaskedAssign
     }
 }
 
+#[tactic(auto, using(crate::proofs::OperationLaws::any_said))]
 fn any_read(row: MaskedAssignment, s: u64) -> bool
     ensures { Gives row result (λ b. any_read s (source_of b)) }
 {
     masks::meets(s, row.first) | masks::meets(s, row.second)
 }
 
+#[tactic(auto, using(crate::proofs::OperationLaws::reads_said))]
 fn reads(row: MaskedAssignment) -> u64
     ensures { Gives row result (λ b. reads (source_of b)) }
 {
@@ -89,6 +91,7 @@ pub fn useful_before(row: MaskedAssignment, after: u64) -> u64
     }
 }
 
+#[tactic(auto, using(crate::proofs::OperationLaws::activity_said))]
 pub fn activity(row: MaskedAssignment, varied: u64, useful: u64) -> KnownActivity
     ensures { Gives row (activity_by result) (λ b. activity_of b varied useful) }
 {
@@ -117,12 +120,14 @@ fn adjoint_use(row: MaskedAssignment, known: KnownActivity) -> u64
     }
 }
 
+#[tactic(auto, using(crate::proofs::OperationLaws::required_said))]
 pub fn required_after(row: MaskedAssignment, known: KnownActivity, before: u64) -> u64
     ensures { Gives row result (λ b. required_after b (activity_by known) before) }
 {
     masks::without(row.target, before | adjoint_use(row, known))
 }
 
+#[tactic(auto, using(crate::proofs::OperationLaws::recorded_said))]
 pub fn recorded(row: MaskedAssignment, known: KnownActivity, required: u64) -> bool
     ensures { Gives row result (λ b. recorded_by b (activity_by known) required) }
 {

@@ -5,10 +5,6 @@ use Rattle.sheet.specs.Sheets.{row_at}
 use Rattle.sheet.proofs.RowsByKind.{row_kind}
 use Rattle.sets.proofs.rows.kind_of.Goals as goal
 
-pub overflow_cast-result : goal.overflow_cast-result
-unfolding row_at
-overflow_cast-result c = omega (arith, row_kind (c.args.laid.readable _ c.requires).says)
-
 pub returns : goal.returns
 unfolding row_at
 returns c = record { is = refl; in_table = row_kind (c.args.laid.readable _ c.requires).says }
