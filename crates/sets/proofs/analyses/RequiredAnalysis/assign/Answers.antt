@@ -1,5 +1,5 @@
 -- The analysis of the required variables meets its contract at an assignment: its own transfer and its mark, by what is known of the row.
-use mathlib.Core.Path.{◌∙◌, sym}
+use mathlib.Core.Path.{sym}
 use Rattle.sets.specs.Inner.RowEquations.{turn_of}
 use Rattle.sets.specs.Inner.Analyses.{known_at, marked_at}
 use Rattle.sets.proofs.analyses.RequiredAnalysis.assign.Goals as goal
