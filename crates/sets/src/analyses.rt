@@ -54,6 +54,7 @@ impl Analysis for Varied {
         sheet::is_independent(role)
     }
 
+    #[tactic(auto, unfolding(crate::specs::Inner::RowEquations::turn_of, crate::specs::Inner::Analyses::marked_at))]
     fn assign(
         self,
         _row: RowNumber,
@@ -85,6 +86,7 @@ impl Analysis for Useful {
         sheet::is_dependent(role)
     }
 
+    #[tactic(auto, unfolding(crate::specs::Inner::RowEquations::turn_of, crate::specs::Inner::Analyses::marked_at))]
     fn assign(
         self,
         _row: RowNumber,
@@ -120,6 +122,7 @@ impl<'a> Analysis for Required<'a> {
         false
     }
 
+    #[tactic(auto, unfolding(crate::specs::Inner::RowEquations::turn_of, crate::specs::Inner::Analyses::marked_at, crate::specs::Inner::Analyses::known_at))]
     fn assign(
         self,
         row: RowNumber,
