@@ -150,6 +150,7 @@ fn side_of<A: Analysis>(analysis: A, part: Part, own: u64, sets: &[u64], partner
 }
 
 // The equation of a block's row; or, where the row brings more to the start of a repeat's body, that of the repeat's other end, after which the walk goes on.
+#[tactic(auto, using(crate::proofs::RightSides::own_below, crate::proofs::RightSides::settled_below, crate::proofs::Walking::turn_below))]
 fn pass_block_row<A: Analysis>(
     analysis: A,
     part: Part,
