@@ -77,20 +77,6 @@ start_below Varied n size h = omega arith
 start_below Useful n size h = h
 start_below Required n size h = omega arith
 
--- ---- which rows ask their partner's set
-
-pub asks_else : (which : Which) (part : Part) → splits part ≡ true → (splits part || joins_by which part) ≡ true
-asks_else which part e = rw e
-
-pub asks_joined : (which : Which) (part : Part) → joins_by which part ≡ true → (splits part || joins_by which part) ≡ true
-asks_joined which part e = of_T _ (or_right (splits part) (joins_by which part) (T_of e))
-
-pub asks_beyond : (which : Which) (part : Part) → ends_repeat which part ≡ true → asks_partner which part ≡ true
-asks_beyond which part e = rw e
-
-pub asks_inside : (which : Which) (part : Part) → (splits part || joins_by which part) ≡ true → asks_partner which part ≡ true
-asks_inside which part e = of_T _ (or_right (ends_repeat which part) (splits part || joins_by which part) (T_of e))
-
 -- ---- the point that a row settles
 
 forward_point : (turn : Assignment → VariableSet → VariableSet) (l : SheetLine) (p c : ℕ) → point_of (forward_of turn l p c) ≡ p + 1

@@ -87,6 +87,7 @@ fn end_loop(
 }
 
 // One row: `top` is the innermost open block's last row so far, and the answer is the same after this row.
+#[tactic(auto, unfolding(crate::specs::Inner::PartnerPass::found_by))]
 fn partner_step(
     laid: LaidSheet,
     part: Part,

@@ -3,15 +3,15 @@ ghost use Rattle.std.specs.Prelude.{◌≡◌, suc, ◌+◌, ◌≤◌, ◌<◌,
 ghost use Rattle.sheet.specs.Inner.Words.{word_values};
 ghost use Rattle.sheet.specs.Rows.{Assignment};
 ghost use Rattle.sets.specs.Rounds.{set_at, least};
-ghost use Rattle.sets.specs.Inner.Operations.{TargetSmall, Gives, Performs};
+ghost use Rattle.sets.specs.Inner.Operations.{Gives, Performs};
 ghost use Rattle.sets.specs.Inner.Analyses.{Lends, LendsAt, known_at, marked_at, marks_left};
 ghost use Rattle.sets.specs.Inner.RowEquations.{given_by, known_by, line_in, turn_of, row_in_turn, own_point, settled_point};
 ghost use Rattle.sets.specs.Inner.RowEquations.{start_of, all_equations, seed_in};
 ghost use Rattle.sets.specs.Inner.Walks.{ends_repeat, asks_partner, side_by, Grown, Judging, Brings, AtBlock, own_side, PassedRow, Settles};
 
 use super::analyses::Analysis;
+use super::operations::MaskedAssignment;
 use super::partners::Partners;
-use super::transfers::MaskedAssignment;
 use super::{LaidSheet, equations, partners, rows, transfers};
 use sheet::kinds::Part;
 use sheet::{RowNumber, kinds};
@@ -80,6 +80,7 @@ fn seed_of<A: Analysis>(analysis: A, laid: LaidSheet) -> u64
 }
 
 // Puts into the start point's set what it has from outside the sheet's rows.
+#[tactic(auto, using(crate::proofs::RightSides::start_below))]
 fn begin<A: Analysis>(analysis: A, laid: LaidSheet, sets: &mut [u64]) -> WalkedTo
     requires { laid.rows < length sets.old }
     ensures { (result.turn ≡ 0) × Grown sets.old (start_of A.which laid.entry.rows)
@@ -93,6 +94,7 @@ fn begin<A: Analysis>(analysis: A, laid: LaidSheet, sets: &mut [u64]) -> WalkedT
 
 // An assignment's equation: what it makes of its own set is put into the set that it settles. A walk tells assignments from the other rows once, before all
 // else: they have no partner and end no repeat, and their operation is made once for all that is asked of it.
+#[tactic(auto, using(crate::proofs::RightSides::settled_below))]
 fn pass_assignment<A: Analysis>(
     analysis: A,
     row: RowNumber,
@@ -101,7 +103,7 @@ fn pass_assignment<A: Analysis>(
     marks: &mut [u8],
     reached: WalkedTo,
 ) -> WalkedTo
-    requires { TargetSmall operation × (row.0 < word_values) × (suc row.0 < length sets.old) × (reached.turn < word_values)
+    requires { (row.0 < word_values) × (suc row.0 < length sets.old) × (reached.turn < word_values)
         × LendsAt A.which (A.varied analysis) (A.useful analysis) (length marks.old) row.0 }
     ensures turn { result.turn ≡ reached.turn + 1 }
     ensures set { (b : Assignment) → Performs operation b → Grown sets.old (settled_point A.which row.0)
@@ -115,6 +117,7 @@ fn pass_assignment<A: Analysis>(
 }
 
 // Whether a row ends a repeat and brings more to the body's start.
+#[tactic(auto, using(crate::proofs::RightSides::settled_below))]
 fn brings_more<A: Analysis>(
     analysis: A,
     part: Part,
@@ -147,29 +150,31 @@ fn side_of<A: Analysis>(analysis: A, part: Part, own: u64, sets: &[u64], partner
 }
 
 // The equation of a block's row; or, where the row brings more to the start of a repeat's body, that of the repeat's other end, after which the walk goes on.
+#[tactic(auto, using(crate::proofs::RightSides::own_below, crate::proofs::RightSides::settled_below, crate::proofs::Walking::turn_below))]
 fn pass_block_row<A: Analysis>(
     analysis: A,
     part: Part,
     rows: usize,
     row: RowNumber,
-    partners: Partners,
+    taken: &[u16],
+    back: &[u16],
     sets: &mut [u64],
     reached: WalkedTo,
 ) -> WalkedTo
-    requires { AtBlock A.which part rows row.0 partners.taken.now partners.back.now sets.old reached }
-    ensures { PassedRow A.which part (own_side A.which part row.0 partners.entry.taken.now sets.old) rows row.0 partners.entry.back.now
+    requires { AtBlock A.which part rows row.0 taken.now back.now sets.old reached }
+    ensures { PassedRow A.which part (own_side A.which part row.0 taken.now sets.old) rows row.0 back.now
         sets.old sets.new result }
 {
     let own = reached.own;
-    if brings_more(analysis, part, row, partners.back, sets, own) {
-        let near = partners::partner_there(partners.back, row);
+    if brings_more(analysis, part, row, back, sets, own) {
+        let near = partners::partner_there(back, row);
         let both = equations::own_set(analysis, sets, near) | own;
         let own = grow(sets, equations::settled_point(analysis, near), both);
         let entered = row_in_turn(analysis, rows, near.0);
         let turn = entered.0 + 1;
         return WalkedTo { turn, own };
     }
-    let partner = partners::partner_there(partners.taken, row);
+    let partner = partners::partner_there(taken, row);
     let right = side_of(analysis, part, own, sets, partner);
     let own = grow(sets, equations::settled_point(analysis, row), right);
     let turn = reached.turn + 1;
@@ -194,6 +199,9 @@ pub fn settle<A: Analysis>(
         laid.entry.rows (seed_in A.which laid.entry.words.now laid.entry.variables)) }
     ensures marks { marks.new ≡ marks_left A.which (A.varied analysis) (A.useful analysis) sets.new (line_in laid.entry.words.now laid.entry.first) laid.entry.rows marks.old }
 {
+    // Taken apart once: handed on whole at each row, as tried, they cost eight nested repeats a ninth more instructions, and straight rows a twenty-fifth.
+    let taken = partners.taken;
+    let back = partners.back;
     let forms = kinds::forms();
     let mut reached = begin(analysis, laid, sets);
     // A `while`: the walk goes back at repeats.
@@ -208,7 +216,7 @@ pub fn settle<A: Analysis>(
         } else {
             analysis.pass_over(row, marks);
             let rows = laid.rows;
-            reached = pass_block_row(analysis, part, rows, row, partners, sets, reached);
+            reached = pass_block_row(analysis, part, rows, row, taken, back, sets, reached);
         }
     }
 }

@@ -13,7 +13,12 @@ pub named-reads_b-requires : goal.named-reads_b-requires
 unfolding row_at
 named-reads_b-requires c = (in_mask c.args.laid.readable c.requires.0 c.requires.1 c.requires.2).b
 
+pub invariant_of-result : goal.invariant_of-result
+unfolding row_at
+invariant_of-result c =
+    record { small = (in_mask c.args.laid.readable c.requires.0 c.requires.1 c.requires.2).d }
+
 pub returns : goal.returns
 unfolding row_at
 returns c =
-    (row_performed _ _ _ c.requires.1 refl refl c.named-reads_a.ensures c.named-reads_b.ensures, (in_mask c.args.laid.readable c.requires.0 c.requires.1 c.requires.2).d)
+    row_performed _ _ _ c.requires.1 refl refl c.named-reads_a.ensures c.named-reads_b.ensures

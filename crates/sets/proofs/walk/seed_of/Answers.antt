@@ -3,7 +3,6 @@ use Rattle.std.proofs.Common.{◌≡◌, ◌+◌, ◌-◌, ◌^◌, ◌<◌, ℕ
 use native.Mathlib.Omega.{arith}
 use mathlib.Core.Path.{sym, ap, ◌∙◌}
 use mathlib.Core.Bool.{cond}
-use lib.ListN.{get_or}
 use Rattle.sets.proofs.Seeds.{byte_of, seed_from, seed_none, seed_all, seed_on, seed_below}
 use Rattle.sets.proofs.walk.seed_of.Goals as goal
 
