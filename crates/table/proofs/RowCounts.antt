@@ -2,7 +2,6 @@
 use Prim.Native.Nat.{ℕ, zero, suc, ◌+◌, ◌*◌, ◌-◌, ◌≤◌, ◌<◌}
 use mathlib.Core.Path.{◌≡◌, refl, ap, ◌∙◌}
 use mathlib.Core.Bool.{Bool, true, false}
-use mathlib.Core.Logic.{◌⊎◌, inl, inr}
 use mathlib.Core.List.{List, [], ◌∷◌, ◌++◌}
 use mir.Val.{bool_byte as from_bool}
 use lib.ListN.{length, length-append, get_or}
@@ -24,9 +23,11 @@ module _ (v : ℕ) (r : Row) (mark : ℕ) where
 
   -- each operand that is varied has one row of the parts, and in a product two; in a quotient the first has one and the second three, after one for both
   module _ {first : Bool} (varied_a : first ≡ (known_by mark).varied_a) where
-    pub single_count : r.kind ≡ 1 ⊎ r.kind ≡ 6 → length (part_rows v r mark) ≡ from_bool first
-    single_count (inl e) = ap length (copy_rows v r mark varied_a refl e) ∙ counted_if first _
-    single_count (inr e) = ap length (negation_rows v r mark varied_a refl e) ∙ counted_if first _
+    pub copy_count : r.kind ≡ 1 → length (part_rows v r mark) ≡ from_bool first
+    copy_count e = ap length (copy_rows v r mark varied_a refl e) ∙ counted_if first _
+
+    pub negation_count : r.kind ≡ 6 → length (part_rows v r mark) ≡ from_bool first
+    negation_count e = ap length (negation_rows v r mark varied_a refl e) ∙ counted_if first _
 
     module _ {second : Bool} (varied_b : second ≡ (known_by mark).varied_b) where
       pub two_count : (3 ≤ r.kind) × (r.kind ≤ 4) → length (part_rows v r mark) ≡ from_bool first + from_bool second

@@ -3,7 +3,7 @@ use Prim.Native.Nat.{◌≤◌}
 use native.Mathlib.Omega.{arith}
 use Rattle.sheet.specs.Answers.{row_said}
 use Rattle.sets.proofs.Seeds.{byte_of}
-use Rattle.table.proofs.RowCounts.{constant_count, single_count, two_count, product_count, quotient_count}
+use Rattle.table.proofs.RowCounts.{constant_count, copy_count, negation_count, two_count, product_count, quotient_count}
 use Rattle.table.proofs.count.parts_count.Goals.{After-from-of_b}
 use Rattle.table.proofs.count.parts_count.Goals as goal
 
@@ -18,7 +18,14 @@ pub returns-in-1 : goal.returns-in-1
 returns-in-1 c =
     record {
       within = omega (arith, few (goal.at.returns-in-1 c).After-from-of_b);
-      is = λ v. omega (arith, c.from-of_a.ensures, single_count v (row_said c.args.row) c.args.mark c.bit.ensures c.in-1.is);
+      is = λ v. omega (arith, c.from-of_a.ensures, copy_count v (row_said c.args.row) c.args.mark c.bit.ensures c.in-1.is);
+    }
+
+pub returns-in-6 : goal.returns-in-6
+returns-in-6 c =
+    record {
+      within = omega (arith, few (goal.at.returns-in-6 c).After-from-of_b);
+      is = λ v. omega (arith, c.from-of_a.ensures, negation_count v (row_said c.args.row) c.args.mark c.bit.ensures c.in-6.is);
     }
 
 pub returns-in-5 : goal.returns-in-5
