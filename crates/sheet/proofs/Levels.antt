@@ -1,5 +1,6 @@
 -- The blocks that are open, by their W alone: what the reader keeps of them, and that a row does to that what it does to the blocks.
 use Prim.Native.Nat.{ℕ, suc, ◌+◌, ◌*◌, ◌-◌, ◌<◌, max}
+use Rattle.std.specs.Prelude.{Option, None, Some}
 use mathlib.Core.Path.{◌≡◌, refl, sym, ◌∙◌}
 use mathlib.Core.Bool.{Bool, true, false}
 use mathlib.Core.List.{List, [], ◌∷◌}
@@ -86,12 +87,12 @@ pub record Next (answer : Answer RowsTaken) (depth : ℕ) (l : Level) (Stands : 
   pub stands : Stands next.blocks
 
 -- what a step has to say of the row's answer: blocks of some depth, with their levels, were open before
-abbrev pub Follows : (place depth : ℕ) (levels : List Level) (inner : Level) → Step → Answer RowsTaken → Type 0
-Follows place depth levels inner step.BadBlock answer = answer ≡ refused (bad_block place)
-Follows place depth levels inner (step.Stay l) answer = Next answer depth l (Stand levels)
-Follows place depth levels inner (step.Enter l) answer =
+abbrev pub Follows : (place depth : ℕ) (levels : List Level) (inner : Level) → Option Step → Answer RowsTaken → Type 0
+Follows place depth levels inner None answer = answer ≡ refused (bad_block place)
+Follows place depth levels inner (Some (step.Stay l)) answer = Next answer depth l (Stand levels)
+Follows place depth levels inner (Some (step.Enter l)) answer =
     (depth < limit.depth) × ((i : ℕ) → i ≡ suc depth → i < length levels → Next answer i l (Stand (set levels i inner)))
-Follows place depth levels inner (step.Leave l) answer = (0 < depth) × Next answer (depth - 1) l (Stand levels)
+Follows place depth levels inner (Some (step.Leave l)) answer = (0 < depth) × Next answer (depth - 1) l (Stand levels)
 
 module _ (place : ℕ) (levels : List Level) where
   module _ (blocks : List Block) (items : List Item) (stands : Stand levels blocks) where
@@ -171,7 +172,7 @@ module _ (place : ℕ) (levels : List Level) where
   )
 
   module _ (blocks : List Block) (items : List Item) (stands : Stand levels blocks) where
-    abbrev FollowedBy : Step → Answer RowsTaken → Type 0
+    abbrev FollowedBy : Option Step → Answer RowsTaken → Type 0
     FollowedBy = Follows place (length blocks) levels (level_of blocks items)
 
     pub line_follows : (line : SheetLine)

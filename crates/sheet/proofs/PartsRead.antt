@@ -4,7 +4,7 @@ use mathlib.Core.Path.{◌≡◌, refl, sym, ap, ◌∙◌}
 use mathlib.Core.Bool.{Bool, true, false}
 use mathlib.Core.List.{List, [], ◌∷◌, map}
 use mathlib.Core.Option.{Option, none, some}
-use lib.ListN.{length, get_or}
+use lib.ListN.{length, get_or, get_or-eq_default}
 use lib.Dec.{leb, ltb}
 use native.Mathlib.Omega.{arith}
 use native.Mathlib.Decide.{dec_le}
@@ -53,6 +53,16 @@ in_all_forms (suc i) other l = in_table_lem kinds i other (omega arith)
 
 pub form_there : (forms : List Form) (n : ℕ) (other : Form) → forms ≡ all_forms → n ≤ length kinds → get_or forms n other ≡ form_for n
 form_there forms n other e l = rw e (in_all_forms n other l)
+
+-- a number that is no kind's has no form
+pub form_found : {forms : List Form} (n : ℕ) → forms ≡ all_forms → get_or forms n no_form ≡ form_for n
+form_found {forms} n e = by (dec_le n (length kinds))
+  where
+    by : Dec (n ≤ length kinds) → get_or forms n no_form ≡ form_for n
+    by (yes l) = form_there forms n no_form e l
+    by (no h) =
+        let above : length all_forms ≤ n = omega arith in
+        rw e (get_or-eq_default all_forms no_form above ∙ no_form_above n (omega arith))
 
 -- as the code looks a form up: beyond the table each part would be its type's first
 abbrev pub form_in : List Form → (kind : ℕ) → Form

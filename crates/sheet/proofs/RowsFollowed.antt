@@ -1,6 +1,7 @@
 -- The rows from a place on, after what has been read: one row more keeps what they come to, and how they end.
 use Prim.Native.Nat.{ℕ, zero, suc, ◌+◌, ◌*◌, ◌-◌, ◌≤◌, ◌<◌}
-use mathlib.Core.Path.{◌≡◌, refl, sym, ◌∙◌}
+use Rattle.std.specs.Prelude.{Option, Some}
+use mathlib.Core.Path.{◌≡◌, refl, sym, ap, subst, ◌∙◌}
 use mathlib.Core.Bool.{Bool, true, false}
 use mathlib.Core.List.{List, [], ◌∷◌}
 use lib.ListN.{length, get_or, set, length-set}
@@ -11,17 +12,20 @@ use native.Mathlib.Numerals.{add-one, sub-one}
 use Rattle.sheet.specs.Bounds.{limit}
 use Rattle.sheet.specs.Judging.{Answer, refused, given, ◌>>=◌}
 use Rattle.sheet.specs.Refusals.{Refusal, bad_row, bad_block}
-use Rattle.sheet.specs.Rows.{SheetLine, Row}
+use Rattle.sheet.specs.Rows.{SheetLine, Row, kinds}
 use Rattle.sheet.specs.Tree.{longest_run}
 use Rattle.sheet.specs.Sheets.{row_at, rows_at}
 use Rattle.sheet.specs.Reading.{Item, Block, RowsTaken, line_of, taken, body_of}
 use Rattle.sheet.specs.Inner.Kinds.{part_of, part_for, turns_in}
-use Rattle.sheet.specs.Inner.Steps.{row_fits, saturated, step_of, body_said, after_rows_of, body_run}
+use Rattle.sheet.specs.Answers.{row_said}
+use Rattle.sheet.specs.Inner.Steps.{no_rule, RulesFor, fits_rule, row_fits, saturated, step_of, body_said, after_rows_of, body_run}
+use Rattle.sheet.specs.declared.Rule.{Rule}
+use Rattle.sheet.specs.declared.RowWords.{RowWords}
 use Rattle.sheet.specs.declared.Level.{Level}
 use Rattle.sheet.specs.declared.Step.{Step}
 use Rattle.sheet.specs.declared.Step.TheVariants as step
 use Rattle.sheet.proofs.Judgements.{bind_assoc}
-use Rattle.sheet.proofs.PartsRead.{turns_of, Judged, unfit, fit, row_judged}
+use Rattle.sheet.proofs.PartsRead.{turns_of, Judged, unfit, fit, row_judged, above_all_kinds, fits_by_rule, part_by_rule}
 use Rattle.sheet.proofs.Levels.{level_of, bottom, Stand, Next, Follows, items_run, closed_done, line_follows}
 
 -- a row that fits says a line, which does to the blocks what the row does; one that doesn't is refused by 5
@@ -108,9 +112,11 @@ pub record Going (words : List ℕ) (first count v k : ℕ) (levels : List Level
   pub same : body_run v k (rows_at words place left) place blocks items ≡ whole_run words first count v k
 
 pub going_starts : (words : List ℕ) (first count v k : ℕ) (levels : List Level) → length levels ≡ suc limit.depth
-    → first + count * limit.row_words ≤ length words → Going words first count v k levels 0 bottom first count
+    → first + count * limit.row_words ≤ length words → Going words first count v k levels 0 bottom (first + 0 * limit.row_words) (count - 0)
 unfolding saturated
 going_starts words first count v k levels room there =
+    let place : first + 0 * limit.row_words ≡ first = omega arith in
+    let left : count - 0 ≡ count = omega arith in
     record {
       blocks = [];
       items = [];
@@ -119,8 +125,8 @@ going_starts words first count v k levels room there =
       room = room;
       here = refl;
       stands = tt;
-      there = there;
-      same = refl;
+      there = omega (arith, there);
+      same = rw (place, left);
     }
 
 module _ {words : List ℕ} {first count v k : ℕ} {levels : List Level} {depth : ℕ} {inner : Level} {place left : ℕ}
@@ -132,7 +138,7 @@ module _ {words : List ℕ} {first count v k : ℕ} {levels : List Level} {depth
   pub unfit_refused : row_fits v k (row_at words place) ≡ false → row_here ≡ refused (bad_row place)
   unfit_refused e = rw (says_none v k place (row_at words place) e)
 
-  pub step_follows : (s : Step) → row_fits v k (row_at words place) ≡ true
+  pub step_follows : (s : Option Step) → row_fits v k (row_at words place) ≡ true
       → s ≡ step_of (part_for (row_at words place).kind) (turns_in (row_at words place)) depth inner (get_or levels depth bottom)
       → Follows place depth levels inner s row_here
   step_follows s fits is =
@@ -165,14 +171,14 @@ module _ {words : List ℕ} {first count v k : ℕ} {levels : List Level} {depth
           same = sym (from_here ∙ rw after.is);
         }
 
-    pub stays : (l : Level) → Follows place depth levels inner (step.Stay l) row_here → GoingOn levels depth l
+    pub stays : (l : Level) → Follows place depth levels inner (Some (step.Stay l)) row_here → GoingOn levels depth l
     stays l after = going_on levels depth l going.within going.room after
 
-    pub enters : (l : Level) → Follows place depth levels inner (step.Enter l) row_here → GoingOn (set levels (depth + 1) inner) (depth + 1) l
+    pub enters : (l : Level) → Follows place depth levels inner (Some (step.Enter l)) row_here → GoingOn (set levels (depth + 1) inner) (depth + 1) l
     enters l (below, after) =
         going_on _ (depth + 1) l (omega arith) (simp length-set going.room) (after (depth + 1) (add-one depth) (omega (arith, going.room)))
 
-    pub leaves : (l : Level) → Follows place depth levels inner (step.Leave l) row_here → GoingOn levels (depth - 1) l
+    pub leaves : (l : Level) → Follows place depth levels inner (Some (step.Leave l)) row_here → GoingOn levels (depth - 1) l
     leaves l (above, after) = going_on levels (depth - 1) l (omega (arith, going.within)) going.room after
 
   -- after the last row
@@ -194,3 +200,70 @@ module _ {words : List ℕ} {first count v k : ℕ} {levels : List Level} {depth
         by : Dec (depth ≤ 0) → body_said (after_rows_of depth inner.longest place) ≡ whole_run words first count v k
         by (yes h) = let closed : depth ≡ 0 = omega arith in rw (eq-eqb depth 0 closed) (all_closed closed)
         by (no h) = let open_still : ¬ (depth ≡ 0) = λ e. omega arith in rw (ne_eqb depth 0 open_still) (never_closed_lem open_still)
+
+pub rows_done : {words : List ℕ} {first count v k : ℕ} {levels : List Level} {depth : ℕ} {inner : Level} {number : ℕ}
+    → Going words first count v k levels depth inner (first + number * limit.row_words) (count - number) → number ≡ count
+    → body_said (after_rows_of depth inner.longest (first + count * limit.row_words)) ≡ whole_run words first count v k
+rows_done {words} {first} {count} {v} {k} {levels} {depth} {inner} going all =
+    subst (λ n. body_said (after_rows_of depth inner.longest (first + n * limit.row_words)) ≡ whole_run words first count v k) all
+    (rows_end going (omega arith))
+
+-- ---- at the row after so many, as the reader has it
+
+module _ {words : List ℕ} {first count v k : ℕ} {levels : List Level} {depth : ℕ} {inner : Level} {number : ℕ}
+    (going : Going words first count v k levels depth inner (first + number * limit.row_words) (count - number)) (more : number < count) where
+  abbrev place : ℕ
+  place = first + number * limit.row_words
+
+  pub row_refused : (why : Refusal) → row_here going ≡ refused why → refused why ≡ whole_run words first count v k
+  row_refused why e = row_ends going (omega arith) why e
+
+  -- after it
+  abbrev After : List Level → ℕ → Level → Type 0
+  After levels' depth' l = Going words first count v k levels' depth' l (first + (number + 1) * limit.row_words) (count - (number + 1))
+
+  at_next : {levels' : List Level} {depth' : ℕ} {l : Level} → Going words first count v k levels' depth' l (place + limit.row_words) (count - number - 1)
+      → After levels' depth' l
+  at_next {levels'} {depth'} {l} going' =
+      let next : place + limit.row_words ≡ first + (number + 1) * limit.row_words = omega arith in
+      let left : count - number - 1 ≡ count - (number + 1) = omega arith in
+      subst (λ n. Going words first count v k levels' depth' l n (count - (number + 1))) next
+      (subst (λ n. Going words first count v k levels' depth' l (place + limit.row_words) n) left going')
+
+  pub row_stays : (l : Level) → Follows place depth levels inner (Some (step.Stay l)) (row_here going) → After levels depth l
+  row_stays l after = at_next (stays going (omega arith) l after)
+
+  pub row_enters : (l : Level) → Follows place depth levels inner (Some (step.Enter l)) (row_here going) → After (set levels (depth + 1) inner) (depth + 1) l
+  row_enters l after = at_next (enters going (omega arith) l after)
+
+  pub row_leaves : (l : Level) → Follows place depth levels inner (Some (step.Leave l)) (row_here going) → After levels (depth - 1) l
+  row_leaves l after = at_next (leaves going (omega arith) l after)
+
+  -- by its words, and the rule that was looked up by its kind
+  module _ (rules : List Rule) (made : RulesFor v k rules) {row : RowWords} (read : row_said row ≡ row_at words place) {kind : ℕ}
+      (is_kind : kind ≡ row.kind) where
+    abbrev here : Row
+    here = row_at words place
+
+    abbrev rule : Rule
+    rule = get_or rules kind no_rule
+
+    kind_read : kind ≡ here.kind
+    kind_read = is_kind ∙ ap (λ r. r.kind) read
+
+    pub no_kind : length kinds < kind → refused (bad_row place) ≡ whole_run words first count v k
+    no_kind high = row_refused _ (unfit_refused going (above_all_kinds v k here (omega (arith, high, kind_read))))
+
+    module _ (low : kind ≤ length kinds) where
+      fits_same : fits_rule rule (row_said row) ≡ row_fits v k here
+      fits_same = ap (fits_rule rule) read ∙ fits_by_rule v k here rules made kind kind_read low
+
+      pub row_unfit : fits_rule rule (row_said row) ≡ false → refused (bad_row place) ≡ whole_run words first count v k
+      row_unfit e = row_refused _ (unfit_refused going (sym fits_same ∙ e))
+
+      -- what the row does to the blocks says what it comes to
+      pub row_says : fits_rule rule (row_said row) ≡ true → (s : Option Step) (turns : ℕ) → turns ≡ turns_in (row_said row)
+          → s ≡ step_of rule.part turns depth inner (get_or levels depth bottom) → Follows place depth levels inner s (row_here going)
+      row_says fits s turns is_turns is =
+          let part = part_by_rule v k here rules made kind kind_read low in
+          step_follows going s (sym fits_same ∙ fits) (is ∙ cc part)

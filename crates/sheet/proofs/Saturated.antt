@@ -1,16 +1,11 @@
 -- W up to one above its bound: sums, products and the larger of two can be taken of it as of W.
-use Prim.Native.Nat.{ℕ, zero, suc, ◌+◌, ◌*◌, ◌≤◌, ◌<◌, max}
+use Prim.Native.Nat.{ℕ, zero, suc, ◌+◌, ◌*◌, ◌≤◌, max}
 use mathlib.Core.Path.{◌≡◌}
 use native.Mathlib.Decide.{dec_le}
 use native.Mathlib.Omega.{arith}
-use native.Mathlib.Nat.{mul-le-mul, suc-mul, min-eq_left, min-eq_right}
-use Rattle.sheet.specs.Inner.Words.{word_values}
+use native.Mathlib.Nat.{suc-mul, min-eq_left, min-eq_right}
 use Rattle.sheet.specs.Bounds.{limit}
 use Rattle.sheet.specs.Inner.Steps.{saturated}
-
--- two words multiplied stay far below 2^64
-pub product_small : (m n : ℕ) → m < word_values → n < word_values → m * (1 + n) ≤ word_values * word_values
-product_small m n h k = let p : m ≤ word_values = omega arith in let q : 1 + n ≤ word_values = omega arith in mul-le-mul p q
 
 pub saturated_sum : (a b : ℕ) → saturated (saturated a + b) ≡ saturated (a + b)
 unfolding saturated

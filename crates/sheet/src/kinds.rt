@@ -5,6 +5,7 @@ ghost use Rattle.sheet.specs.Inner.Kinds.{all_forms, form_for, names_variable, a
 
 use super::{RowWords, wide};
 
+// Numbers and no enum: they are words of sheets and of tables, where others stand among them, and places in FORMS.
 pub const COPY: u16 = 1;
 
 pub const CONSTANT: u16 = 2;
@@ -140,11 +141,7 @@ pub fn form_in(forms: [Form; LAST + 1], kind: u16) -> Form
     requires { forms ≡ all_forms }
     ensures { result ≡ form_for kind }
 {
-    let number = wide(kind);
-    if LAST < number {
-        return NO_FORM;
-    }
-    forms[number]
+    forms.get(wide(kind)).copied().unwrap_or(NO_FORM)
 }
 
 pub fn names_variable(slot: Slot) -> bool

@@ -66,7 +66,7 @@ pub struct Shape {
     pub longest: usize,
 }
 
-// The roles besides 0, a parameter.
+// The roles besides 0, a parameter. They stay words: an enum would only be taken apart again into the two questions below.
 const INDEPENDENT: u16 = 1;
 
 const DEPENDENT: u16 = 2;
@@ -131,7 +131,6 @@ struct Level {
 // What a row that fits does to the blocks.
 #[derive(Clone, Copy)]
 enum Step {
-    BadBlock,
     Stay(Level),
     Enter(Level),
     Leave(Level),
@@ -145,6 +144,7 @@ pub fn wide(x: u16) -> usize
 }
 
 // What is judged after the rows: words that are left, then W.
+#[tactic(auto, unfolding(crate::specs::Inner::Steps::finish_of))]
 fn finish(shape: Shape, after: usize, length: usize) -> Result<Shape, No>
     ensures { result ≡ finish_of shape after length }
 {
@@ -162,17 +162,14 @@ pub fn read_sheet(words: &[u16]) -> Result<Shape, No>
     ensures { said result ≡ shape_read words.now }
 {
     let counts = sections::counts_read(words)?;
-    let variables = counts.variables;
-    let constants = counts.constants;
-    let rows = counts.rows;
-    let first_row = 3 + variables + constants;
-    let longest = wide(blocks::rows_read(words, first_row, rows, variables, constants)?);
-    let after = first_row + rows * ROW_WORDS;
+    let first_row = 3 + counts.variables + counts.constants;
+    let longest = wide(blocks::rows_read(words, first_row, counts)?);
+    let after = first_row + counts.rows * ROW_WORDS;
     let shape = Shape {
-        variables,
-        constants,
-        rows,
-        first_constant: 2 + variables,
+        variables: counts.variables,
+        constants: counts.constants,
+        rows: counts.rows,
+        first_constant: 2 + counts.variables,
         first_row,
         longest,
     };
@@ -219,15 +216,17 @@ pub fn word_at(words: &[u16], place: usize) -> u16
 }
 
 // The row at a place.
+#[tactic(auto, unfolding(crate::specs::Sheets::row_at))]
 fn row_at(words: &[u16], place: usize) -> RowWords
     requires { place + limit.row_words ≤ length words.now }
     ensures { row_said result ≡ row_at words.now place }
 {
-    let kind = words[place];
-    let d = words[place + 1];
-    let a = words[place + 2];
-    let b = words[place + 3];
-    RowWords { kind, d, a, b }
+    RowWords {
+        kind: words[place],
+        d: words[place + 1],
+        a: words[place + 2],
+        b: words[place + 3],
+    }
 }
 
 // A row, by its number among the rows that start at `first`.
@@ -235,6 +234,5 @@ pub fn row_of(words: &[u16], first: usize, row: RowNumber) -> RowWords
     requires { first + (row.0 + 1) * limit.row_words ≤ length words.now }
     ensures { row_said result ≡ row_at words.now (first + row.0 * limit.row_words) }
 {
-    let number = row.0;
-    row_at(words, first + number * ROW_WORDS)
+    row_at(words, first + row.0 * ROW_WORDS)
 }

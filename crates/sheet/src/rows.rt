@@ -16,52 +16,53 @@ fn least(slot: Slot) -> u16
     }
 }
 
-// What a word must stay below.
-fn beyond(slot: Slot, variables: u16, constants: u16) -> u16
-    ensures { result ≡ beyond_of variables constants slot }
-{
-    match slot {
-        Slot::Variable => variables,
-        Slot::Constant => constants,
-        Slot::Turns => (MAX_TURNS + 1) as u16,
-        Slot::Unused => 1,
-        Slot::Nothing => 0,
-    }
+// How many variables and constants there are for a row's words to name.
+#[derive(Clone, Copy)]
+pub struct Named {
+    pub variables: u16,
+    pub constants: u16,
 }
 
-fn rule_of(form: Form, variables: u16, constants: u16) -> Rule
-    ensures { result ≡ rule_of variables constants form }
-{
-    let of_d = form.0;
-    let of_a = form.1;
-    let of_b = form.2;
-    let part = form.3;
-    let least_d = least(of_d);
-    let d = beyond(of_d, variables, constants);
-    let least_a = least(of_a);
-    let a = beyond(of_a, variables, constants);
-    let b = beyond(of_b, variables, constants);
-    Rule {
-        least_d,
-        d,
-        least_a,
-        a,
-        b,
-        part,
+impl Named {
+    // What a word must stay below.
+    fn beyond(self, slot: Slot) -> u16
+        ensures { result ≡ beyond_of self.variables self.constants slot }
+    {
+        match slot {
+            Slot::Variable => self.variables,
+            Slot::Constant => self.constants,
+            Slot::Turns => (MAX_TURNS + 1) as u16,
+            Slot::Unused => 1,
+            Slot::Nothing => 0,
+        }
     }
-}
 
-// Every kind's rule, from the table of kinds.
-pub fn rules_of(variables: u16, constants: u16) -> [Rule; kinds::LAST + 1]
-    ensures { RulesFor variables constants result }
-{
-    kinds::forms().map(|form| rule_of(form, variables, constants))
+    fn rule_of(self, form: Form) -> Rule
+        ensures { result ≡ rule_of self.variables self.constants form }
+    {
+        let Form(of_d, of_a, of_b, part) = form;
+        Rule {
+            least_d: least(of_d),
+            d: self.beyond(of_d),
+            least_a: least(of_a),
+            a: self.beyond(of_a),
+            b: self.beyond(of_b),
+            part,
+        }
+    }
+
+    // Every kind's rule, from the table of kinds.
+    pub fn rules(self) -> [Rule; kinds::LAST + 1]
+        ensures { RulesFor self.variables self.constants result }
+    {
+        kinds::forms().map(|form| self.rule_of(form))
+    }
 }
 
 fn in_range(least: u16, beyond: u16, word: u16) -> bool
     ensures { result ≡ in_range least beyond word }
 {
-    (least <= word) & (word < beyond)
+    (least..beyond).contains(&word)
 }
 
 pub fn row_fits(rule: Rule, row: RowWords) -> bool

@@ -13,10 +13,10 @@ fn count_at(words: &[u16], place: usize, low: usize, high: usize, width: usize) 
     requires { width ≤ limit.row_words }
     ensures { count_said result ≡ count_at words.now place low high width }
 {
-    if words.len() <= place {
+    let Some(word) = words.get(place).copied() else {
         return Err(No::WordsEnd(place));
-    }
-    let count = wide(words[place]);
+    };
+    let count = wide(word);
     if !(low..=high).contains(&count) {
         return Err(No::CountBeyond(place));
     }

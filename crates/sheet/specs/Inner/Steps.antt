@@ -1,8 +1,8 @@
 -- What the reader's inner functions answer: counts and roles, a row as the blocks see it, the open blocks by their W alone, and W kept from
 -- growing beyond its bound. Nothing here needs to be believed: the contract of `read_sheet` cites none of it.
 use Rattle.std.specs.Prelude.{ℕ, suc, ◌+◌, ◌*◌, ◌≤◌, min, max, ◌≡◌, Bool, true, false, ◌&&◌, List, length, get_or, take, drop, leb, ltb, eqb}
-use Rattle.std.specs.Prelude.{Err, Ok, Result}
-use Rattle.std.proofs.Math.Option.{Option, none, some}
+use Rattle.std.specs.Prelude.{Err, Ok, Result, Option, None, Some}
+use Rattle.std.proofs.Math.Option as math
 use Rattle.sheet.specs.Bounds.{limit}
 use Rattle.sheet.specs.Judging.{Answer, refused, given, ◌>>=◌}
 use Rattle.sheet.specs.Reading.{words_fit, count_at, roles_fit, Block, Item, body_of}
@@ -95,9 +95,9 @@ abbrev pub fits_rule : Rule → Row → Bool
 fits_rule rule r = in_range rule.least_d rule.d r.d && in_range rule.least_a rule.a r.a && ltb r.b rule.b
 
 -- a row is of a kind, and its words fit that
-abbrev pub fits_kind : (variables constants : ℕ) → Option Kind → Row → Bool
-fits_kind v k none r = false
-fits_kind v k (some kind) r = words_fit v k kind r
+abbrev pub fits_kind : (variables constants : ℕ) → math.Option Kind → Row → Bool
+fits_kind v k math.none r = false
+fits_kind v k (math.some kind) r = words_fit v k kind r
 
 unfoldable pub row_fits : (variables constants : ℕ) → Row → Bool
 unfolding kind_of
@@ -113,33 +113,33 @@ saturated n = min n (suc limit.longest_run)
 abbrev pub counted : Level → ℕ → Level
 counted level more = record { block = level.block; longest = saturated (level.longest + more) }
 
-unfoldable pub enter_of : ℕ → Open → Step
-enter_of depth block = pick (ltb depth limit.depth) (step.Enter (record { block = block; longest = 0 })) step.BadBlock
+unfoldable pub enter_of : ℕ → Open → Option Step
+enter_of depth block = pick (ltb depth limit.depth) (Some (step.Enter (record { block = block; longest = 0 }))) None
 
-unfoldable pub split_of : Open → ℕ → Step
-split_of block.Outermost longest = step.BadBlock
-split_of block.First longest = step.Stay (record { block = block.Second longest; longest = 0 })
-split_of (block.Second first) longest = step.BadBlock
-split_of (block.Turns m) longest = step.BadBlock
+unfoldable pub split_of : Open → ℕ → Option Step
+split_of block.Outermost longest = None
+split_of block.First longest = Some (step.Stay (record { block = block.Second longest; longest = 0 }))
+split_of (block.Second first) longest = None
+split_of (block.Turns m) longest = None
 
-unfoldable pub if_end_of : Open → ℕ → Level → Step
+unfoldable pub if_end_of : Open → ℕ → Level → Option Step
 unfolding saturated
-if_end_of block.Outermost longest outer = step.BadBlock
-if_end_of block.First longest outer = step.BadBlock
-if_end_of (block.Second first) longest outer = step.Leave (counted outer (1 + max first longest))
-if_end_of (block.Turns m) longest outer = step.BadBlock
+if_end_of block.Outermost longest outer = None
+if_end_of block.First longest outer = None
+if_end_of (block.Second first) longest outer = Some (step.Leave (counted outer (1 + max first longest)))
+if_end_of (block.Turns m) longest outer = None
 
-unfoldable pub repeat_end_of : Open → ℕ → Level → Step
+unfoldable pub repeat_end_of : Open → ℕ → Level → Option Step
 unfolding saturated
-repeat_end_of block.Outermost longest outer = step.BadBlock
-repeat_end_of block.First longest outer = step.BadBlock
-repeat_end_of (block.Second first) longest outer = step.BadBlock
-repeat_end_of (block.Turns m) longest outer = step.Leave (counted outer (1 + m * (1 + longest)))
+repeat_end_of block.Outermost longest outer = None
+repeat_end_of block.First longest outer = None
+repeat_end_of (block.Second first) longest outer = None
+repeat_end_of (block.Turns m) longest outer = Some (step.Leave (counted outer (1 + m * (1 + longest))))
 
 -- by what the row is to the blocks, and a loop's count of turns
-unfoldable pub step_of : Part → (turns depth : ℕ) → (inner outer : Level) → Step
+unfoldable pub step_of : Part → (turns depth : ℕ) → (inner outer : Level) → Option Step
 unfolding saturated enter_of split_of if_end_of repeat_end_of
-step_of part.Assignment turns depth inner outer = step.Stay (counted inner 1)
+step_of part.Assignment turns depth inner outer = Some (step.Stay (counted inner 1))
 step_of part.If turns depth inner outer = enter_of depth block.First
 step_of part.Else turns depth inner outer = split_of inner.block inner.longest
 step_of part.EndIf turns depth inner outer = if_end_of inner.block inner.longest outer

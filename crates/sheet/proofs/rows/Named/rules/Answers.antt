@@ -1,4 +1,4 @@
--- `sheet::rows::rules_of` meets its contract: each rule is made from its form in the table.
+-- `sheet::rows::Named::rules` meets its contract: each rule is made from its form in the table.
 use Rattle.std.proofs.Common.{◌≡◌, ℕ, zero, suc, ◌+◌, ◌≤◌, ◌<◌, List, ap, subst, ◌∙◌, arith, get_or, rules}
 use Rattle.std.specs.Array.{MapsFrom}
 use Rattle.std.specs.Fn.{Mut, Called}
@@ -6,7 +6,7 @@ use native.Mathlib.Decide.{dec_le}
 use Rattle.sheet.specs.Inner.Steps.{rule_of, no_rule}
 use Rattle.sheet.proofs.PartsRead.{form_there}
 use Rattle.sheet.specs.Inner.Kinds.{no_form}
-use Rattle.sheet.proofs.rows.rules_of.Goals as goal
+use Rattle.sheet.proofs.rows.Named.rules.Goals as goal
 
 module _ {F A B : Type 0} {g : Mut F (A × Unit {0}) B} (h : A → B) (xs : List A) (ys : List B) (d : A) (e : B) where
   mapped : (f : F) → ((x : A) (y : B) (q : F) → Called g f (x, tt) y q → (y ≡ h x) × (q ≡ f))
@@ -23,5 +23,5 @@ module _ {F A B : Type 0} {g : Mut F (A × Unit {0}) B} (h : A → B) (xs : List
 
 pub returns : goal.returns
 returns c n l =
-    mapped (rule_of c.args.variables c.args.constants) _ _ no_form no_rule _ (λ x y q call. search (rules, call)) 0 20 n c.map.ensures.items.each (omega arith) (omega arith)
+    mapped (rule_of c.args.self.variables c.args.self.constants) _ _ no_form no_rule _ (λ x y q call. search (rules, call)) 0 20 n c.map.ensures.items.each (omega arith) (omega arith)
     ∙ ap (rule_of _ _) (form_there _ _ _ c.forms.ensures l)
