@@ -11,7 +11,7 @@ use lib.Seq.{drop-cons, get_or-take, get_or-drop, length-take-le, drop-length}
 use lib.Pow.{pow_mono}
 use Rattle.sets.specs.Inner.Analyses.{Which}
 use Rattle.sets.specs.VariableSets.{VariableSet, empty, places}
-use Rattle.sets.specs.Inner.Operations.{mask_bits}
+use Rattle.sets.specs.Inner.Masks.{mask_bits}
 use Rattle.sets.specs.Inner.RowEquations.{has_role, seed_in}
 use Rattle.sets.proofs.VariableSetSizes.{places_below}
 

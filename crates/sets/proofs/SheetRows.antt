@@ -1,7 +1,7 @@
 -- The rows of an accepted sheet: each says its line, and names nothing beyond a mask's bits.
 use Prim.Native.Nat.{ℕ, suc, ◌+◌, ◌*◌, ◌≤◌, ◌<◌}
 use native.Mathlib.Omega.{arith}
-use mathlib.Core.Path.{◌≡◌, refl, ap, ◌∙◌}
+use mathlib.Core.Path.{◌≡◌, refl, sym, ap, ◌∙◌}
 use mathlib.Core.Bool.{true, false}
 use mathlib.Core.List.{List, []}
 use lib.ListN.{length}
@@ -10,14 +10,16 @@ use Rattle.sheet.specs.Bounds.{limit}
 use Rattle.sheet.specs.Tree.{Loop, times, while, Tree, done, one, fork, again, repeat, rows, flat}
 use Rattle.sheet.specs.Rows.{Assignment, ◌≔◌, copy, fixed, sum, difference, product, negation, quotient, less, Test, SheetLine}
 use Rattle.sheet.specs.Rows.{row_of_assignment, sheet_row_of, tree_rows}
-use Rattle.sheet.specs.Inner.Kinds.{form_for, all_forms}
+use Rattle.sheet.specs.Inner.RowLines.{numbered_row}
+use Rattle.sheet.specs.Inner.Kinds.{assigns, form_for, all_forms}
 use Rattle.sheet.specs.declared.kinds.Form.{Form}
 use Rattle.sheet.specs.Names.{SourcePresent, AssignmentPresent, Present}
 use Rattle.sheet.specs.Sheets.{rows_at}
 use Rattle.sheet.proofs.PartsRead.{form_there, form_in}
 use Rattle.sheet.proofs.RowsByNumber.{StandsAt, tree_stands, stands_after, line_said, Each, rows_of_tree, tree_says, tree_each}
-use Rattle.sets.specs.Inner.Operations.{mask_bits, InMask}
-use Rattle.sets.specs.Inner.RowEquations.{line_in, RowReadable, FitsMask, KindRead, Formed}
+use Rattle.sets.specs.Inner.Masks.{mask_bits}
+use Rattle.sets.specs.Inner.Operations.{InMask}
+use Rattle.sets.specs.Inner.RowEquations.{line_in, RowReadable, AllReadable, FitsMask, KindRead, Formed}
 use Rattle.sets.proofs.RowByRow.{LinesAt}
 
 -- ---- rows by number
@@ -50,6 +52,11 @@ lines_at words first n t e = lines_part words first t 0 [] (tree_stands words fi
 pub form_read : {words : List ℕ} {first p kind : ℕ} {forms : List Form} → forms ≡ all_forms → KindRead words first p kind
     → Formed words first p (form_in forms kind)
 form_read table read = form_there _ _ _ table read.in_table ∙ ap form_for read.is
+
+-- an assignment's words are bits of a mask
+pub in_mask : {words : List ℕ} {first n p : ℕ} {form : Form} → AllReadable words first n → p < n → Formed words first p form → assigns form.3 ≡ true
+    → InMask (numbered_row words first p)
+in_mask readable h formed assigned = (readable _ h).small (ap assigns (ap (λ f. f.3) (sym formed)) ∙ assigned)
 
 not_true : false ≡ true → ⊥
 not_true e = let z : ◌≡◌ {A = ℕ} 0 1 = cc in omega arith

@@ -14,16 +14,16 @@ use Rattle.sheet.specs.Inner.Kinds.{assigns, part_of, all_forms}
 use Rattle.sheet.specs.declared.kinds.Form.{Form}
 use Rattle.sheet.specs.declared.kinds.Part.{Part}
 use Rattle.sheet.specs.declared.kinds.Part.TheVariants as part
-use Rattle.sets.specs.declared.transfers.MaskedAssignment.{MaskedAssignment}
+use Rattle.sets.specs.declared.operations.MaskedAssignment.{MaskedAssignment}
 use Rattle.sets.specs.declared.walk.WalkedTo.{WalkedTo}
 use Rattle.sets.specs.Inner.Analyses.{Which, Varied, Useful, Required, Lends, known_at, marked_at, passed_over}
 use Rattle.sets.specs.VariableSets.{VariableSet, empty}
 use Rattle.sets.specs.Equations.{right_side}
 use Rattle.sets.specs.Rounds.{set_at, least}
-use Rattle.sets.specs.Inner.Operations.{mask_bits, InMask, Performs, PerformsRow, Gives}
+use Rattle.sets.specs.Inner.Operations.{Performs, PerformsRow, Gives}
 use Rattle.sets.specs.Inner.RowBytes.{byte_at}
 use Rattle.sets.specs.Transfers.{Activity}
-use Rattle.sets.specs.Inner.RowEquations.{Given, known_by, line_in, equation_in, turn_of, row_in_turn, own_point, settled_point, start_of, all_equations, seed_in, row_in, RowReadable, RowThere, Formed, KindRead}
+use Rattle.sets.specs.Inner.RowEquations.{Given, known_by, line_in, equation_in, turn_of, row_in_turn, own_point, settled_point, start_of, all_equations, seed_in, row_in, AllReadable, RowReadable, Formed, KindRead}
 use Rattle.sets.specs.Inner.Walks.{place_in_turn, ends_repeat, asks_partner, part_in, Due, onward, backward, Grown, PassedRow, AtBlock, own_side, Settles}
 use Rattle.sets.proofs.Truths.{never}
 use Rattle.sets.proofs.OperationLaws.{AssignedBy, assigned_by}
@@ -44,9 +44,6 @@ module _ {which : Which} {given : Given} {others : List ℕ} {n v : ℕ} {sets :
   pub points : length sets ≡ suc n
   points = clear_length (suc n) sets s.clear
 
-  pub begin_there : (v ≤ mask_bits) × (v < length given.words) × (n < length sets)
-  begin_there = (s.variables_small, s.roles_there, omega (arith, points))
-
   pub begun : {reached : WalkedTo} {next : List VariableSet}
       → (reached.turn ≡ 0) × Grown sets (start_of which n) (seed_in which given.words v) next reached.own
       → Carried which given others n v next reached
@@ -57,9 +54,6 @@ module _ {which : Which} {given : Given} {others : List ℕ} {n v : ℕ} {sets :
             (walk_starts which given others n v _ s.proper s.wired sets next s.clear begins.1.stored);
         in_hand = begins.1.stands ∙ ap (set_at next) (start_place which n ∙ ap (place_in_turn which n) (sym begins.0));
       }
-
-  pub row_there : {i row : ℕ} → i < n → row ≡ row_in_turn which n i → RowReadable given.words given.first row
-  row_there {i} h is = s.readable _ (rw is (turn_below which n i h))
 
   pub ended : {left : List VariableSet} {reached : WalkedTo} → Carried which given others n v left reached → n ≤ reached.turn
       → left ≡ least v (suc n) (all_equations which given n (seed_in which given.words v))
@@ -80,6 +74,7 @@ ends_none which part.Repeat h e = never h
 ends_none which part.EndRepeat h e = never h
 
 pub record AtRow (which : Which) (given : Given) (others : List ℕ) (n v : ℕ) (sets₀ sets : List VariableSet) (reached : WalkedTo) (row : ℕ) (form : Form) : Type 0 where
+  pub readable : AllReadable given.words given.first n
   pub settles : Settles which given others n v sets₀
   pub carried : Carried which given others n v sets reached
   pub below : reached.turn < n
@@ -87,10 +82,10 @@ pub record AtRow (which : Which) (given : Given) (others : List ℕ) (n v : ℕ)
   pub formed : Formed given.words given.first row form
 
 pub at_row : {which : Which} {given : Given} {others : List ℕ} {n v : ℕ} {sets₀ sets : List VariableSet} {reached : WalkedTo} {row kind : ℕ} {forms : List Form}
-    → Settles which given others n v sets₀ → Carried which given others n v sets reached → reached.turn < n → row ≡ row_in_turn which n reached.turn
+    → AllReadable given.words given.first n → Settles which given others n v sets₀ → Carried which given others n v sets reached → reached.turn < n → row ≡ row_in_turn which n reached.turn
     → forms ≡ all_forms → KindRead given.words given.first row kind → AtRow which given others n v sets₀ sets reached row (form_in forms kind)
-at_row settles carried below in_turn table read =
-    record { settles = settles; carried = carried; below = below; in_turn = in_turn; formed = form_read table read }
+at_row readable settles carried below in_turn table read =
+    record { readable = readable; settles = settles; carried = carried; below = below; in_turn = in_turn; formed = form_read table read }
 
 -- the row was passed by the right side of its equation
 pub record Passes (which : Which) (given : Given) (others : List ℕ) (n row : ℕ) (part : Part) (before after : List VariableSet) (reached : WalkedTo) : Type 0 where
@@ -107,7 +102,7 @@ module _ {which : Which} {given : Given} {others : List ℕ} {n v : ℕ} {sets�
   row_below = rw at.in_turn (turn_below which n reached.turn at.below)
 
   readable : RowReadable given.words given.first row
-  readable = at.settles.readable row row_below
+  readable = at.readable row row_below
 
   pub line_part : form.3 ≡ part_of line
   line_part = part_read readable at.formed
@@ -124,13 +119,12 @@ module _ {which : Which} {given : Given} {others : List ℕ} {n v : ℕ} {sets�
 
   -- ---- an assignment
 
-  pub operation_there : assigns form.3 ≡ true
-      → RowThere given.words given.first row × Formed given.words given.first row form × InMask (row_in given row)
-  operation_there h = (readable.there, at.formed, readable.small (ap assigns (sym part_is) ∙ h))
+  pub operation_there : assigns form.3 ≡ true → (row < n) × Formed given.words given.first row form × (assigns form.3 ≡ true)
+  operation_there h = (row_below, at.formed, h)
 
-  pub assignment_there : {FitsMask Lent : Type 0} → FitsMask → Lent → FitsMask × (row < word_values) × (suc row < length sets) × (reached.turn < word_values) × Lent
-  assignment_there small lent =
-      (small, readable.numbered, omega (arith, row_below, at.carried.walk.kept.long), (at.settles.readable reached.turn at.below).numbered, lent)
+  pub assignment_there : {Lent : Type 0} → Lent → (row < word_values) × (suc row < length sets) × (reached.turn < word_values) × Lent
+  assignment_there lent =
+      (readable.numbered, omega (arith, row_below, at.carried.walk.kept.long), (at.readable reached.turn at.below).numbered, lent)
 
   pub assigned : {operation : MaskedAssignment} → assigns form.3 ≡ true → PerformsRow operation (row_in given row) → AssignedBy operation line
   assigned h performs = assigned_by performs line readable.says.back (ap assigns (sym line_part) ∙ h)

@@ -1,10 +1,10 @@
 // The three analyses, each of which finds a set at every point: what differs between them. One walk, compiled for each, does the rest (`walk`).
 ghost use Rattle.std.specs.Prelude.{◌≡◌, ℕ, List, [], length};
-ghost use Rattle.sets.specs.Inner.Operations.{TargetSmall, Gives};
+ghost use Rattle.sets.specs.Inner.Operations.{Gives};
 ghost use Rattle.sets.specs.Inner.RowEquations.{turn_of, has_role};
 ghost use Rattle.sets.specs.Inner.Analyses.{Which, Varied, Useful, Required, goes_back, LendsAt, known_at, marked_at, passed_over};
 
-use super::transfers::MaskedAssignment;
+use super::operations::MaskedAssignment;
 use super::{marks, transfers};
 use sheet::RowNumber;
 
@@ -26,7 +26,7 @@ pub trait Analysis: Copy {
 
     // What an assignment makes of the set at its own point.
     fn assign(self, row: RowNumber, operation: MaskedAssignment, own: u64, marks: &mut [u8]) -> u64
-        requires { TargetSmall operation × LendsAt which (varied self) (useful self) (length marks.old) row.0 }
+        requires { LendsAt which (varied self) (useful self) (length marks.old) row.0 }
         ensures set { Gives operation result (λ b. turn_of which (known_at which (varied self) (useful self) row.0 b) b own) }
         ensures marks { Gives operation marks.new (λ b. marked_at which (varied self) (useful self) row.0 own b marks.old) };
 

@@ -1,27 +1,30 @@
 // The sets: any words in; `mark` reads them, finds an accepted sheet's three least sets at every point, marks every row and hands up two of the sets.
-// In reading order: masks, rows, transfers, partners, marks, analyses, equations, walk.
+// In reading order: masks, rows, operations, transfers, partners, marks, analyses, equations, walk.
 #![tactic(auto)]
 
-ghost use Rattle.std.specs.Prelude.{◌≡◌, ◌<◌, length};
+ghost use Rattle.std.specs.Prelude.{◌≡◌, ◌≤◌, ◌<◌, length};
 ghost use Rattle.sheet.specs.Judging.{given};
 ghost use Rattle.sheet.specs.Sheets.{Sheet};
 ghost use Rattle.sheet.specs.Reading.{read};
 ghost use Rattle.sets.specs.Calls.{lent, SheetMarks, MarksSaid, ends_at, ends_of, marking_said, marking_read};
 ghost use Rattle.sets.specs.Rounds.{set_at};
-ghost use Rattle.sets.specs.Inner.RowEquations.{line_in};
+ghost use Rattle.sets.specs.Inner.RowEquations.{AllReadable, line_in};
 ghost use Rattle.sets.specs.Inner.Laid.{Laid, ClearRoom, AllMarked, EndsFound};
+ghost use Rattle.sets.specs.Inner.Masks.{mask_bits};
 ghost use Rattle.sets.specs.Inner.PartnerPass.{PartnersFound};
 
 mod analyses;
 mod equations;
 mod marks;
 mod masks;
+mod operations;
 mod partners;
 mod rows;
 mod transfers;
 mod walk;
 
 use analyses::{Required, Useful, Varied};
+use partners::Partners;
 
 // The bits of a row's mark: whether a is varied before it, whether b is, whether the row is active, whether it is recorded.
 pub const VARIED_A: u8 = 1;
@@ -32,12 +35,17 @@ pub const ACTIVE: u8 = 4;
 
 pub const SAVED: u8 = 8;
 
-// Where a sheet's rows start among its words, how many there are, and over how many variables.
+// An accepted sheet's words: where its rows start among them, how many there are, and over how many variables. Each row can be read, and a mask has a bit
+// for each variable.
 #[derive(Clone, Copy)]
-struct Extent {
+struct LaidSheet<'a> {
+    pub words: &'a [u16],
     pub first: usize,
     pub rows: usize,
     pub variables: usize,
+    ghost readable: { AllReadable words.now first rows },
+    ghost small: { variables ≤ mask_bits },
+    ghost roles: { variables < length words.now },
 }
 
 // The variables useful before the first row, and those varied after the last.
@@ -61,10 +69,7 @@ fn ends_of(varied: &[u64], useful: &[u64], rows: usize) -> Ends
 
 // Marks every row of an accepted sheet. The three lists of sets come empty, as fresh arrays are.
 fn settle_and_mark(
-    words: &[u16],
-    variables: usize,
-    first: usize,
-    rows: usize,
+    laid: LaidSheet,
     came: &mut [u16],
     goes: &mut [u16],
     varied: &mut [u64],
@@ -72,25 +77,28 @@ fn settle_and_mark(
     required: &mut [u64],
     marks: &mut [u8],
 ) -> Ends
-    requires { Laid words.now variables first rows
-        × ClearRoom rows (length came.old) (length goes.old) varied.old useful.old required.old (length marks.old) }
-    ensures { AllMarked words.now rows
+    requires { Laid laid.words.now laid.variables laid.first laid.rows
+        × ClearRoom laid.rows (length came.old) (length goes.old) varied.old useful.old required.old (length marks.old) }
+    ensures { AllMarked laid.entry.words.now laid.entry.rows
         varied.new useful.new required.new marks.old marks.new
-        × PartnersFound (line_in words.now first) rows
+        × PartnersFound (line_in laid.entry.words.now laid.entry.first) laid.entry.rows
         came.old goes.old came.new goes.new
-        × EndsFound words.now result }
+        × EndsFound laid.entry.words.now result }
 {
-    let extent = Extent {
-        first,
-        rows,
-        variables,
+    partners::find_partners(laid, came, goes);
+    let onward = Partners {
+        taken: came,
+        back: goes,
     };
-    partners::find_partners(words, extent, came, goes);
-    walk::settle(Varied, words, extent, came, goes, varied, marks);
-    walk::settle(Useful, words, extent, goes, came, useful, marks);
+    let backward = Partners {
+        taken: goes,
+        back: came,
+    };
+    walk::settle(Varied, laid, onward, varied, marks);
+    walk::settle(Useful, laid, backward, useful, marks);
     let by_both = Required { varied, useful };
-    walk::settle(by_both, words, extent, came, goes, required, marks);
-    ends_of(varied, useful, rows)
+    walk::settle(by_both, laid, onward, required, marks);
+    ends_of(varied, useful, laid.rows)
 }
 
 // Every row's marks and every block row's partners of an accepted sheet. Of the sets themselves the answer's two are kept.
@@ -110,11 +118,14 @@ fn mark_accepted(
     let mut useful = [0u64; sheet::MAX_ROWS + 1];
     let mut required = [0u64; sheet::MAX_ROWS + 1];
     let points = shape.rows + 1;
-    settle_and_mark(
+    let laid = LaidSheet {
         words,
-        shape.variables,
-        shape.first_row,
-        shape.rows,
+        first: shape.first_row,
+        rows: shape.rows,
+        variables: shape.variables,
+    };
+    settle_and_mark(
+        laid,
         came,
         goes,
         &mut varied[..points],

@@ -1,7 +1,7 @@
 // Sets of variables as masks: variable i is bit i.
 ghost use Rattle.std.specs.Prelude.{◌≡◌, ◌<◌, cond};
 ghost use Rattle.sets.specs.VariableSets.{empty, has, single, without};
-ghost use Rattle.sets.specs.Inner.Operations.{mask_bits, meets};
+ghost use Rattle.sets.specs.Inner.Masks.{mask_bits, meets};
 
 use sheet::Variable;
 

@@ -3,13 +3,20 @@
 // it takes.
 ghost use Rattle.std.specs.Prelude.{◌≡◌, suc, ◌+◌, ◌<◌, get_or, set, length};
 ghost use Rattle.sheet.specs.Inner.Words.{word_values};
-ghost use Rattle.sets.specs.Inner.RowEquations.{RowReadable, AllReadable, line_in};
+ghost use Rattle.sets.specs.Inner.RowEquations.{line_in};
 ghost use Rattle.sheet.specs.Inner.Kinds.{opens_test};
 ghost use Rattle.sets.specs.Inner.PartnerPass.{found, paired, way_out, ended, found_by, Findable, Listed, PartnersFound};
 
-use super::{Extent, rows};
+use super::{LaidSheet, rows};
 use sheet::kinds::Part;
 use sheet::{RowNumber, kinds};
+
+// Both lists as a walk takes them: what each row's equation takes a set from besides its own point, and for a loop's far end its near end.
+#[derive(Clone, Copy)]
+pub struct Partners<'a> {
+    pub taken: &'a [u16],
+    pub back: &'a [u16],
+}
 
 // The partner that is noted for a row, which must have a place in the list.
 pub fn partner_there(partners: &[u16], row: RowNumber) -> RowNumber
@@ -81,17 +88,16 @@ fn end_loop(
 
 // One row: `top` is the innermost open block's last row so far, and the answer is the same after this row.
 fn partner_step(
-    words: &[u16],
-    first: usize,
+    laid: LaidSheet,
     part: Part,
     row: RowNumber,
     top: RowNumber,
     came: &mut [u16],
     goes: &mut [u16],
 ) -> RowNumber
-    requires { Listed came.old goes.old row.0 × Listed came.old goes.old top.0 × (top.0 + 1 < word_values) × RowReadable words.now first top.0 }
+    requires { Listed came.old goes.old row.0 × Listed came.old goes.old top.0 × (top.0 + 1 < word_values) × (top.0 < laid.rows) }
     ensures { found result.0 came.new goes.new
-        ≡ found_by part (opens_test (line_in words.now first top.0)) row.0 (found top.0 came.old goes.old) }
+        ≡ found_by part (opens_test (line_in laid.entry.words.now laid.entry.first top.0)) row.0 (found top.0 came.old goes.old) }
 {
     match part {
         Part::Assignment => top,
@@ -109,26 +115,22 @@ fn partner_step(
             put(goes, row, top);
             row
         }
-        Part::EndRepeat => end_loop(rows::opens_test(words, first, top), row, top, came, goes),
+        Part::EndRepeat => end_loop(rows::opens_test(laid, top), row, top, came, goes),
     }
 }
 
-pub fn find_partners(words: &[u16], extent: Extent, came: &mut [u16], goes: &mut [u16])
-    requires { AllReadable words.now extent.first extent.rows
-        × Findable (line_in words.now extent.first) extent.rows came.old goes.old }
-    ensures { PartnersFound (line_in words.now extent.first) extent.rows
+pub fn find_partners(laid: LaidSheet, came: &mut [u16], goes: &mut [u16])
+    requires { Findable (line_in laid.words.now laid.first) laid.rows came.old goes.old }
+    ensures { PartnersFound (line_in laid.entry.words.now laid.entry.first) laid.entry.rows
         came.old goes.old came.new goes.new }
 {
     let forms = kinds::forms();
-    let rows = extent.rows;
     let mut top = RowNumber(0);
-    let mut number: usize = 0;
-    while number < rows {
+    for number in 0..laid.rows {
         let row = RowNumber(number);
-        let kind = rows::kind_of(words, extent.first, row);
+        let kind = rows::kind_of(laid, row);
         let form = forms[kind];
         let part = form.3;
-        top = partner_step(words, extent.first, part, row, top, came, goes);
-        number += 1;
+        top = partner_step(laid, part, row, top, came, goes);
     }
 }

@@ -1,25 +1,26 @@
 // A row's kind, by which a pass looks the row up in the table of kinds. A pass reads each word where it needs it: four words that are answered as one
 // struct are packed into one number and taken apart again.
-ghost use Rattle.std.specs.Prelude.{◌≡◌};
+ghost use Rattle.std.specs.Prelude.{◌≡◌, ◌<◌};
 ghost use Rattle.sheet.specs.Inner.Kinds.{opens_test};
-ghost use Rattle.sets.specs.Inner.RowEquations.{RowReadable, KindRead, line_in};
+ghost use Rattle.sets.specs.Inner.RowEquations.{KindRead, line_in};
 
+use super::LaidSheet;
 use sheet::{RowNumber, kinds};
 
-// A sheet's rows are all of kinds that the table has.
-pub fn kind_of(words: &[u16], first: usize, row: RowNumber) -> usize
-    requires { RowReadable words.now first row.0 }
-    ensures { KindRead words.now first row.0 result }
+// One that the table has.
+pub fn kind_of(laid: LaidSheet, row: RowNumber) -> usize
+    requires { row.0 < laid.rows }
+    ensures { KindRead laid.entry.words.now laid.entry.first row.0 result }
 {
     let number = row.0;
-    let from = first + number * sheet::ROW_WORDS;
-    words[from] as usize
+    let from = laid.first + number * sheet::ROW_WORDS;
+    laid.words[from] as usize
 }
 
 // Whether a row opens a loop with a test.
-pub fn opens_test(words: &[u16], first: usize, row: RowNumber) -> bool
-    requires { RowReadable words.now first row.0 }
-    ensures { result ≡ opens_test (line_in words.now first row.0) }
+pub fn opens_test(laid: LaidSheet, row: RowNumber) -> bool
+    requires { row.0 < laid.rows }
+    ensures { result ≡ opens_test (line_in laid.entry.words.now laid.entry.first row.0) }
 {
-    kind_of(words, first, row) == sheet::wide(kinds::WHILE)
+    kind_of(laid, row) == sheet::wide(kinds::WHILE)
 }

@@ -1,22 +1,16 @@
 // An assignment as the code has it: what it reads, and what it does to each of the three sets.
-ghost use Rattle.std.specs.Prelude.{◌≡◌, ◌<◌};
+ghost use Rattle.std.specs.Prelude.{◌≡◌, ◌<◌, true};
 ghost use Rattle.sheet.specs.Inner.RowLines.{source_of, numbered_row};
+ghost use Rattle.sheet.specs.Inner.Kinds.{assigns};
 ghost use Rattle.sets.specs.Transfers.{any_read, reads, varied_after, useful_before, activity_of, adjoint_use, required_after, recorded_by};
-ghost use Rattle.sets.specs.Inner.Operations.{mask_bits, InMask, named_by, PerformsRow, TargetSmall, Gives, activity_by};
-ghost use Rattle.sets.specs.Inner.RowEquations.{RowThere, Formed};
+ghost use Rattle.sets.specs.Inner.Masks.{mask_bits, named_by};
+ghost use Rattle.sets.specs.Inner.Operations.{PerformsRow, Gives, activity_by};
+ghost use Rattle.sets.specs.Inner.RowEquations.{Formed};
 
-use super::masks;
+use super::operations::MaskedAssignment;
+use super::{LaidSheet, masks};
 use sheet::kinds::{Form, Slot};
 use sheet::{RowNumber, Variable, kinds};
-
-// An assignment's kind, its target, and the variables that its words a and b name, as sets: the empty one for a word that names none.
-#[derive(Clone, Copy)]
-pub struct MaskedAssignment {
-    pub kind: u16,
-    pub target: Variable,
-    pub first: u64,
-    pub second: u64,
-}
 
 // What is known of an assignment: whether a is varied before it, whether b is, and whether it is active.
 #[derive(Clone, Copy)]
@@ -38,12 +32,13 @@ fn named(slot: Slot, word: u16) -> u64
 }
 
 // An assignment's operation, `form` being that of its kind.
-pub fn operation_at(words: &[u16], first: usize, row: RowNumber, form: Form) -> MaskedAssignment
-    requires { RowThere words.now first row.0 × Formed words.now first row.0 form × InMask (numbered_row words.now first row.0) }
-    ensures { PerformsRow result (numbered_row words.now first row.0) × TargetSmall result }
+pub fn operation_at(laid: LaidSheet, row: RowNumber, form: Form) -> MaskedAssignment
+    requires { (row.0 < laid.rows) × Formed laid.words.now laid.first row.0 form × (assigns form.3 ≡ true) }
+    ensures { PerformsRow result (numbered_row laid.entry.words.now laid.entry.first row.0) }
 {
     let number = row.0;
-    let from = first + number * sheet::ROW_WORDS;
+    let words = laid.words;
+    let from = laid.first + number * sheet::ROW_WORDS;
     let of_a = form.1;
     let of_b = form.2;
     let kind = words[from];
@@ -74,7 +69,6 @@ fn reads(row: MaskedAssignment) -> u64
 }
 
 pub fn varied_after(row: MaskedAssignment, before: u64) -> u64
-    requires { TargetSmall row }
     ensures { Gives row result (λ b. varied_after b before) }
 {
     if any_read(row, before) {
@@ -85,7 +79,6 @@ pub fn varied_after(row: MaskedAssignment, before: u64) -> u64
 }
 
 pub fn useful_before(row: MaskedAssignment, after: u64) -> u64
-    requires { TargetSmall row }
     ensures { Gives row result (λ b. useful_before b after) }
 {
     let before = masks::without(row.target, after) | reads(row);
@@ -97,7 +90,6 @@ pub fn useful_before(row: MaskedAssignment, after: u64) -> u64
 }
 
 pub fn activity(row: MaskedAssignment, varied: u64, useful: u64) -> KnownActivity
-    requires { TargetSmall row }
     ensures { Gives row (activity_by result) (λ b. activity_of b varied useful) }
 {
     let varied_a = masks::meets(varied, row.first);
@@ -126,14 +118,12 @@ fn adjoint_use(row: MaskedAssignment, known: KnownActivity) -> u64
 }
 
 pub fn required_after(row: MaskedAssignment, known: KnownActivity, before: u64) -> u64
-    requires { TargetSmall row }
     ensures { Gives row result (λ b. required_after b (activity_by known) before) }
 {
     masks::without(row.target, before | adjoint_use(row, known))
 }
 
 pub fn recorded(row: MaskedAssignment, known: KnownActivity, required: u64) -> bool
-    requires { TargetSmall row }
     ensures { Gives row result (λ b. recorded_by b (activity_by known) required) }
 {
     masks::has(required, row.target) | masks::has(adjoint_use(row, known), row.target)

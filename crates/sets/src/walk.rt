@@ -3,15 +3,16 @@ ghost use Rattle.std.specs.Prelude.{◌≡◌, suc, ◌+◌, ◌≤◌, ◌<◌,
 ghost use Rattle.sheet.specs.Inner.Words.{word_values};
 ghost use Rattle.sheet.specs.Rows.{Assignment};
 ghost use Rattle.sets.specs.Rounds.{set_at, least};
-ghost use Rattle.sets.specs.Inner.Operations.{mask_bits, TargetSmall, Gives, Performs};
+ghost use Rattle.sets.specs.Inner.Operations.{Gives, Performs};
 ghost use Rattle.sets.specs.Inner.Analyses.{Lends, LendsAt, known_at, marked_at, marks_left};
 ghost use Rattle.sets.specs.Inner.RowEquations.{given_by, known_by, line_in, turn_of, row_in_turn, own_point, settled_point};
 ghost use Rattle.sets.specs.Inner.RowEquations.{start_of, all_equations, seed_in};
 ghost use Rattle.sets.specs.Inner.Walks.{ends_repeat, asks_partner, side_by, Grown, Judging, Brings, AtBlock, own_side, PassedRow, Settles};
 
 use super::analyses::Analysis;
-use super::transfers::MaskedAssignment;
-use super::{Extent, equations, partners, rows, transfers};
+use super::operations::MaskedAssignment;
+use super::partners::Partners;
+use super::{LaidSheet, equations, partners, rows, transfers};
 use sheet::kinds::Part;
 use sheet::{RowNumber, kinds};
 
@@ -67,26 +68,25 @@ fn start_of<A: Analysis>(analysis: A, rows: usize) -> usize
 }
 
 // What the start point has: the variables with the role, from the last on.
-fn seed_of<A: Analysis>(analysis: A, words: &[u16], variables: usize) -> u64
-    requires { (variables ≤ mask_bits) × (variables < length words.now) }
-    ensures { result ≡ seed_in A.which words.now variables }
+fn seed_of<A: Analysis>(analysis: A, laid: LaidSheet) -> u64
+    ensures { result ≡ seed_in A.which laid.entry.words.now laid.entry.variables }
 {
     let mut seed: u64 = 0;
-    for variable in (0..variables).rev() {
-        let there = analysis.has_role(words[variable + 1]);
+    for variable in (0..laid.variables).rev() {
+        let there = analysis.has_role(laid.words[variable + 1]);
         seed = 2 * seed + there as u64;
     }
     seed
 }
 
 // Puts into the start point's set what it has from outside the sheet's rows.
-fn begin<A: Analysis>(analysis: A, words: &[u16], extent: Extent, sets: &mut [u64]) -> WalkedTo
-    requires { (extent.variables ≤ mask_bits) × (extent.variables < length words.now) × (extent.rows < length sets.old) }
-    ensures { (result.turn ≡ 0) × Grown sets.old (start_of A.which extent.rows)
-        (seed_in A.which words.now extent.variables) sets.new result.own }
+fn begin<A: Analysis>(analysis: A, laid: LaidSheet, sets: &mut [u64]) -> WalkedTo
+    requires { laid.rows < length sets.old }
+    ensures { (result.turn ≡ 0) × Grown sets.old (start_of A.which laid.entry.rows)
+        (seed_in A.which laid.entry.words.now laid.entry.variables) sets.new result.own }
 {
-    let seed = seed_of(analysis, words, extent.variables);
-    let start = start_of(analysis, extent.rows);
+    let seed = seed_of(analysis, laid);
+    let start = start_of(analysis, laid.rows);
     let own = grow(sets, start, seed);
     WalkedTo { turn: 0, own }
 }
@@ -101,7 +101,7 @@ fn pass_assignment<A: Analysis>(
     marks: &mut [u8],
     reached: WalkedTo,
 ) -> WalkedTo
-    requires { TargetSmall operation × (row.0 < word_values) × (suc row.0 < length sets.old) × (reached.turn < word_values)
+    requires { (row.0 < word_values) × (suc row.0 < length sets.old) × (reached.turn < word_values)
         × LendsAt A.which (A.varied analysis) (A.useful analysis) (length marks.old) row.0 }
     ensures turn { result.turn ≡ reached.turn + 1 }
     ensures set { (b : Assignment) → Performs operation b → Grown sets.old (settled_point A.which row.0)
@@ -152,25 +152,24 @@ fn pass_block_row<A: Analysis>(
     part: Part,
     rows: usize,
     row: RowNumber,
-    partners: &[u16],
-    others: &[u16],
+    partners: Partners,
     sets: &mut [u64],
     reached: WalkedTo,
 ) -> WalkedTo
-    requires { AtBlock A.which part rows row.0 partners.now others.now sets.old reached }
-    ensures { PassedRow A.which part (own_side A.which part row.0 partners.now sets.old) rows row.0 others.now
+    requires { AtBlock A.which part rows row.0 partners.taken.now partners.back.now sets.old reached }
+    ensures { PassedRow A.which part (own_side A.which part row.0 partners.entry.taken.now sets.old) rows row.0 partners.entry.back.now
         sets.old sets.new result }
 {
     let own = reached.own;
-    if brings_more(analysis, part, row, others, sets, own) {
-        let near = partners::partner_there(others, row);
+    if brings_more(analysis, part, row, partners.back, sets, own) {
+        let near = partners::partner_there(partners.back, row);
         let both = equations::own_set(analysis, sets, near) | own;
         let own = grow(sets, equations::settled_point(analysis, near), both);
         let entered = row_in_turn(analysis, rows, near.0);
         let turn = entered.0 + 1;
         return WalkedTo { turn, own };
     }
-    let partner = partners::partner_there(partners, row);
+    let partner = partners::partner_there(partners.taken, row);
     let right = side_of(analysis, part, own, sets, partner);
     let own = grow(sets, equations::settled_point(analysis, row), right);
     let turn = reached.turn + 1;
@@ -180,38 +179,36 @@ fn pass_block_row<A: Analysis>(
 // An analysis's set at every point, from empty ones; and what the analysis leaves in the marks.
 pub fn settle<A: Analysis>(
     analysis: A,
-    words: &[u16],
-    extent: Extent,
-    partners: &[u16],
-    others: &[u16],
+    laid: LaidSheet,
+    partners: Partners,
     sets: &mut [u64],
     marks: &mut [u8],
 )
     requires settles { Settles A.which
-        (given_by words.now extent.first (known_by A.which words.now extent.first (A.varied analysis) (A.useful analysis)) partners.now)
-        others.now extent.rows extent.variables sets.old }
-    requires lent { Lends A.which (A.varied analysis) (A.useful analysis) (length marks.old) extent.rows }
-    ensures sets { sets.new ≡ least extent.variables (suc extent.rows)
+        (given_by laid.words.now laid.first (known_by A.which laid.words.now laid.first (A.varied analysis) (A.useful analysis)) partners.taken.now)
+        partners.back.now laid.rows laid.variables sets.old }
+    requires lent { Lends A.which (A.varied analysis) (A.useful analysis) (length marks.old) laid.rows }
+    ensures sets { sets.new ≡ least laid.entry.variables (suc laid.entry.rows)
         (all_equations A.which
-        (given_by words.now extent.first (known_by A.which words.now extent.first (A.varied analysis) (A.useful analysis)) partners.now)
-        extent.rows (seed_in A.which words.now extent.variables)) }
-    ensures marks { marks.new ≡ marks_left A.which (A.varied analysis) (A.useful analysis) sets.new (line_in words.now extent.first) extent.rows marks.old }
+        (given_by laid.entry.words.now laid.entry.first (known_by A.which laid.entry.words.now laid.entry.first (A.varied analysis) (A.useful analysis)) partners.entry.taken.now)
+        laid.entry.rows (seed_in A.which laid.entry.words.now laid.entry.variables)) }
+    ensures marks { marks.new ≡ marks_left A.which (A.varied analysis) (A.useful analysis) sets.new (line_in laid.entry.words.now laid.entry.first) laid.entry.rows marks.old }
 {
     let forms = kinds::forms();
-    let mut reached = begin(analysis, words, extent, sets);
+    let mut reached = begin(analysis, laid, sets);
     // A `while`: the walk goes back at repeats.
-    while reached.turn < extent.rows {
-        let row = row_in_turn(analysis, extent.rows, reached.turn);
-        let kind = rows::kind_of(words, extent.first, row);
+    while reached.turn < laid.rows {
+        let row = row_in_turn(analysis, laid.rows, reached.turn);
+        let kind = rows::kind_of(laid, row);
         let form = forms[kind];
         let part = form.3;
         if kinds::assigns(part) {
-            let operation = transfers::operation_at(words, extent.first, row, form);
+            let operation = transfers::operation_at(laid, row, form);
             reached = pass_assignment(analysis, row, operation, sets, marks, reached);
         } else {
             analysis.pass_over(row, marks);
-            let rows = extent.rows;
-            reached = pass_block_row(analysis, part, rows, row, partners, others, sets, reached);
+            let rows = laid.rows;
+            reached = pass_block_row(analysis, part, rows, row, partners, sets, reached);
         }
     }
 }

@@ -3,6 +3,7 @@ use native.Mathlib.Omega.{arith}
 use native.Mathlib.Numerals.{add-one}
 use mathlib.Core.Path.{sym, ◌∙◌}
 use Rattle.sets.proofs.CallLaws.{few_points, first_points, first_clear, sheet_marks}
+use Rattle.sets.proofs.SheetMarked.{facts}
 use Rattle.sets.proofs.mark_accepted.Goals as goal
 
 pub overflow_add-points : goal.overflow_add-points
@@ -25,6 +26,10 @@ slice_bounds-required-end c = omega (arith, few_points c.requires)
 
 pub slice_bounds-settle_and_mark-end-5 : goal.slice_bounds-settle_and_mark-end-5
 slice_bounds-settle_and_mark-end-5 c = add-one _ ∙ sym (first_points c.requires _ (omega arith))
+
+pub invariant_of-laid : goal.invariant_of-laid
+invariant_of-laid c =
+    let known = facts _ _ _ _ c.requires in record { readable = known.readable; small = known.variables_small; roles = known.roles_there }
 
 pub settle_and_mark-requires : goal.settle_and_mark-requires
 settle_and_mark-requires c =

@@ -10,7 +10,7 @@ find_partners-requires c =
     let laid = c.requires.0 in
     let room = c.requires.1 in
     let known = facts _ _ _ _ laid in
-    (known.readable, findable _ _ laid.sheet.body _ _ known.lines laid.rows_are room.came_room room.goes_room (omega (arith, known.few_rows)))
+    findable _ _ laid.sheet.body _ _ known.lines laid.rows_are room.came_room room.goes_room (omega (arith, known.few_rows))
 
 pub settle-requires-clause-settles : goal.settle-requires-clause-settles
 settle-requires-clause-settles c =

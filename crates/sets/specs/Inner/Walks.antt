@@ -11,9 +11,8 @@ use Rattle.sets.specs.VariableSets.{VariableSet, empty, ◌∪◌}
 use Rattle.sets.specs.Equations.{Equation, joins, right_side}
 use Rattle.sets.specs.Rounds.{set_at}
 use Rattle.sets.specs.Inner.ProperEquations.{Proper}
-use Rattle.sets.specs.Inner.Operations.{mask_bits}
 use Rattle.sets.specs.Inner.RowEquations.{Given, row_in, equation_in, row_in_turn, own_point, settled_point, splits, joins_by, block_side}
-use Rattle.sets.specs.Inner.RowEquations.{AllReadable, all_equations, seed_in}
+use Rattle.sets.specs.Inner.RowEquations.{all_equations, seed_in}
 
 -- the point where the i-th row in turn takes its own set
 unfoldable pub place_in_turn : Which → (rows turn : ℕ) → ℕ
@@ -131,9 +130,6 @@ own_side which part row partners sets =
 
 -- what the code needs to settle the sets
 pub record Settles (which : Which) (given : Given) (others : List ℕ) (rows variables : ℕ) (sets : List VariableSet) : Type 0 where
-  pub readable : AllReadable given.words given.first rows
-  pub variables_small : variables ≤ mask_bits
-  pub roles_there : variables < List·length given.words
   -- nothing is found yet: an empty set at every point
   pub clear : sets ≡ replicate (suc rows) empty
   pub partnered : rows ≤ List·length given.partners

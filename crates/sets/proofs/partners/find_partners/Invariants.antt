@@ -1,13 +1,9 @@
 -- `sets::partners::find_partners` meets its contract: the loop's invariant: the rest of the pass from here ends where the whole pass does,
--- and asks the lists for rows alone. The measure is what is left of the rows.
-use Prim.Native.Nat.{◌-◌}
+-- and asks the lists for rows alone.
 use Rattle.sets.specs.Inner.RowEquations.{line_in}
 use Rattle.sets.proofs.PartnerPass.{Finding}
 use Rattle.sets.proofs.partners.find_partners.Given as goal
 
 abbrev pub invariant-loop-number : goal.invariant-loop-number
 invariant-loop-number l =
-    Finding (line_in l.words l.extent.first) l.extent.rows l.initial.came l.initial.goes l.came l.goes l.top.0 l.number
-
-abbrev pub decreases-loop-number : goal.decreases-loop-number
-decreases-loop-number l = l.extent.rows - l.number
+    Finding (line_in l.laid.words.now l.laid.first) l.laid.rows l.initial.came l.initial.goes l.came l.goes l.top.0 l.number

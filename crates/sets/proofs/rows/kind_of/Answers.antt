@@ -7,8 +7,8 @@ use Rattle.sets.proofs.rows.kind_of.Goals as goal
 
 pub overflow_cast-result : goal.overflow_cast-result
 unfolding row_at
-overflow_cast-result c = omega (arith, row_kind c.requires.says)
+overflow_cast-result c = omega (arith, row_kind (c.args.laid.readable _ c.requires).says)
 
 pub returns : goal.returns
 unfolding row_at
-returns c = record { is = refl; in_table = row_kind c.requires.says }
+returns c = record { is = refl; in_table = row_kind (c.args.laid.readable _ c.requires).says }

@@ -7,4 +7,4 @@ use Rattle.sets.proofs.rows.opens_test.Goals as goal
 
 pub returns : goal.returns
 returns c =
-    rw c.wide.ensures.0 (ap (λ kind. eqb kind while_kind) c.kind_of.ensures.is ∙ sym (row_tests c.requires.says))
+    rw c.wide.ensures.0 (ap (λ kind. eqb kind while_kind) c.kind_of.ensures.is ∙ sym (row_tests (c.args.laid.readable _ c.requires).says))

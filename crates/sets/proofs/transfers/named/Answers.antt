@@ -7,7 +7,7 @@ use lib.Pow.{pow-lt}
 use native.Mathlib.Nat.{mod-eq_of_lt}
 use native.Mathlib.Omega.{arith}
 use Rattle.sets.specs.VariableSets.{empty, single}
-use Rattle.sets.specs.Inner.Operations.{mask_bits}
+use Rattle.sets.specs.Inner.Masks.{mask_bits}
 use Rattle.sets.proofs.transfers.named.Goals as goal
 
 shifted : (b : Bool) (i : ℕ) → i < mask_bits → bool_byte b * 2 ^ i % 2 ^ 64 ≡ cond b (single i) empty

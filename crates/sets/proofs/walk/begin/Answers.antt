@@ -5,7 +5,7 @@ use Rattle.sets.proofs.walk.begin.Goals as goal
 
 pub grow-own-requires : goal.grow-own-requires
 grow-own-requires g c =
-    rw c.start_of-start.ensures (start_below g.A.Analysis.which _ _ c.requires.2)
+    rw c.start_of-start.ensures (start_below g.A.Analysis.which _ _ c.requires)
 
 pub returns : goal.returns
 returns g c =

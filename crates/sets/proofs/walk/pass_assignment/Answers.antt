@@ -5,7 +5,7 @@ use Rattle.sets.proofs.walk.pass_assignment.Goals as goal
 
 pub grow-own-requires : goal.grow-own-requires
 grow-own-requires g c =
-    rw c.settled_point.ensures (settled_below g.A.Analysis.which _ _ c.requires.2)
+    rw c.settled_point.ensures (settled_below g.A.Analysis.which _ _ c.requires.1)
 
 pub returns-clause-set : goal.returns-clause-set
 returns-clause-set g c b performs = rw (sym c.settled_point.ensures, sym (c.assign-right.ensures.set b performs)) c.grow-own.ensures

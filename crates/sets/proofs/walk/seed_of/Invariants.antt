@@ -5,4 +5,4 @@ use Rattle.sets.proofs.walk.seed_of.Given as goal
 
 abbrev pub invariant-loop-variable : goal.invariant-loop-variable
 invariant-loop-variable g l =
-    l.seed ≡ seed_from g.A.Analysis.which l.words l.variables l.variable
+    l.seed ≡ seed_from g.A.Analysis.which l.laid.words.now l.laid.variables l.variable

@@ -12,9 +12,9 @@ invariant-loop-reached g l =
     let varied = analysis.varied l.analysis in
     let useful = analysis.useful l.analysis in
     record {
-      carried : Carried analysis.which (given_by l.words l.extent.first (known_by analysis.which l.words l.extent.first varied useful) l.partners) l.others l.extent.rows l.extent.variables l.sets l.reached;
-      marking : MarkingSoFar analysis.which (line_in l.words l.extent.first) varied useful l.extent.rows l.fn.marks l.sets l.marks l.reached.turn;
+      carried : Carried analysis.which (given_by l.laid.words.now l.laid.first (known_by analysis.which l.laid.words.now l.laid.first varied useful) l.partners.taken.now) l.partners.back.now l.laid.rows l.laid.variables l.sets l.reached;
+      marking : MarkingSoFar analysis.which (line_in l.laid.words.now l.laid.first) varied useful l.laid.rows l.fn.marks l.sets l.marks l.reached.turn;
     }
 
 abbrev pub decreases-loop-reached : goal.decreases-loop-reached
-decreases-loop-reached g l = left_of l.extent.variables l.extent.rows l.sets l.reached.turn
+decreases-loop-reached g l = left_of l.laid.variables l.laid.rows l.sets l.reached.turn
