@@ -1,6 +1,6 @@
--- `table::needs::loop_opened` meets its contract.
+-- `table::needs::Level::loop_opened` meets its contract.
 use mathlib.Core.Path.{◌∙◌}
-use Rattle.table.proofs.needs.loop_opened.Goals as goal
+use Rattle.table.proofs.needs.Level.loop_opened.Goals as goal
 
 pub returns : goal.returns
 returns c =
