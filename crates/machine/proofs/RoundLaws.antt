@@ -1,7 +1,6 @@
 -- Row 17 as one loop: a turn of it copies one value out and sets one adjoint.
 use Prim.Native.Nat.{ℕ, ◌+◌, ◌*◌, ◌≤◌, ◌<◌}
-use Rattle.std.specs.Prelude.{Result, Ok, Err}
-use Rattle.machine.specs.Inner.RowAnswers.{is_stuck}
+use Rattle.std.specs.Prelude.{Ok}
 use mathlib.Core.Path.{◌≡◌, refl, sym, ap, ◌∙◌}
 use mathlib.Core.Bool.{cond}
 use mathlib.Core.List.{List, [], ◌++◌, append-nil}
@@ -9,7 +8,7 @@ use native.Mathlib.Nat.{zero-add}
 use native.Mathlib.Numerals.{add-one}
 use native.Mathlib.Omega.{arith}
 use lib.ListN.{length, get_or, take, drop, set, length-append, get_or-append, drop_of_length-le}
-use lib.Seq.{paste, paste-zero, paste-suc, length-paste, get_or-take, take_all, length-take-le}
+use lib.Seq.{paste, paste-suc, length-paste, get_or-take, take_all, length-take-le}
 use Rattle.number.specs.Arithmetic.{Arithmetic}
 use Rattle.sheet.specs.Rows.{is_dependent}
 use Rattle.machine.specs.Actions.{seeded, turned_round, acted}
@@ -22,10 +21,6 @@ module _ (A : Arithmetic) where
     pub record Copying (i : ℕ) (store_now copied_now : List A.Carrier) : Type 0 where
       pub store_is : store_now ≡ paste store (length roles) (seeded A roles seeds) i
       pub copied_is : copied_now ≡ paste copied 0 store i
-
-    copying_starts : Copying 0 store copied
-    copying_starts =
-        record { store_is = paste-zero store (length roles) (seeded A roles seeds); copied_is = paste-zero copied 0 store }
 
     module _ (sizes : RoundSizes A roles seeds store copied) where
       copying_store_length : {i : ℕ} {s c : List A.Carrier} → i ≤ length roles → Copying i s c → length s ≡ length store
@@ -110,14 +105,6 @@ module _ (A : Arithmetic) where
 -- ---- the code's loop
 
 module _ {A : Arithmetic} {roles : List ℕ} {seeds store copied : List A.Carrier} where
-  -- no turn at all
-  pub round_refused : (RoundSizes A roles seeds store copied → ⊥) → TurnsRound A roles seeds store copied store copied (Err is_stuck)
-  round_refused not = record { round = λ sizes. absurd (not sizes); refused = λ _. (refl, refl, refl) }
-
-  pub turning_starts : RoundSizes A roles seeds store copied → Turning A roles seeds store copied 0 store copied
-  turning_starts sizes =
-      record { within = omega arith; sizes = sizes; store_length = refl; copied_length = refl; copying = copying_starts A roles seeds store copied }
-
   module _ {i : ℕ} {s c : List A.Carrier} (now : Turning A roles seeds store copied i s c) where
     pub turning_goes_on : {x seed original : A.Carrier} → i < length roles → original ≡ get_or s i original → seed ≡ get_or seeds i seed
         → x ≡ cond (is_dependent (get_or roles i 0)) seed A.zero

@@ -165,15 +165,6 @@ module _ {A : Arithmetic} where
         unfolding acted
         take_back_empty is = record { does = λ setting turns turn_height copied sound. sticks setting (take_back d) _ sound (rw is) }
 
-        -- a sound stack is never higher than its cells
-        pub take_back_above : length values < height → MovesValues A (take_back d) store values height store values (Err is_stuck)
-        take_back_above h =
-            record {
-              does = λ setting turns turn_height copied sound.
-                  let within = sound.values.within in
-                  absurd (omega arith);
-            }
-
   -- ---- a word onto the turn stack, whatever it stands for
 
   module _ {turns : List ℕ} {height : ℕ} (setting : Setting A) (word : ℕ) {store values : List A.Carrier} {value_height : ℕ} {copied : List A.Carrier}

@@ -1,5 +1,5 @@
-// The row machine on numbers of either arithmetic: a run of a table's rows, and in its modules the rows of each kind, a straight row's step, and the row that is
-// expected after it.
+// The row machine on numbers of either arithmetic: a run of a table's rows. Its modules hold the rows of each kind, a straight row's step, and the row
+// that is expected after it.
 #![tactic(auto)]
 
 ghost use Rattle.std.specs.Prelude.{◌≤◌, length};
@@ -45,7 +45,9 @@ fn block_row<N: Number>(
         Met::Other(row, next) => cross(row, beyond, place.at, next, turns, bodies, to_come),
         Met::Ask(row, next) => {
             let branch = test(store, Variable(row.a as usize), Variable(row.b as usize));
-            ask_row(branch, row, keeps, beyond, place.at, next, turns, bodies, to_come)
+            ask_row(
+                branch, row, keeps, beyond, place.at, next, turns, bodies, to_come,
+            )
         }
     }
 }

@@ -9,7 +9,10 @@ ghost use Rattle.machine.specs.Inner.RowsHanded.{Indexed};
 ghost use Rattle.machine.specs.Inner.RowWords.{action_of, Named};
 ghost use Rattle.machine.specs.Inner.RowSteps.{ActsBy, StraightRow};
 
-use super::rows::{added, assign, clear, copy_of, divided, fixed, multiplied, negated, save, subtracted, take_back, turn_round};
+use super::rows::{
+    added, assign, clear, copy_of, divided, fixed, multiplied, negated, save, subtracted,
+    take_back, turn_round,
+};
 use machine::places::{did_to, following, turns_to, values_to, went_to};
 use machine::turns::{is_first, save_turn};
 use machine::{Acted, Ahead, Place};
@@ -37,32 +40,16 @@ fn act<N: Number>(
     let a = Variable(row.a as usize);
     let b = Variable(row.b as usize);
     match row.kind {
-        kinds::COPY => did_to(
-            assign(store, d, copy_of(store, a)),
-            next,
-            Ahead::Clear,
-        ),
-        kinds::CONSTANT => did_to(assign(store, d, Ok(fixed(constants, a.0))), next, Ahead::Any),
-        kinds::SUM => did_to(
-            assign(store, d, added(store, a, b)),
+        kinds::COPY => did_to(assign(store, d, copy_of(store, a)), next, Ahead::Clear),
+        kinds::CONSTANT => did_to(
+            assign(store, d, Ok(fixed(constants, a.0))),
             next,
             Ahead::Any,
         ),
-        kinds::DIFFERENCE => did_to(
-            assign(store, d, subtracted(store, a, b)),
-            next,
-            Ahead::Any,
-        ),
-        kinds::PRODUCT => did_to(
-            assign(store, d, multiplied(store, a, b)),
-            next,
-            Ahead::Sum,
-        ),
-        kinds::NEGATION => did_to(
-            assign(store, d, negated(store, a)),
-            next,
-            Ahead::Any,
-        ),
+        kinds::SUM => did_to(assign(store, d, added(store, a, b)), next, Ahead::Any),
+        kinds::DIFFERENCE => did_to(assign(store, d, subtracted(store, a, b)), next, Ahead::Any),
+        kinds::PRODUCT => did_to(assign(store, d, multiplied(store, a, b)), next, Ahead::Sum),
+        kinds::NEGATION => did_to(assign(store, d, negated(store, a)), next, Ahead::Any),
         table::kinds::SAVE => values_to(save(store, d, values, next.values), next, Ahead::Any),
         table::kinds::TAKE_BACK => values_to(
             take_back(store, d, values, next.values),

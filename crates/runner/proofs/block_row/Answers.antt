@@ -1,18 +1,7 @@
 -- `runner::block_row` meets its contract.
 use Rattle.machine.proofs.RowLaws.{of_known}
-use Rattle.machine.proofs.CrossLaws.{first_there, second_there, block_leaves, block_crosses, block_asks}
+use Rattle.machine.proofs.CrossLaws.{block_leaves, block_crosses, block_asks}
 use Rattle.runner.proofs.block_row.Goals as goal
-
-pub block_at-requires : goal.block_at-requires
-block_at-requires g c =
-    c.requires.indexed.within
-
-pub test-branch-requires : goal.test-branch-requires
-test-branch-requires g c =
-    record {
-      a_in = first_there c.args.place c.block_at.ensures c.in-Ask.is c.requires;
-      b_in = second_there c.args.place c.block_at.ensures c.in-Ask.is c.requires;
-    }
 
 pub returns-in-Out : goal.returns-in-Out
 returns-in-Out g c =

@@ -1,7 +1,6 @@
 -- `runner::run_rows` meets its contract.
 use mathlib.Core.Path.{refl, ◌∙◌}
 use native.Mathlib.Omega.{arith}
-use borrow.Author.Rules.{rules}
 use Rattle.machine.proofs.PeekLaws.{peeks_fewer}
 use Rattle.machine.proofs.RunLaws.{still_indexes, first_indexed, run_starts, straight_fewer, inner_goes, inner_peeks_on, straight_stops, straight_sticks, block_goes, block_ends}
 use Rattle.runner.proofs.run_rows.Goals as goal

@@ -1,5 +1,5 @@
 -- `runner::run_rows` meets its contract: at every place on the way the run stands in the machine's state after its steps so far.
-use Rattle.number.specs.Arithmetic.{Arithmetic, arithmetic_on}
+use Rattle.number.specs.Arithmetic.{arithmetic_on}
 use Rattle.machine.specs.Inner.Buffers.{cells_of}
 use Rattle.machine.proofs.RunLaws.{Invariant, Inner}
 use Rattle.runner.proofs.run_rows.Given as goal

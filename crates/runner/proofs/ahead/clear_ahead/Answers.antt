@@ -2,7 +2,7 @@
 use Prim.Native.Nat.{◌<◌}
 use borrow.Author.Rules.{rules}
 use lib.ListN.{length}
-use Rattle.machine.proofs.PeekLaws.{peeks_nothing, clear_there, peeks_clear}
+use Rattle.machine.proofs.PeekLaws.{clear_there, peeks_clear}
 use Rattle.runner.proofs.ahead.clear_ahead.Goals as goal
 
 pub offset_bounds-store-row : goal.offset_bounds-store-row
@@ -17,6 +17,3 @@ bounds-store-row g c =
 pub returns : goal.returns
 returns g c =
     peeks_clear c.in-Some.is c.requires.indexed c.kind_at.ensures c.zero.ensures
-
-pub returns-in_default : goal.returns-in_default
-returns-in_default g c = peeks_nothing

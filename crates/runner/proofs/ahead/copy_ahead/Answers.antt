@@ -2,11 +2,8 @@
 use Prim.Native.Nat.{◌<◌}
 use borrow.Author.Rules.{rules}
 use lib.ListN.{length}
-use Rattle.machine.proofs.PeekLaws.{peeks_nothing, copy_there, peeks_copy}
+use Rattle.machine.proofs.PeekLaws.{copy_there, peeks_copy}
 use Rattle.runner.proofs.ahead.copy_ahead.Goals as goal
-
-pub returns-in_default : goal.returns-in_default
-returns-in_default g c = peeks_nothing
 
 pub copy_of-requires : goal.copy_of-requires
 copy_of-requires g c =
@@ -25,6 +22,3 @@ pub returns : goal.returns
 returns g c =
     peeks_copy g.N.Number.why c.in-Some.is c.requires.indexed c.kind_at.ensures
     c.copy_of.ensures c.in-Ok.is
-
-pub returns-in_default-copy_of : goal.returns-in_default-copy_of
-returns-in_default-copy_of g c = peeks_nothing

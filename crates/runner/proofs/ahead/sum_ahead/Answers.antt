@@ -2,11 +2,8 @@
 use Prim.Native.Nat.{◌<◌}
 use borrow.Author.Rules.{rules}
 use lib.ListN.{length}
-use Rattle.machine.proofs.PeekLaws.{peeks_nothing, sum_there, peeks_sum}
+use Rattle.machine.proofs.PeekLaws.{sum_there, peeks_sum}
 use Rattle.runner.proofs.ahead.sum_ahead.Goals as goal
-
-pub returns-in_default : goal.returns-in_default
-returns-in_default g c = peeks_nothing
 
 pub added-requires : goal.added-requires
 added-requires g c = let whole = (sum_there _ c.in-Some.is c.requires.indexed c.kind_at.ensures).1 in record { a_in = whole.0; b_in = whole.1 }
@@ -24,6 +21,3 @@ pub returns : goal.returns
 returns g c =
     peeks_sum g.N.Number.why c.in-Some.is c.requires.indexed c.kind_at.ensures
     c.added.ensures c.in-Ok.is
-
-pub returns-in_default-added : goal.returns-in_default-added
-returns-in_default-added g c = peeks_nothing

@@ -1,5 +1,6 @@
 -- `runner::straight::act` meets its contract: one law for each kind of row.
 use mathlib.Core.Path.{refl}
+use borrow.Author.Rules.{rules}
 use Rattle.machine.specs.declared.Ahead.TheVariants as ahead
 use Rattle.machine.proofs.RowLaws.{of_known}
 use Rattle.machine.proofs.LineLaws.{says_copy, says_constant, says_sum, says_difference, says_product, says_negation, says_quotient, says_none}
@@ -136,19 +137,4 @@ returns-in-None g c = undivided_sticks c.in-18.is refl ((rw c.in-None.is at c.di
 
 pub returns-in_default : goal.returns-in_default
 returns-in_default g c =
-    let other = c.in_default.in_default-own.rest in
-    none_acts
-    (says_none _
-    other.0.0.0.0.0.0.0.0.0.0.0.1
-    other.0.0.0.0.0.0.0.0.0.0.1
-    other.0.0.0.0.0.0.0.0.0.1
-    other.0.0.0.0.0.0.0.0.1
-    other.0.0.0.0.0.0.0.1
-    other.0.0.0.0.0.0.1
-    other.0.0.0.0.0.1
-    other.0.0.0.0.1
-    other.0.0.0.1
-    other.0.0.1
-    other.0.1
-    other.1)
-    refl
+    none_acts (search (says_none, rules)) refl

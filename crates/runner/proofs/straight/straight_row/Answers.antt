@@ -2,11 +2,8 @@
 use mathlib.Core.Path.{refl}
 use native.Mathlib.Omega.{arith}
 use Rattle.sheet.specs.Sheets.{row_at}
-use Rattle.machine.proofs.StraightLaws.{straight_acts, straight_over}
+use Rattle.machine.proofs.StraightLaws.{straight_acts}
 use Rattle.runner.proofs.straight.straight_row.Goals as goal
-
-pub returns-then-until-number : goal.returns-then-until-number
-returns-then-until-number g c = straight_over c.if-until-number.true
 
 pub act-requires : goal.act-requires
 unfolding row_at
