@@ -130,15 +130,12 @@ impl<'a> Analysis for Required<'a> {
         own: u64,
         marks: &mut [u8],
     ) -> u64 {
-        let number = row.0;
         let known = marks::activity_at(row, operation, self.varied, self.useful);
-        let byte = marks::row_byte(operation, known, own);
-        marks[number] = byte;
+        marks[row.0] = marks::row_byte(operation, known, own);
         transfers::required_after(operation, known, own)
     }
 
     fn pass_over(self, row: RowNumber, marks: &mut [u8]) {
-        let number = row.0;
-        marks[number] = 0;
+        marks[row.0] = 0;
     }
 }

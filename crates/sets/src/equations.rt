@@ -60,13 +60,6 @@ fn joins<A: Analysis>(analysis: A, part: Part) -> bool
     }
 }
 
-// "else" takes its partner's set alone.
-fn splits(part: Part) -> bool
-    ensures { result ≡ splits part }
-{
-    matches!(part, Part::Else)
-}
-
 // What a row of a block that is no loop's far end puts into the set that it settles, `own` being the set at its own point.
 pub fn right_side<A: Analysis>(
     analysis: A,
@@ -78,7 +71,8 @@ pub fn right_side<A: Analysis>(
     requires { (partner.0 < word_values) × ((splits part || joins_by A.which part) ≡ true → own_point A.which partner.0 < length sets.now) }
     ensures { result ≡ block_side A.which part own (set_at sets.now (own_point A.which partner.0)) }
 {
-    if splits(part) {
+    // "else" takes its partner's set alone.
+    if part == Part::Else {
         return own_set(analysis, sets, partner);
     }
     if joins(analysis, part) {

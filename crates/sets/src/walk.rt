@@ -29,10 +29,8 @@ fn grow(sets: &mut [u64], point: usize, more: u64) -> u64
     requires { point < length sets.old }
     ensures { Grown sets.old point more sets.new result }
 {
-    let old = sets[point];
-    let all = old | more;
-    sets[point] = all;
-    all
+    sets[point] |= more;
+    sets[point]
 }
 
 // Whether a row is where a walk leaves a repeat's body.
@@ -52,11 +50,12 @@ fn row_in_turn<A: Analysis>(analysis: A, rows: usize, turn: usize) -> RowNumber
     requires { turn < rows }
     ensures { result.0 ≡ row_in_turn A.which rows turn }
 {
-    RowNumber(if analysis.goes_back() {
+    let number = if analysis.goes_back() {
         rows - 1 - turn
     } else {
         turn
-    })
+    };
+    RowNumber(number)
 }
 
 // The point that has its set from outside the sheet's rows.
@@ -112,8 +111,10 @@ fn pass_assignment<A: Analysis>(
 {
     let right = analysis.assign(row, operation, reached.own, marks);
     let own = grow(sets, equations::settled_point(analysis, row), right);
-    let turn = reached.turn + 1;
-    WalkedTo { turn, own }
+    WalkedTo {
+        turn: reached.turn + 1,
+        own,
+    }
 }
 
 // Whether a row ends a repeat and brings more to the body's start.
@@ -143,8 +144,7 @@ fn side_of<A: Analysis>(analysis: A, part: Part, own: u64, sets: &[u64], partner
     ensures { result ≡ side_by A.which part own (set_at sets.now (own_point A.which partner.0)) (set_at sets.now partner.0) }
 {
     if ends_repeat(analysis, part) {
-        let point = partner.0;
-        return equations::set_at(sets, point);
+        return equations::set_at(sets, partner.0);
     }
     equations::right_side(analysis, part, own, sets, partner)
 }
@@ -171,14 +171,18 @@ fn pass_block_row<A: Analysis>(
         let both = equations::own_set(analysis, sets, near) | own;
         let own = grow(sets, equations::settled_point(analysis, near), both);
         let entered = row_in_turn(analysis, rows, near.0);
-        let turn = entered.0 + 1;
-        return WalkedTo { turn, own };
+        return WalkedTo {
+            turn: entered.0 + 1,
+            own,
+        };
     }
     let partner = partners::partner_there(taken, row);
     let right = side_of(analysis, part, own, sets, partner);
     let own = grow(sets, equations::settled_point(analysis, row), right);
-    let turn = reached.turn + 1;
-    WalkedTo { turn, own }
+    WalkedTo {
+        turn: reached.turn + 1,
+        own,
+    }
 }
 
 // An analysis's set at every point, from empty ones; and what the analysis leaves in the marks.
@@ -209,14 +213,13 @@ pub fn settle<A: Analysis>(
         let row = row_in_turn(analysis, laid.rows, reached.turn);
         let kind = rows::kind_of(laid, row);
         let form = forms[kind];
-        let part = form.3;
-        if kinds::assigns(part) {
+        if kinds::assigns(form.3) {
             let operation = transfers::operation_at(laid, row, form);
             reached = pass_assignment(analysis, row, operation, sets, marks, reached);
         } else {
             analysis.pass_over(row, marks);
             let rows = laid.rows;
-            reached = pass_block_row(analysis, part, rows, row, taken, back, sets, reached);
+            reached = pass_block_row(analysis, form.3, rows, row, taken, back, sets, reached);
         }
     }
 }

@@ -31,4 +31,4 @@ loop-variable-preserved g c =
 pub returns : goal.returns
 returns g c =
     let none : c.loop-variable.variable ≡ 0 = omega arith in
-    c.loop-variable.invariant ∙ ap (seed_from _ _ _) none ∙ seed_all _ _ _ c.args.laid.roles
+    rw none at c.loop-variable.invariant ∙ seed_all _ _ _ c.args.laid.roles
