@@ -3,22 +3,20 @@ use Prim.Native.Nat.{ℕ, suc, ◌+◌, ◌<◌}
 use native.Mathlib.Omega.{arith}
 use native.Mathlib.Numerals.{add-one}
 use mathlib.Core.Path.{◌≡◌, refl, sym}
-use mathlib.Core.Bool.{true, false, ◌||◌}
+use mathlib.Core.Bool.{false}
 use mathlib.Core.List.{List}
 use lib.Bits.{or_comm}
 use Rattle.sheet.specs.Tree.{basic, if_line, else_line, end_if, repeat, end_repeat}
 use Rattle.sheet.specs.Rows.{Assignment, SheetLine}
 use Rattle.sheet.specs.Inner.Kinds.{assigns, part_of}
-use Rattle.sheet.specs.declared.kinds.Part.{Part}
 use Rattle.sets.specs.Inner.Analyses.{Which, Varied, Useful, Required}
 use Rattle.sets.specs.VariableSets.{VariableSet}
 use Rattle.sets.specs.Equations.{right_side, point_of}
 use Rattle.sets.specs.Transfers.{Activity}
 use Rattle.sets.specs.Rounds.{set_at}
-use Rattle.sets.specs.Inner.RowEquations.{equation_of, forward_of, backward_of, turn_of, own_point, settled_point, splits, joins_by}
+use Rattle.sets.specs.Inner.RowEquations.{equation_of, forward_of, backward_of, turn_of, own_point, settled_point, joins_by}
 use Rattle.sets.specs.Inner.RowEquations.{Given, equation_in, start_of}
-use Rattle.sets.specs.Inner.Walks.{ends_repeat, asks_partner, side_by}
-use Rattle.sets.proofs.Truths.{T_of, of_T, or_right}
+use Rattle.sets.specs.Inner.Walks.{ends_repeat, side_by}
 
 module _ (which : Which) (known : Activity) (sets : List VariableSet) (p c : ℕ) where
   abbrev side_of : SheetLine → VariableSet

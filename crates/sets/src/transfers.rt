@@ -36,23 +36,13 @@ pub fn operation_at(laid: LaidSheet, row: RowNumber, form: Form) -> MaskedAssign
     requires { (row.0 < laid.rows) × Formed laid.words.now laid.first row.0 form × (assigns form.3 ≡ true) }
     ensures { PerformsRow result (numbered_row laid.entry.words.now laid.entry.first row.0) }
 {
-    let number = row.0;
     let words = laid.words;
-    let from = laid.first + number * sheet::ROW_WORDS;
-    let of_a = form.1;
-    let of_b = form.2;
-    let kind = words[from];
-    let d = words[from + 1];
-    let a = words[from + 2];
-    let b = words[from + 3];
-    let reads_a = named(of_a, a);
-    let reads_b = named(of_b, b);
-    let target = Variable(d as usize);
+    let from = laid.first + row.0 * sheet::ROW_WORDS;
     MaskedAssignment {
-        kind,
-        target,
-        first: reads_a,
-        second: reads_b,
+        kind: words[from],
+        target: Variable(words[from + 1] as usize),
+        first: named(form.1, words[from + 2]),
+        second: named(form.2, words[from + 3]),
     }
 }
 

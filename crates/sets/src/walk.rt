@@ -29,42 +29,8 @@ fn grow(sets: &mut [u64], point: usize, more: u64) -> u64
     requires { point < length sets.old }
     ensures { Grown sets.old point more sets.new result }
 {
-    let old = sets[point];
-    let all = old | more;
-    sets[point] = all;
-    all
-}
-
-// Whether a row is where a walk leaves a repeat's body.
-#[tactic(auto, unfolding(crate::specs::Inner::Walks::ends_repeat))]
-fn ends_repeat<A: Analysis>(analysis: A, part: Part) -> bool
-    ensures { result ≡ ends_repeat A.which part }
-{
-    if analysis.goes_back() {
-        matches!(part, Part::Repeat)
-    } else {
-        matches!(part, Part::EndRepeat)
-    }
-}
-
-#[tactic(auto, unfolding(crate::specs::Inner::RowEquations::row_in_turn))]
-fn row_in_turn<A: Analysis>(analysis: A, rows: usize, turn: usize) -> RowNumber
-    requires { turn < rows }
-    ensures { result.0 ≡ row_in_turn A.which rows turn }
-{
-    RowNumber(if analysis.goes_back() {
-        rows - 1 - turn
-    } else {
-        turn
-    })
-}
-
-// The point that has its set from outside the sheet's rows.
-#[tactic(auto, unfolding(crate::specs::Inner::RowEquations::start_of))]
-fn start_of<A: Analysis>(analysis: A, rows: usize) -> usize
-    ensures { result ≡ start_of A.which rows }
-{
-    if analysis.goes_back() { rows } else { 0 }
+    sets[point] |= more;
+    sets[point]
 }
 
 // What the start point has: the variables with the role, from the last on.
@@ -87,7 +53,7 @@ fn begin<A: Analysis>(analysis: A, laid: LaidSheet, sets: &mut [u64]) -> WalkedT
         (seed_in A.which laid.entry.words.now laid.entry.variables) sets.new result.own }
 {
     let seed = seed_of(analysis, laid);
-    let start = start_of(analysis, laid.rows);
+    let start = analysis.start_of(laid.rows);
     let own = grow(sets, start, seed);
     WalkedTo { turn: 0, own }
 }
@@ -111,9 +77,11 @@ fn pass_assignment<A: Analysis>(
     ensures marks { Gives operation marks.new (λ b. marked_at A.which (A.varied analysis) (A.useful analysis) row.0 reached.own b marks.old) }
 {
     let right = analysis.assign(row, operation, reached.own, marks);
-    let own = grow(sets, equations::settled_point(analysis, row), right);
-    let turn = reached.turn + 1;
-    WalkedTo { turn, own }
+    let own = grow(sets, analysis.settled_point(row), right);
+    WalkedTo {
+        turn: reached.turn + 1,
+        own,
+    }
 }
 
 // Whether a row ends a repeat and brings more to the body's start.
@@ -129,9 +97,9 @@ fn brings_more<A: Analysis>(
     requires { Judging A.which part row.0 others.now sets.now own }
     ensures { Brings A.which part row.0 others.now sets.now result }
 {
-    if ends_repeat(analysis, part) {
+    if analysis.ends_repeat(part) {
         let near = partners::partner_there(others, row);
-        let kept = equations::set_at(sets, equations::settled_point(analysis, near));
+        let kept = equations::set_at(sets, analysis.settled_point(near));
         return (kept | own) != kept;
     }
     false
@@ -142,9 +110,8 @@ fn side_of<A: Analysis>(analysis: A, part: Part, own: u64, sets: &[u64], partner
     requires { (partner.0 < word_values) × (asks_partner A.which part ≡ true → (own_point A.which partner.0 < length sets.now) × (partner.0 < length sets.now)) }
     ensures { result ≡ side_by A.which part own (set_at sets.now (own_point A.which partner.0)) (set_at sets.now partner.0) }
 {
-    if ends_repeat(analysis, part) {
-        let point = partner.0;
-        return equations::set_at(sets, point);
+    if analysis.ends_repeat(part) {
+        return equations::set_at(sets, partner.0);
     }
     equations::right_side(analysis, part, own, sets, partner)
 }
@@ -169,16 +136,20 @@ fn pass_block_row<A: Analysis>(
     if brings_more(analysis, part, row, back, sets, own) {
         let near = partners::partner_there(back, row);
         let both = equations::own_set(analysis, sets, near) | own;
-        let own = grow(sets, equations::settled_point(analysis, near), both);
-        let entered = row_in_turn(analysis, rows, near.0);
-        let turn = entered.0 + 1;
-        return WalkedTo { turn, own };
+        let own = grow(sets, analysis.settled_point(near), both);
+        let entered = analysis.row_in_turn(rows, near.0);
+        return WalkedTo {
+            turn: entered.0 + 1,
+            own,
+        };
     }
     let partner = partners::partner_there(taken, row);
     let right = side_of(analysis, part, own, sets, partner);
-    let own = grow(sets, equations::settled_point(analysis, row), right);
-    let turn = reached.turn + 1;
-    WalkedTo { turn, own }
+    let own = grow(sets, analysis.settled_point(row), right);
+    WalkedTo {
+        turn: reached.turn + 1,
+        own,
+    }
 }
 
 // An analysis's set at every point, from empty ones; and what the analysis leaves in the marks.
@@ -206,17 +177,16 @@ pub fn settle<A: Analysis>(
     let mut reached = begin(analysis, laid, sets);
     // A `while`: the walk goes back at repeats.
     while reached.turn < laid.rows {
-        let row = row_in_turn(analysis, laid.rows, reached.turn);
+        let row = analysis.row_in_turn(laid.rows, reached.turn);
         let kind = rows::kind_of(laid, row);
         let form = forms[kind];
-        let part = form.3;
-        if kinds::assigns(part) {
+        if kinds::assigns(form.3) {
             let operation = transfers::operation_at(laid, row, form);
             reached = pass_assignment(analysis, row, operation, sets, marks, reached);
         } else {
             analysis.pass_over(row, marks);
             let rows = laid.rows;
-            reached = pass_block_row(analysis, part, rows, row, taken, back, sets, reached);
+            reached = pass_block_row(analysis, form.3, rows, row, taken, back, sets, reached);
         }
     }
 }
