@@ -4,7 +4,6 @@ ghost use Rattle.sheet.specs.Answers.{row_said};
 ghost use Rattle.machine.specs.Inner.Buffers.{InBoth};
 ghost use Rattle.machine.specs.Inner.RowSteps.{JumpsTo, BranchesTo, TurnsTo, Pushes, Opens, Closes, Pends, EndsLoop, AsksLoop, AsksRow, OnCount, CrossesBy};
 
-use super::places::{moved, raised, within};
 use super::turns::{count_there, keep_count, test_turn};
 use super::{Branch, Ended, Pending, Place, Stuck};
 use sheet::{MAX_DEPTH, RowNumber, RowWords, kinds, wide};
@@ -16,7 +15,7 @@ fn jump(beyond: &[u16], at: RowNumber, next: Place) -> Result<Place, Ended>
     let row = at.0;
     if row < beyond.len() {
         let to = RowNumber(wide(beyond[row]));
-        return Ok(moved(next, to));
+        return Ok(next.moved(to));
     }
     Err(Ended::Stuck)
 }
@@ -41,7 +40,7 @@ fn turn_to(
     ensures { TurnsTo beyond.now at.0 next branched result }
 {
     let (branch, height) = branched?;
-    branch_to(branch, beyond, at, raised(next, next.values, height))
+    branch_to(branch, beyond, at, next.raised(next.values, height))
 }
 
 // One loop more: the row that its next turn begins with, and twice the turns still to come, with 1 more where its row is asked before each.
@@ -60,7 +59,7 @@ fn push_loop(
     }
     bodies[depth] = body;
     to_come[depth] = note;
-    Ok(within(next, depth + 1))
+    Ok(next.within(depth + 1))
 }
 
 // Kind 10, and kind 20 once its count is taken.
@@ -81,7 +80,11 @@ fn open_repeat(
 }
 
 // Kind 11, whatever opens the loop.
-fn close_turn(next: Place, bodies: &[usize; MAX_DEPTH], to_come: &mut [usize; MAX_DEPTH]) -> Result<Place, Ended>
+fn close_turn(
+    next: Place,
+    bodies: &[usize; MAX_DEPTH],
+    to_come: &mut [usize; MAX_DEPTH],
+) -> Result<Place, Ended>
     ensures { Closes next bodies.now to_come.old bodies.now to_come.new result }
 {
     let depth = next.depth;
@@ -94,11 +97,11 @@ fn close_turn(next: Place, bodies: &[usize; MAX_DEPTH], to_come: &mut [usize; MA
     }
     let note = to_come[top];
     if note < 2 {
-        return Ok(within(next, top));
+        return Ok(next.within(top));
     }
     to_come[top] = note - 2;
     let body = bodies[top];
-    Ok(moved(next, RowNumber(body)))
+    Ok(next.moved(RowNumber(body)))
 }
 
 // A loop with a test is under way if it is the innermost open one: its row is asked again, and no other loop's next turn begins there.
@@ -112,36 +115,28 @@ fn pending(
     ensures { Pends most at.0 depth bodies.now to_come.now result }
 {
     let all = wide(most);
-    let note = 2 * all + 1;
+    let first = Pending {
+        left: all,
+        note: 2 * all + 1,
+        depth,
+    };
     if depth == 0 {
-        return Pending {
-            left: all,
-            note,
-            depth,
-        };
+        return first;
     }
     let top = depth - 1;
     if MAX_DEPTH <= top {
-        return Pending {
-            left: all,
-            note,
-            depth,
-        };
+        return first;
     }
-    let noted = to_come[top];
-    let asks = noted % 2 == 1;
+    let note = to_come[top];
+    let asks = note % 2 == 1;
     if asks & (bodies[top] == at.0) {
         return Pending {
-            left: noted / 2,
-            note: noted,
+            left: note / 2,
+            note,
             depth: top,
         };
     }
-    Pending {
-        left: all,
-        note,
-        depth,
-    }
+    first
 }
 
 fn turns_done(most: u16, left: usize) -> u16
@@ -166,7 +161,7 @@ fn end_loop(
     ensures { InBoth (λ A. EndsLoop A count keeps beyond.now at.0 next turns.old turns.new result) }
 {
     let height = keep_count(count, keeps, turns, next.turns)?;
-    jump(beyond, at, raised(next, next.values, height))
+    jump(beyond, at, next.raised(next.values, height))
 }
 
 // Kind 19, from what its test says: "after d turns the loop ends without a further test".
@@ -186,7 +181,7 @@ fn ask_loop(
 {
     let now = pending(most, at, next.depth, bodies, to_come);
     let left = now.left;
-    let around = within(next, now.depth);
+    let around = next.within(now.depth);
     let done = turns_done(most, left);
     if left == 0 {
         return end_loop(done, keeps, beyond, at, around, turns);
@@ -236,13 +231,13 @@ fn on_count(
     let (count, top) = count_there(turns, next.turns)?;
     if count == 0 {
         turns[top] = 0;
-        return branch_to(Branch::Second, beyond, at, raised(next, next.values, top));
+        return branch_to(Branch::Second, beyond, at, next.raised(next.values, top));
     }
     if MAX_DEPTH <= next.depth {
         return Err(Ended::Stuck);
     }
     turns[top] = 0;
-    open_repeat(count, raised(next, next.values, top), bodies, to_come)
+    open_repeat(count, next.raised(next.values, top), bodies, to_come)
 }
 
 // Kinds 8 to 11, 15 and 20.

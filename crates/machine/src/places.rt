@@ -28,7 +28,7 @@ pub fn values_to(moved: Result<usize, Stuck>, next: Place, ahead: Ahead) -> Acte
     ensures { result ≡ values_to moved next ahead }
 {
     match moved {
-        Ok(height) => Acted::On(raised(next, height, next.turns), ahead),
+        Ok(height) => Acted::On(next.raised(height, next.turns), ahead),
         Err(Stuck) => Acted::Stuck,
     }
 }
@@ -38,74 +38,60 @@ pub fn turns_to(moved: Result<usize, Stuck>, next: Place) -> Acted
     ensures { result ≡ turns_to moved next }
 {
     match moved {
-        Ok(height) => Acted::On(raised(next, next.values, height), Ahead::Any),
+        Ok(height) => Acted::On(next.raised(next.values, height), Ahead::Any),
         Err(Stuck) => Acted::Stuck,
     }
 }
 
-// The place where a run starts, with empty stacks.
-pub fn first_place(steps: usize) -> Place
-    ensures { result ≡ first_place steps }
-{
-    Place {
-        at: RowNumber(0),
-        depth: 0,
-        values: 0,
-        turns: 0,
-        left: steps,
+impl Place {
+    // Where a run starts, with empty stacks.
+    pub fn first(steps: usize) -> Place
+        ensures { result ≡ first_place steps }
+    {
+        Place {
+            at: RowNumber(0),
+            depth: 0,
+            values: 0,
+            turns: 0,
+            left: steps,
+        }
     }
-}
 
-// The end of a run at a place.
-pub fn left_at(place: Place, ended: Ended) -> Ran
-    ensures { result ≡ left_at place ended }
-{
-    Ran { place, ended }
-}
-
-pub fn following(place: Place, at: RowNumber, left: usize) -> Place
-    ensures { result ≡ following place at.0 left }
-{
-    Place {
-        at,
-        depth: place.depth,
-        values: place.values,
-        turns: place.turns,
-        left,
+    // The end of a run here.
+    pub fn left_by(self, ended: Ended) -> Ran
+        ensures { result ≡ left_at self ended }
+    {
+        Ran { place: self, ended }
     }
-}
 
-// The same place at another row.
-pub fn moved(place: Place, at: RowNumber) -> Place
-    ensures { result ≡ moved place at.0 }
-{
-    following(place, at, place.left)
-}
-
-// The same place with another number of open repeats.
-pub fn within(place: Place, depth: usize) -> Place
-    ensures { result ≡ within place depth }
-{
-    let at = place.at;
-    Place {
-        at,
-        depth,
-        values: place.values,
-        turns: place.turns,
-        left: place.left,
+    pub fn following(self, at: RowNumber, left: usize) -> Place
+        ensures { result ≡ following self at.0 left }
+    {
+        Place { at, left, ..self }
     }
-}
 
-// The same place with other heights of the two stacks.
-pub fn raised(place: Place, values: usize, turns: usize) -> Place
-    ensures { result ≡ raised place values turns }
-{
-    let at = place.at;
-    Place {
-        at,
-        depth: place.depth,
-        values,
-        turns,
-        left: place.left,
+    // The same place at another row.
+    pub fn moved(self, at: RowNumber) -> Place
+        ensures { result ≡ moved self at.0 }
+    {
+        Place { at, ..self }
+    }
+
+    // The same place with another number of open repeats.
+    pub fn within(self, depth: usize) -> Place
+        ensures { result ≡ within self depth }
+    {
+        Place { depth, ..self }
+    }
+
+    // The same place with other heights of the two stacks.
+    pub fn raised(self, values: usize, turns: usize) -> Place
+        ensures { result ≡ raised self values turns }
+    {
+        Place {
+            values,
+            turns,
+            ..self
+        }
     }
 }

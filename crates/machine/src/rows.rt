@@ -6,7 +6,6 @@ ghost use Rattle.sheet.specs.Answers.{row_said};
 ghost use Rattle.machine.specs.Inner.RowsHanded.{place_of_row};
 ghost use Rattle.machine.specs.Inner.RowSteps.{Meets, MeetsKind, Reaches};
 
-use super::places::following;
 use super::{Ended, Met, Place};
 use sheet::{RowNumber, RowWords, kinds};
 
@@ -34,7 +33,7 @@ pub fn block_at(table: &[u16], rows: usize, place: Place) -> Met
     }
     let row = row_of(table, at);
     let after = RowNumber(number + 1);
-    let next = following(place, after, left - 1);
+    let next = place.following(after, left - 1);
     if row.kind == kinds::IF {
         return Met::Ask(row, next);
     }
@@ -77,5 +76,5 @@ pub fn kind_at(table: &[u16], until: usize, place: Place, kind: u16) -> Option<(
     }
     let after = RowNumber(number + 1);
     let left = place.left;
-    Some((row, following(place, after, left - 1)))
+    Some((row, place.following(after, left - 1)))
 }

@@ -16,7 +16,6 @@ mod straight;
 
 use ahead::peek;
 use machine::blocks::{ask_row, cross};
-use machine::places::{first_place, left_at};
 use machine::rows::{block_at, reach};
 use machine::{Acted, Ended, Met, Place, Ran};
 use number::Number;
@@ -78,7 +77,7 @@ pub fn run_rows<N: Number>(
         (cells_of (arithmetic_on N.operations) store.new values.new turns.new copied.new)
         bodies.new to_come.new result }
 {
-    let mut place = first_place(steps);
+    let mut place = Place::first(steps);
     'run: loop {
         let until = reach(rows, place);
         loop {
@@ -87,15 +86,15 @@ pub fn run_rows<N: Number>(
             ) {
                 Acted::On(next, ahead) => place = peek(table, until, store, ahead, next),
                 Acted::Block => break,
-                Acted::Stopped => break 'run left_at(place, Ended::Stopped(place.at)),
-                Acted::Stuck => break 'run left_at(place, Ended::Stuck),
+                Acted::Stopped => break 'run place.left_by(Ended::Stopped(place.at)),
+                Acted::Stuck => break 'run place.left_by(Ended::Stuck),
             }
         }
         match block_row(
             table, rows, beyond, keeps, store, turns, bodies, to_come, place,
         ) {
             Ok(next) => place = next,
-            Err(ended) => break 'run left_at(place, ended),
+            Err(ended) => break 'run place.left_by(ended),
         }
     }
 }

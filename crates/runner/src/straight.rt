@@ -13,7 +13,7 @@ use super::rows::{
     added, assign, clear, copy_of, divided, fixed, multiplied, negated, save, subtracted,
     take_back, turn_round,
 };
-use machine::places::{did_to, following, turns_to, values_to, went_to};
+use machine::places::{did_to, turns_to, values_to, went_to};
 use machine::turns::{is_first, save_turn};
 use machine::{Acted, Ahead, Place};
 use number::Number;
@@ -98,7 +98,7 @@ pub fn straight_row<N: Number>(
     let a = table[from + 2];
     let b = table[from + 3];
     let after = RowNumber(number + 1);
-    let next = following(place, after, place.left - 1);
+    let next = place.following(after, place.left - 1);
     let row = RowWords { kind, d, a, b };
     act(
         row, roles, constants, seeds, store, values, turns, copied, next,

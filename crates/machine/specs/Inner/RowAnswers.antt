@@ -10,7 +10,7 @@ use Rattle.machine.specs.declared.Branch.{Branch}
 use Rattle.machine.specs.declared.Branch.TheVariants as branch
 
 abbrev pub is_stuck : Stuck
-is_stuck = record { }
+is_stuck = record {}
 
 -- what an assignment comes to, by the reason that each stop of the code is
 abbrev pub whether_did : {Stop Why : Type 0} → (Stop → Why) → Result (Unit {0}) Stop → Attempt Why (Unit {0})

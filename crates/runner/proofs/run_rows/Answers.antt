@@ -6,7 +6,7 @@ use Rattle.machine.proofs.RunLaws.{still_indexes, first_indexed, run_starts, str
 use Rattle.runner.proofs.run_rows.Goals as goal
 
 pub run-init : goal.run-init
-run-init g c = run_starts _ _ _ _ _ c.first_place-place.ensures c.requires.bodies_fit c.requires.to_come_fit
+run-init g c = run_starts _ _ _ _ _ c.first-place.ensures c.requires.bodies_fit c.requires.to_come_fit
 
 pub peek-place-requires-clause-indexed : goal.peek-place-requires-clause-indexed
 peek-place-requires-clause-indexed g c =
@@ -41,11 +41,11 @@ run-preserved g c =
 
 pub returns-in-Stopped : goal.returns-in-Stopped
 returns-in-Stopped g c =
-    straight_stops _ c.loop-next.invariant c.straight_row.ensures c.run.invariant c.in-Stopped.is refl c.left_at.ensures
+    straight_stops _ c.loop-next.invariant c.straight_row.ensures c.run.invariant c.in-Stopped.is refl c.left_by.ensures
 
 pub returns-in-Stuck : goal.returns-in-Stuck
-returns-in-Stuck g c = straight_sticks _ c.loop-next.invariant c.straight_row.ensures c.run.invariant c.in-Stuck.is c.left_at-in-Stuck.ensures
+returns-in-Stuck g c = straight_sticks _ c.loop-next.invariant c.straight_row.ensures c.run.invariant c.in-Stuck.is c.left_by-in-Stuck.ensures
 
 pub returns-in-Err : goal.returns-in-Err
 returns-in-Err g c =
-    block_ends _ c.loop-next.invariant c.straight_row.ensures c.run.invariant c.block_row.ensures c.in-Block.is c.in-Err.is c.left_at-in-Err.ensures
+    block_ends _ c.loop-next.invariant c.straight_row.ensures c.run.invariant c.block_row.ensures c.in-Block.is c.in-Err.is c.left_by-in-Err.ensures
