@@ -60,7 +60,8 @@ pub trait Analysis: Copy {
         if self.goes_back() { rows } else { 0 }
     }
 
-    // The point that a row's own set stands at.
+    // The point that a row's own set stands at. The bound stands in the contracts that count on from a row's number: the project's rules want `RowNumber` a plain
+    // tuple struct, which says nothing of its number.
     #[tactic(auto, unfolding(crate::specs::Inner::RowEquations::own_point))]
     final fn own_point(self, row: RowNumber) -> usize
         requires { row.0 < word_values }
