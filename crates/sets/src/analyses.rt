@@ -4,7 +4,7 @@ ghost use Rattle.sheet.specs.Inner.Words.{word_values};
 ghost use Rattle.sets.specs.Inner.Operations.{Gives};
 ghost use Rattle.sets.specs.Inner.RowEquations.{turn_of, has_role, row_in_turn, start_of, own_point, settled_point, joins_by};
 ghost use Rattle.sets.specs.Inner.Walks.{ends_repeat};
-ghost use Rattle.sets.specs.Inner.Analyses.{Which, Varied, Useful, Required, goes_back, LendsAt, known_at, marked_at, passed_over};
+ghost use Rattle.sets.specs.Inner.Analyses.{Which, Varied, Useful, Required, goes_back, LendsAt, known_at, marked_at, marks_over};
 
 use super::operations::MaskedAssignment;
 use super::{marks, transfers};
@@ -36,7 +36,7 @@ pub trait Analysis: Copy {
     // A row of a block, which changes no set by itself.
     fn pass_over(self, row: RowNumber, marks: &mut [u8])
         requires { LendsAt which (varied self) (useful self) (length marks.old) row.0 }
-        ensures { marks.new ≡ passed_over which row.0 marks.old };
+        ensures { marks.new ≡ marks_over which row.0 marks.old };
 
     // What follows from the direction: the row that comes at a turn.
     #[tactic(auto, unfolding(crate::specs::Inner::RowEquations::row_in_turn))]
@@ -60,7 +60,8 @@ pub trait Analysis: Copy {
         if self.goes_back() { rows } else { 0 }
     }
 
-    // The point that a row's own set stands at.
+    // The point that a row's own set stands at. The bound stands in the contracts that count on from a row's number: the project's rules want `RowNumber` a plain
+    // tuple struct, which says nothing of its number.
     #[tactic(auto, unfolding(crate::specs::Inner::RowEquations::own_point))]
     final fn own_point(self, row: RowNumber) -> usize
         requires { row.0 < word_values }

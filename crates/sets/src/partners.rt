@@ -34,6 +34,8 @@ fn put(list: &mut [u16], row: RowNumber, partner: RowNumber)
 }
 
 // Two rows become partners: `to` came from `from`. The answer is the row that was innermost outside `top`, the innermost open one until now.
+// `came` and `goes` go side by side, here and below: a struct of both `&mut` would have to say in each contract that it still holds the same two references, beside
+// what the lists become.
 fn pair(
     to: RowNumber,
     from: RowNumber,
@@ -100,7 +102,7 @@ fn partner_step(
 {
     match part {
         Part::Assignment => top,
-        Part::If => {
+        Part::If | Part::Repeat => {
             put(goes, row, top);
             row
         }
@@ -110,10 +112,6 @@ fn partner_step(
             row
         }
         Part::EndIf => pair(row, top, top, came, goes),
-        Part::Repeat => {
-            put(goes, row, top);
-            row
-        }
         Part::EndRepeat => end_loop(rows::opens_test(laid, top), row, top, came, goes),
     }
 }

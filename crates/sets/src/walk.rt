@@ -5,7 +5,7 @@ ghost use Rattle.sheet.specs.Rows.{Assignment};
 ghost use Rattle.sets.specs.Rounds.{set_at, least};
 ghost use Rattle.sets.specs.Inner.Operations.{Gives, Performs};
 ghost use Rattle.sets.specs.Inner.Analyses.{Lends, LendsAt, known_at, marked_at, marks_left};
-ghost use Rattle.sets.specs.Inner.RowEquations.{given_by, known_by, line_in, turn_of, row_in_turn, own_point, settled_point};
+ghost use Rattle.sets.specs.Inner.RowEquations.{given_to, line_in, turn_of, row_in_turn, own_point, settled_point};
 ghost use Rattle.sets.specs.Inner.RowEquations.{start_of, all_equations, seed_in};
 ghost use Rattle.sets.specs.Inner.Walks.{ends_repeat, asks_partner, side_by, Grown, Judging, Brings, AtBlock, own_side, PassedRow, Settles};
 
@@ -161,14 +161,15 @@ pub fn settle<A: Analysis>(
     marks: &mut [u8],
 )
     requires settles { Settles A.which
-        (given_by laid.words.now laid.first (known_by A.which laid.words.now laid.first (A.varied analysis) (A.useful analysis)) partners.taken.now)
+        (given_to A.which laid.words.now laid.first (A.varied analysis) (A.useful analysis) partners.taken.now)
         partners.back.now laid.rows laid.variables sets.old }
     requires lent { Lends A.which (A.varied analysis) (A.useful analysis) (length marks.old) laid.rows }
     ensures sets { sets.new ≡ least laid.entry.variables (suc laid.entry.rows)
         (all_equations A.which
-        (given_by laid.entry.words.now laid.entry.first (known_by A.which laid.entry.words.now laid.entry.first (A.varied analysis) (A.useful analysis)) partners.entry.taken.now)
+        (given_to A.which laid.entry.words.now laid.entry.first (A.varied analysis) (A.useful analysis) partners.entry.taken.now)
         laid.entry.rows (seed_in A.which laid.entry.words.now laid.entry.variables)) }
-    ensures marks { marks.new ≡ marks_left A.which (A.varied analysis) (A.useful analysis) sets.new (line_in laid.entry.words.now laid.entry.first) laid.entry.rows marks.old }
+    ensures marks { marks.new ≡ marks_left A.which (A.varied analysis) (A.useful analysis) sets.new
+        (line_in laid.entry.words.now laid.entry.first) laid.entry.rows marks.old }
 {
     // Taken apart once: handed on whole at each row, as tried, they cost eight nested repeats a ninth more instructions, and straight rows a twenty-fifth.
     let taken = partners.taken;
