@@ -21,12 +21,11 @@ pub struct Answer {
 // What is beyond the room is cut off: no answer is so long.
 impl fmt::Write for Answer {
     fn write_str(&mut self, text: &str) -> fmt::Result {
-        for byte in text.as_bytes() {
-            if self.used < MAX_ANSWER {
-                self.bytes[self.used] = *byte;
-                self.used += 1;
-            }
-        }
+        let count = text.len().min(MAX_ANSWER - self.used);
+        let end = self.used + count;
+        let bytes = &mut self.bytes;
+        bytes[self.used..end].copy_from_slice(&text.as_bytes()[..count]);
+        self.used = end;
         Ok(())
     }
 }

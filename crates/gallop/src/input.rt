@@ -45,8 +45,8 @@ impl Input {
             match self.next_byte()? {
                 Some(NEWLINE) => break,
                 Some(byte) => {
-                    if length < LINE_ROOM {
-                        line[length] = byte;
+                    if let Some(place) = line.get_mut(length) {
+                        *place = byte;
                         length += 1;
                     }
                 }

@@ -1,8 +1,7 @@
 // The answer to each request line: by its verb it is a check, a table or a run.
 use super::answers::Answer;
-use super::buffers::Buffers;
 use super::engines::{Audit, Direction, Double, Plain, TangentAudit, TangentDouble};
-use super::runs::{Room, run_line};
+use super::runs::{Memory, run_line};
 use table::Reply;
 use text::fields::{BadLine, End, Fields};
 use text::lend::{Lends, Lent, SHEET_WORDS, TABLE_WORDS};
@@ -55,26 +54,11 @@ fn answer_request(line: &[u8], out: &mut Answer) -> Result<(), BadLine> {
         b"check" => check_line(&mut fields, out),
         b"table" => table_line(Direction::Adjoint, &mut fields, out),
         b"tangent" => table_line(Direction::Tangent, &mut fields, out),
-        b"audit" => run_line::<Audit>(&mut fields, &mut Room::new(), &mut Buffers::stamped(), out),
-        b"double" => run_line::<Double>(
-            &mut fields,
-            &mut Room::new(),
-            &mut Buffers::stamped(),
-            out,
-        ),
-        b"tangent-audit" => run_line::<TangentAudit>(
-            &mut fields,
-            &mut Room::new(),
-            &mut Buffers::stamped(),
-            out,
-        ),
-        b"tangent-double" => run_line::<TangentDouble>(
-            &mut fields,
-            &mut Room::new(),
-            &mut Buffers::stamped(),
-            out,
-        ),
-        b"plain" => run_line::<Plain>(&mut fields, &mut Room::new(), &mut Buffers::stamped(), out),
+        b"audit" => run_line::<Audit>(&mut fields, &mut Memory::new(), out),
+        b"double" => run_line::<Double>(&mut fields, &mut Memory::new(), out),
+        b"tangent-audit" => run_line::<TangentAudit>(&mut fields, &mut Memory::new(), out),
+        b"tangent-double" => run_line::<TangentDouble>(&mut fields, &mut Memory::new(), out),
+        b"plain" => run_line::<Plain>(&mut fields, &mut Memory::new(), out),
         _ => Err(BadLine),
     }
 }

@@ -4,34 +4,25 @@ use super::buffers::Buffers;
 use super::engines::{Engine, Request};
 use text::fields::{BadLine, End, Fields, MAX_FIELDS};
 use text::lend::{Lends, Lent, SHEET_WORDS};
-use text::numbers::Number;
+use text::numbers::{Cell, Number};
 
 // Room for what a request gives.
 #[derive(Drop)]
-pub struct Room<T> {
+struct Given<T> {
     words: [u16; SHEET_WORDS],
     starts: [T; MAX_FIELDS],
     seeds: [T; MAX_FIELDS],
 }
 
-impl<T: Number> Room<T> {
-    pub fn new() -> Room<T> {
-        Room {
-            words: [0; SHEET_WORDS],
-            starts: [T::ZERO; MAX_FIELDS],
-            seeds: [T::ZERO; MAX_FIELDS],
-        }
-    }
-
+impl<T: Number> Given<T> {
     fn read(&mut self, fields: &mut Fields, lends: Lends) -> Result<Request<'_, T>, BadLine> {
-        let lent = Lent::read(fields, lends)?;
-        let Room {
+        let Given {
             words,
             starts,
             seeds,
         } = self;
         Ok(Request {
-            lent,
+            lent: Lent::read(fields, lends)?,
             words: fields.group(End::Slash, words)?,
             starts: fields.group(End::Slash, starts)?,
             seeds: fields.group(End::Line, seeds)?,
@@ -39,13 +30,34 @@ impl<T: Number> Room<T> {
     }
 }
 
+// All that a run works in. It is made where the engine's arithmetic is known: only there can it be proved that the arrays are small enough for a memory.
+#[derive(Drop)]
+pub struct Memory<T> {
+    given: Given<T>,
+    buffers: Buffers<T>,
+}
+
+impl<T: Cell> Memory<T> {
+    pub fn new() -> Memory<T> {
+        let given = Given {
+            words: [0; SHEET_WORDS],
+            starts: [T::ZERO; MAX_FIELDS],
+            seeds: [T::ZERO; MAX_FIELDS],
+        };
+        Memory {
+            given,
+            buffers: Buffers::stamped(),
+        }
+    }
+}
+
 pub fn run_line<E: Engine>(
     fields: &mut Fields,
-    room: &mut Room<E::Number>,
-    buffers: &mut Buffers<E::Number>,
+    memory: &mut Memory<E::Number>,
     out: &mut Answer,
 ) -> Result<(), BadLine> {
-    let asked = room.read(fields, E::LENDS)?;
+    let Memory { given, buffers } = memory;
+    let asked = given.read(fields, E::LENDS)?;
     let reply = E::run(&asked, buffers.lend(asked.lent));
     out.begin(reply);
     if reply.number == table::DONE {

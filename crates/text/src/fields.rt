@@ -1,8 +1,7 @@
 // The fields of a line, and the groups of numbers that slashes part them into.
-ghost use Rattle.std.specs.Iterator.{at_most};
-ghost use Rattle.std.specs.Option.{option_map_or};
-ghost use Rattle.std.specs.Prelude.{◌+◌, ◌↔◌, IsOk, length};
-ghost use Rattle.text.specs.Lines.{Taken};
+ghost use Rattle.std.specs.Iterator.{YieldsFirstRef, item_count};
+ghost use Rattle.std.specs.Prelude.{◌↔◌, ◌≡◌, IfOk, IsOk};
+ghost use Rattle.text.specs.Lines.{Taken, fields, fields_left};
 
 use super::numbers::Number;
 use std::error::Error;
@@ -43,7 +42,9 @@ pub struct Fields<'a> {
 impl<'a> Iterator for Fields<'a> {
     type Item = &'a [u8];
 
-    ghost remaining = { λ s. at_most (option_map_or (λ rest. length rest.now + 1) s.rest 0) };
+    ghost next_gives = { YieldsFirstRef fields_left };
+
+    ghost remaining = { item_count fields_left };
 
     fn next(&mut self) -> Option<&'a [u8]> {
         let rest = self.rest?;
@@ -62,7 +63,8 @@ impl<'a> Iterator for Fields<'a> {
 
 impl<'a> Fields<'a> {
     pub fn of(line: &'a [u8]) -> Result<Fields<'a>, BadLine>
-        ensures { IsOk result ↔ Taken line.now }
+        ensures bound { IsOk result ↔ Taken line.now }
+        ensures all { IfOk result (λ it. fields_left it ≡ fields line.now) }
     {
         if MAX_LINE < line.len() {
             return Err(BadLine);
