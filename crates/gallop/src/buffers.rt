@@ -24,6 +24,7 @@ pub struct Parts<'a, T> {
     pub result: &'a mut [T],
 }
 
+// A function, since the check does not cover `&mut self.table[..count]`, a part of an array behind a reference.
 fn start<T>(buffer: &mut [T], count: usize) -> &mut [T]
     requires { count ≤ length buffer.old }
 {

@@ -4,7 +4,7 @@ use table::Reply;
 use text::lend::{Lends, Lent};
 use text::numbers::Cell;
 
-// A sheet has two tables.
+// A sheet has two tables. An enum, and not a trait as for the runs: there is but one call, and a run names its table as a constant.
 #[derive(Clone, Copy)]
 pub enum Direction {
     Adjoint,

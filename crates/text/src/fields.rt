@@ -95,6 +95,7 @@ impl<'a> Fields<'a> {
         }
     }
 
+    // Whether the next field is an empty one, which then is passed.
     fn passes_empty(&mut self) -> bool {
         let mut after = *self;
         let empty = matches!(after.next(), Some([]));

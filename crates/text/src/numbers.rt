@@ -15,9 +15,13 @@ pub trait Cell: Number {
     // What a buffer holds at a place with this stamp before a call.
     fn stamped(stamp: u16) -> Self;
 
+    // The number as 64 bits: of a double its own.
     fn bits(self) -> u64;
 
-    fn write<W: fmt::Write>(self, out: &mut W) -> fmt::Result;
+    // As a field reads it.
+    fn write<W: fmt::Write>(self, out: &mut W) -> fmt::Result {
+        write!(out, "{}", self.bits())
+    }
 }
 
 impl From<TryFromIntError> for BadLine {
@@ -84,10 +88,6 @@ impl Cell for u16 {
     fn bits(self) -> u64 {
         u64::from(self)
     }
-
-    fn write<W: fmt::Write>(self, out: &mut W) -> fmt::Result {
-        write!(out, "{self}")
-    }
 }
 
 impl Number for u32 {
@@ -108,10 +108,6 @@ impl Cell for u32 {
 
     fn bits(self) -> u64 {
         u64::from(self)
-    }
-
-    fn write<W: fmt::Write>(self, out: &mut W) -> fmt::Result {
-        write!(out, "{self}")
     }
 }
 
