@@ -37,18 +37,20 @@ fn has_run(number: u16) -> bool {
 }
 
 impl<T: Cell> Buffers<T> {
-    pub fn stamped() -> Buffers<T> {
-        let mut buffers = Buffers {
+    pub fn new() -> Buffers<T> {
+        Buffers {
             table: [0; TABLE_WORDS],
             values: [T::ZERO; PLACES],
             turns: [0; PLACES],
             result: [T::ZERO; PLACES],
-        };
-        pattern::fill(&mut buffers.table);
-        pattern::fill(&mut buffers.values);
-        pattern::fill(&mut buffers.turns);
-        pattern::fill(&mut buffers.result);
-        buffers
+        }
+    }
+
+    pub fn stamp(&mut self) {
+        pattern::fill(&mut self.table);
+        pattern::fill(&mut self.values);
+        pattern::fill(&mut self.turns);
+        pattern::fill(&mut self.result);
     }
 
     pub fn lend(&mut self, lent: Lent) -> Parts<'_, T> {

@@ -11,6 +11,7 @@ mod runs;
 
 use answers::Answer;
 use input::Input;
+use runs::Memories;
 use std::io;
 use std::io::Print;
 
@@ -19,12 +20,13 @@ fn main(rt: HostRuntime) -> io::Result<()> {
     let output = rt.stdout();
     let mut input = Input::new(rt.stdin());
     let mut room = [0u8; input::LINE_ROOM];
+    let mut memory = Memories::new();
     let mut answer = Answer::new();
     for _ in 0..u64::MAX {
         let Some(line) = input.next_line(&mut room)? else {
             break;
         };
-        requests::answer_line(line, &mut answer);
+        requests::answer_line(line, &mut memory, &mut answer);
         output.write_all(answer.bytes())?;
     }
     Ok(())

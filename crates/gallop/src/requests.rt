@@ -1,12 +1,14 @@
 // The answer to each request line: by its verb it is a check, a table or a run.
 use super::answers::Answer;
 use super::engines::{Audit, Direction, Double, Plain, TangentAudit, TangentDouble};
-use super::runs::{Memory, run_line};
+use super::runs::{Memories, run_line};
 use table::Reply;
 use text::fields::{BadLine, End, Fields};
 use text::lend::{Lends, Lent, SHEET_WORDS, TABLE_WORDS};
 use text::pattern;
 
+// Neither this nor `table_line` is inlined, so that no other line has their arrays on the stack.
+#[inline(never)]
 fn check_line(fields: &mut Fields, out: &mut Answer) -> Result<(), BadLine> {
     Lent::read(fields, Lends::Nothing)?;
     let mut words = [0u16; SHEET_WORDS];
@@ -29,6 +31,7 @@ fn written(table: &[u16; TABLE_WORDS]) -> &[u16] {
     table.get(..1 + sheet::ROW_WORDS * rows).unwrap_or(table)
 }
 
+#[inline(never)]
 fn table_line(direction: Direction, fields: &mut Fields, out: &mut Answer) -> Result<(), BadLine> {
     let lent = Lent::read(fields, Lends::Table)?;
     let mut words = [0u16; SHEET_WORDS];
@@ -48,23 +51,23 @@ fn table_line(direction: Direction, fields: &mut Fields, out: &mut Answer) -> Re
 }
 
 // An empty line has the empty verb and is no request.
-fn answer_request(line: &[u8], out: &mut Answer) -> Result<(), BadLine> {
+fn answer_request(line: &[u8], memory: &mut Memories, out: &mut Answer) -> Result<(), BadLine> {
     let mut fields = Fields::of(line)?;
     match fields.next().ok_or(BadLine)? {
         b"check" => check_line(&mut fields, out),
         b"table" => table_line(Direction::Adjoint, &mut fields, out),
         b"tangent" => table_line(Direction::Tangent, &mut fields, out),
-        b"audit" => run_line::<Audit>(&mut fields, &mut Memory::new(), out),
-        b"double" => run_line::<Double>(&mut fields, &mut Memory::new(), out),
-        b"tangent-audit" => run_line::<TangentAudit>(&mut fields, &mut Memory::new(), out),
-        b"tangent-double" => run_line::<TangentDouble>(&mut fields, &mut Memory::new(), out),
-        b"plain" => run_line::<Plain>(&mut fields, &mut Memory::new(), out),
+        b"audit" => run_line::<Audit>(&mut fields, &mut memory.residues, out),
+        b"double" => run_line::<Double>(&mut fields, &mut memory.doubles, out),
+        b"tangent-audit" => run_line::<TangentAudit>(&mut fields, &mut memory.residues, out),
+        b"tangent-double" => run_line::<TangentDouble>(&mut fields, &mut memory.doubles, out),
+        b"plain" => run_line::<Plain>(&mut fields, &mut memory.doubles, out),
         _ => Err(BadLine),
     }
 }
 
-pub fn answer_line(line: &[u8], out: &mut Answer) {
-    if let Err(why) = answer_request(line, out) {
+pub fn answer_line(line: &[u8], memory: &mut Memories, out: &mut Answer) {
+    if let Err(why) = answer_request(line, memory, out) {
         out.refuse(why);
     }
 }

@@ -64,6 +64,7 @@ fn decimal(field: &[u8]) -> Result<u64, BadLine> {
     number_in(DECIMAL, field)
 }
 
+// The three in decimal have an impl each: one for all that have `TryFrom<u64>` would need a bound for the zero too, and is no shorter.
 impl Number for usize {
     const ZERO: usize = 0;
 
