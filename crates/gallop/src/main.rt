@@ -1,38 +1,33 @@
-// The program: one request a line on standard input, one answer a line on standard output.
+// The program: one request a line on standard input, one answer a line on standard output. All its buffers are arrays, so that there is no memory that it can run
+// out of.
 #![tactic(auto)]
 
 mod answers;
-mod doubles;
-mod kept;
-mod lines;
+mod buffers;
+mod engines;
+mod input;
 mod requests;
-mod residues;
 mod runs;
-mod verbs;
 
-use lines::{Line, Waiting};
+use answers::Answer;
+use input::Input;
+use runs::Memories;
 use std::io;
-use text::fields;
+use std::io::Print;
 
-// Nothing says that the input ends, so the lines are counted down from a number that no run uses up.
+// Nothing says that the input ends, so the lines are counted up to a number that no run reaches.
 fn main(rt: HostRuntime) -> io::Result<()> {
-    let mut input = rt.stdin();
     let output = rt.stdout();
-    let mut read = [0u8; lines::READ_AT_ONCE];
-    let mut line = [0u8; fields::MAX_LINE];
-    let mut out = [0u8; answers::MAX_ANSWER];
-    let mut waiting = Waiting { at: 0, end: 0 };
-    let mut left = u64::MAX;
-    while 0 < left {
-        match lines::next_line(&mut input, &mut read, &mut line, waiting)? {
-            Line::End => return Ok(()),
-            Line::Is(length, rest) => {
-                let used = requests::answer_line(&line, length, &mut out);
-                answers::send(&output, &out, used)?;
-                waiting = rest;
-            }
-        }
-        left -= 1;
+    let mut input = Input::new(rt.stdin());
+    let mut room = [0u8; input::LINE_ROOM];
+    let mut memory = Memories::new();
+    let mut answer = Answer::new();
+    for _ in 0..u64::MAX {
+        let Some(line) = input.next_line(&mut room)? else {
+            break;
+        };
+        requests::answer_line(line, &mut memory, &mut answer);
+        output.write_all(answer.bytes())?;
     }
     Ok(())
 }

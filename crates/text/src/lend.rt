@@ -1,5 +1,8 @@
-// The program's buffers: how long they are, and how much of one is lent.
-ghost use Rattle.std.specs.Prelude.{◌≤◌, length};
+// The program's buffers: how long they are, and how much of each a request asks to be lent.
+ghost use Rattle.std.specs.Prelude.{◌≤◌};
+ghost use Rattle.text.specs.declared.lend.TheConstants.{PLACES, TABLE_WORDS};
+
+use super::fields::{BadLine, End, Fields};
 
 // More than the largest sheet, 2,147 words, and the largest table, 20,485, so that the library refuses and not the program.
 pub const SHEET_WORDS: usize = 4_096;
@@ -9,36 +12,53 @@ pub const TABLE_WORDS: usize = 32_768;
 // Places of each stack, and of a result.
 pub const PLACES: usize = 4_096;
 
-// As much as is asked for, or all that there is.
-pub fn lent(asked: u64, has: usize) -> usize
-    ensures { result ≤ has }
-{
-    if asked < has as u64 {
-        return asked as usize;
-    }
-    has
+// Which buffers a verb lends. Its line gives their lengths in this order: the table's, both stacks', the result's.
+#[derive(Clone, Copy)]
+pub enum Lends {
+    Nothing,
+    Table,
+    Result,
+    TableAndResult,
+    All,
 }
 
-// The start of a buffer, `count` long, or all of it where it is shorter.
-pub fn first_bytes(buffer: &[u8], count: usize) -> &[u8]
-    ensures { length result.now ≤ count }
-{
-    if count <= buffer.len() {
-        return &buffer[..count];
-    }
-    buffer
+const MOST_LENGTHS: usize = 4;
+
+// How much of each buffer is lent, 0 of one that the verb doesn't lend.
+#[derive(Clone, Copy)]
+pub struct Lent {
+    pub room: usize,
+    pub values: usize,
+    pub turns: usize,
+    pub result: usize,
+    ghost room_is_there: { room ≤ TABLE_WORDS },
+    ghost values_fit: { values ≤ PLACES },
+    ghost turns_fit: { turns ≤ PLACES },
+    ghost result_fits: { result ≤ PLACES },
 }
 
-pub fn first_words(buffer: &[u16], count: usize) -> &[u16] {
-    if count <= buffer.len() {
-        return &buffer[..count];
+impl Lent {
+    // As much as is asked for, or all that there is.
+    fn of(room: usize, values: usize, turns: usize, res: usize) -> Lent {
+        Lent {
+            room: room.min(TABLE_WORDS),
+            values: values.min(PLACES),
+            turns: turns.min(PLACES),
+            result: res.min(PLACES),
+        }
     }
-    buffer
-}
 
-pub fn first_numbers(buffer: &[u64], count: usize) -> &[u64] {
-    if count <= buffer.len() {
-        return &buffer[..count];
+    pub fn read(fields: &mut Fields, lends: Lends) -> Result<Lent, BadLine> {
+        let mut into = [0usize; MOST_LENGTHS];
+        match (lends, fields.numbers(End::Slash, &mut into)?) {
+            (Lends::Nothing, []) => Ok(Lent::of(0, 0, 0, 0)),
+            (Lends::Table, [room]) => Ok(Lent::of(*room, 0, 0, 0)),
+            (Lends::Result, [res]) => Ok(Lent::of(0, 0, 0, *res)),
+            (Lends::TableAndResult, [room, res]) => Ok(Lent::of(*room, 0, 0, *res)),
+            (Lends::All, [room, values, turns, res]) => {
+                Ok(Lent::of(*room, *values, *turns, *res))
+            }
+            _ => Err(BadLine),
+        }
     }
-    buffer
 }

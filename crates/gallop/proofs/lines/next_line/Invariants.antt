@@ -1,8 +1,0 @@
--- `gallop::lines::next_line` is safe and ends. The measure is the number of turns that are left.
-use Rattle.gallop.proofs.lines.next_line.Given as goal
-
-abbrev pub invariant-loop-left : goal.invariant-loop-left
-invariant-loop-left l = Unit {0}
-
-abbrev pub decreases-loop-left : goal.decreases-loop-left
-decreases-loop-left l = l.left

@@ -1,0 +1,142 @@
+// The numbers of a line as the calls take them: lengths, words and residues in decimal, doubles by their bits in hexadecimal.
+use super::fields::BadLine;
+use std::num::TryFromIntError;
+use std::{fmt, num};
+
+// A number as a field writes it.
+pub trait Number: Copy {
+    const ZERO: Self;
+
+    fn read(field: &[u8]) -> Result<Self, BadLine>;
+}
+
+// A number that a lent buffer holds.
+pub trait Cell: Number {
+    // What a buffer holds at a place with this stamp before a call.
+    fn stamped(stamp: u16) -> Self;
+
+    // The number as 64 bits: of a double its own.
+    fn bits(self) -> u64;
+
+    // As a field reads it.
+    fn write<W: fmt::Write>(self, out: &mut W) -> fmt::Result {
+        write!(out, "{}", self.bits())
+    }
+}
+
+impl From<TryFromIntError> for BadLine {
+    fn from(_e: TryFromIntError) -> BadLine {
+        BadLine
+    }
+}
+
+const DECIMAL: u64 = 10;
+
+const HEXADECIMAL: u64 = 16;
+
+// A double's bits in hexadecimal.
+const BITS_DIGITS: usize = 16;
+
+// By hand, as std's `to_digit` and `from_str_radix` take capital letters too, and a plus sign, and no line may have either.
+fn digit(byte: u8, base: u64) -> Result<u64, BadLine> {
+    match byte {
+        b'0'..=b'9' => Ok(u64::from(byte - b'0')),
+        b'a'..=b'f' if base == HEXADECIMAL => Ok(DECIMAL + u64::from(byte - b'a')),
+        _ => Err(BadLine),
+    }
+}
+
+// A number beyond 64 bits counts as the largest one.
+fn number_in(base: u64, field: &[u8]) -> Result<u64, BadLine> {
+    let mut number: u64 = 0;
+    for byte in field {
+        number = number
+            .saturating_mul(base)
+            .saturating_add(digit(*byte, base)?);
+    }
+    Ok(number)
+}
+
+fn decimal(field: &[u8]) -> Result<u64, BadLine> {
+    if field.is_empty() {
+        return Err(BadLine);
+    }
+    number_in(DECIMAL, field)
+}
+
+// The three in decimal have an impl each: one for all that have `TryFrom<u64>` would need a bound for the zero too, and is no shorter.
+impl Number for usize {
+    const ZERO: usize = 0;
+
+    fn read(field: &[u8]) -> Result<usize, BadLine> {
+        Ok(usize::try_from(decimal(field)?)?)
+    }
+}
+
+impl Number for u16 {
+    const ZERO: u16 = 0;
+
+    fn read(field: &[u8]) -> Result<u16, BadLine> {
+        Ok(u16::try_from(decimal(field)?)?)
+    }
+}
+
+impl Cell for u16 {
+    fn stamped(stamp: u16) -> u16 {
+        stamp
+    }
+
+    fn bits(self) -> u64 {
+        u64::from(self)
+    }
+}
+
+impl Number for u32 {
+    const ZERO: u32 = 0;
+
+    fn read(field: &[u8]) -> Result<u32, BadLine> {
+        Ok(u32::try_from(decimal(field)?)?)
+    }
+}
+
+// What the stamps of residues are added to.
+const RESIDUES: u32 = 0x8000_0000;
+
+impl Cell for u32 {
+    fn stamped(stamp: u16) -> u32 {
+        RESIDUES | u32::from(stamp)
+    }
+
+    fn bits(self) -> u64 {
+        u64::from(self)
+    }
+}
+
+impl Number for f64 {
+    const ZERO: f64 = 0.0;
+
+    fn read(field: &[u8]) -> Result<f64, BadLine> {
+        if field.len() == BITS_DIGITS {
+            return Ok(num::f64_from_bits_with_nan(number_in(HEXADECIMAL, field)?));
+        }
+        Err(BadLine)
+    }
+}
+
+// What the stamps of doubles are added to, the bits of 2: every sum is a finite double's.
+const DOUBLES: u64 = 0x4000_0000_0000_0000;
+
+impl Cell for f64 {
+    fn stamped(stamp: u16) -> f64 {
+        num::f64_from_bits_with_nan(DOUBLES | u64::from(stamp))
+    }
+
+    // All NaNs are one.
+    fn bits(self) -> u64 {
+        num::f64_to_bits_with_nan(self)
+    }
+
+    fn write<W: fmt::Write>(self, out: &mut W) -> fmt::Result {
+        write!(out, "{:016x}", self.bits())
+    }
+}
