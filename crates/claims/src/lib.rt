@@ -14,6 +14,8 @@ ghost use Rattle.claims.specs.Tangents.{TangentWriteExactly, TangentMeets, Tange
 ghost use Rattle.claims.specs.Balance.{weighed_of, BalanceMeets};
 ghost use Rattle.claims.specs.Inner.Summing.{dot_of, HalvesLong, sums_of, sums_if_done};
 
+use number::residue;
+
 // What both runs answer, and 02 §5's two sums.
 #[derive(Clone, Copy)]
 struct Sums {
@@ -111,10 +113,8 @@ fn dot(ones: &[u32], others: &[u32]) -> u32
     ensures { result ≡ dot_of ones.now others.now }
 {
     let mut sum: u32 = 0;
-    let mut i: usize = 0;
-    while i < ones.len() {
-        sum = number::residue::sum(sum, number::residue::product(ones[i], others[i]));
-        i += 1;
+    for i in 0..ones.len() {
+        sum = residue::sum(sum, residue::product(ones[i], others[i]));
     }
     sum
 }

@@ -25,7 +25,7 @@ use Rattle.machine.specs.Actions.{through, stuck, Memory, Setting, count_kept, S
 use Rattle.machine.specs.Machine.{its_else, its_end, one_more, seek, seek_close, Repeat, back_to, State, Step, step, step_at, go_to, jump, after_test, after_turn, pending, loop_ends, asked, on_count}
 use Rattle.machine.specs.Inner.RowAnswers.{height_after, branch_of, turn_of, height_branched}
 use Rattle.machine.specs.Inner.Buffers.{stack_of, Stack, Buffers, memory_of, Sound, Tests, Compares, TakesTurn}
-use Rattle.machine.specs.Inner.RowsHanded.{Compared, Indexes, Arrives, Jumps}
+use Rattle.machine.specs.Inner.RowsHanded.{Arrives, Jumps}
 use Rattle.machine.specs.Inner.RowSteps.{stuck_there, note_of, Opened, Pushes, Opens, Closes, is_under_way, turns_left, loops_around, Pends, KeptAs, KeepsCount, JumpsTo, BranchesTo, TurnsTo, CrossedLeft, CrossedSays, BlockRow, CrossesBy, StepsTo, EndsLoop, AsksLoop, OnCount}
 use Rattle.machine.specs.Inner.RowSteps.{buffers_at, state_at, raised, within, moved, following, preceding, MeetsRow, AsksLess, AsksRow, Meets, Stays, Blocked}
 use Rattle.machine.specs.Inner.Buffers.{Cells, cells_of}
@@ -86,25 +86,6 @@ module _ {table : List ℕ} {rows : ℕ} {place next : Place} {row : Row} {left 
     (follows : next ≡ following place (place.at.0 + 1) left) where
   pub meets_row : MeetsRow table rows place row next
   meets_row = record { follows = record { left = left; is = follows; spends = spends }; within = within; said = said }
-
--- the operands of what a row at a place asks are there
-module _ {table : List ℕ} {rows variables : ℕ} (place : Place) {next : Place} {met : Met} {row : RowWords} (meets : Meets table rows place met)
-    (is : met ≡ met_as.Ask row next)
-    (indexes : Indexes table rows variables) where
-  operands_there : (row.a < variables) × (row.b < variables)
-  operands_there =
-      let (there, kind) = rw is at meets in
-      by_kind (rw (sym there.said) at (indexes.indexed.compared place.at.0 there.within)) kind
-    where
-      by_kind : Compared variables (row_said row) → AsksLess row.kind → (row.a < variables) × (row.b < variables)
-      by_kind compared (inl if_kind) = (compared.first if_kind, compared.second if_kind)
-      by_kind compared (inr loop_kind) = (compared.first_asked loop_kind, compared.second_asked loop_kind)
-
-  pub first_there : row.a < variables
-  first_there = operands_there.0
-
-  pub second_there : row.b < variables
-  second_there = operands_there.1
 
 -- ---- where a jump's code goes
 

@@ -7,9 +7,7 @@ use mathlib.Core.List.{List, []}
 use mathlib.Core.Option.{some}
 use native.Mathlib.Omega.{arith}
 use lib.ListN.{length, set}
-use lib.Ieee.{Float}
 use Rattle.number.specs.Arithmetic.{Arithmetic}
-use Rattle.number.specs.Doubles.{doubles}
 use Rattle.number.specs.Answers.{outcome_of}
 use Rattle.sheet.specs.Rows.{Row, Source, ◌≔◌, copy, sum}
 use Rattle.sheet.specs.Answers.{row_said}

@@ -1,7 +1,6 @@
 -- Row 17 as one loop: a turn of it copies one value out and sets one adjoint.
 use Prim.Native.Nat.{ℕ, ◌+◌, ◌*◌, ◌≤◌, ◌<◌}
-use Rattle.std.specs.Prelude.{Result, Ok, Err}
-use Rattle.machine.specs.Inner.RowAnswers.{is_stuck}
+use Rattle.std.specs.Prelude.{Ok}
 use mathlib.Core.Path.{◌≡◌, refl, sym, ap, ◌∙◌}
 use mathlib.Core.Bool.{cond}
 use mathlib.Core.List.{List, [], ◌++◌, append-nil}
@@ -9,7 +8,7 @@ use native.Mathlib.Nat.{zero-add}
 use native.Mathlib.Numerals.{add-one}
 use native.Mathlib.Omega.{arith}
 use lib.ListN.{length, get_or, take, drop, set, length-append, get_or-append, drop_of_length-le}
-use lib.Seq.{paste, paste-zero, paste-suc, length-paste, get_or-take, take_all, length-take-le}
+use lib.Seq.{paste, paste-suc, length-paste, get_or-take, take_all, length-take-le}
 use Rattle.number.specs.Arithmetic.{Arithmetic}
 use Rattle.sheet.specs.Rows.{is_dependent}
 use Rattle.machine.specs.Actions.{seeded, turned_round, acted}
@@ -22,10 +21,6 @@ module _ (A : Arithmetic) where
     pub record Copying (i : ℕ) (store_now copied_now : List A.Carrier) : Type 0 where
       pub store_is : store_now ≡ paste store (length roles) (seeded A roles seeds) i
       pub copied_is : copied_now ≡ paste copied 0 store i
-
-    copying_starts : Copying 0 store copied
-    copying_starts =
-        record { store_is = paste-zero store (length roles) (seeded A roles seeds); copied_is = paste-zero copied 0 store }
 
     module _ (sizes : RoundSizes A roles seeds store copied) where
       copying_store_length : {i : ℕ} {s c : List A.Carrier} → i ≤ length roles → Copying i s c → length s ≡ length store
@@ -53,18 +48,18 @@ module _ (A : Arithmetic) where
           ∙ get_or-append (take v store) adjoints z j (omega arith)
           ∙ get_or-take v store j z h
 
-      copying_goes_on : (i : ℕ) (s c : List A.Carrier) (z : A.Carrier) → i < length roles → Copying i s c
-          → Copying (i + 1) (set s (length roles + i) (cond (is_dependent (get_or roles i 0)) (get_or seeds i z) A.zero)) (set c i (get_or s i z))
-      copying_goes_on i s c z h now =
+      copying_goes_on : (i : ℕ) (s c : List A.Carrier) (y z : A.Carrier) → i < length roles → Copying i s c
+          → Copying (i + 1) (set s (length roles + i) (cond (is_dependent (get_or roles i 0)) (get_or seeds i y) A.zero)) (set c i (get_or s i z))
+      copying_goes_on i s c y z h now =
           let v = length roles in
           let enough = sizes.store_fits in
           let room = sizes.copied_fits in
           let there : i < length seeds = rw sizes.seeds_fit h in
-          let seed : cond (is_dependent (get_or roles i 0)) (get_or seeds i z) A.zero ≡ get_or (seeded A roles seeds) i z =
-          sym (counting_at A is_dependent roles seeds i z h there) in
+          let seed : cond (is_dependent (get_or roles i 0)) (get_or seeds i y) A.zero ≡ get_or (seeded A roles seeds) i y =
+          sym (counting_at A is_dependent roles seeds i y h there) in
           rw (add-one i, seed, now.store_is, now.copied_is, original_kept i i z h)
           (record {
-            store_is = paste-suc store v (seeded A roles seeds) i z (omega arith) (rw (counting_length A is_dependent roles seeds) h);
+            store_is = paste-suc store v (seeded A roles seeds) i y (omega arith) (rw (counting_length A is_dependent roles seeds) h);
             copied_is =
                 ap (λ n. set (paste copied 0 store i) n (get_or store i z)) (sym (zero-add i))
                 ∙ paste-suc copied 0 store i z (omega arith) (omega arith);
@@ -110,21 +105,14 @@ module _ (A : Arithmetic) where
 -- ---- the code's loop
 
 module _ {A : Arithmetic} {roles : List ℕ} {seeds store copied : List A.Carrier} where
-  -- no turn at all
-  pub round_refused : (RoundSizes A roles seeds store copied → ⊥) → TurnsRound A roles seeds store copied store copied (Err is_stuck)
-  round_refused not = record { round = λ sizes. absurd (not sizes); refused = λ _. (refl, refl, refl) }
-
-  pub turning_starts : RoundSizes A roles seeds store copied → Turning A roles seeds store copied 0 store copied
-  turning_starts sizes =
-      record { within = omega arith; sizes = sizes; store_length = refl; copied_length = refl; copying = copying_starts A roles seeds store copied }
-
   module _ {i : ℕ} {s c : List A.Carrier} (now : Turning A roles seeds store copied i s c) where
-    pub turning_goes_on : {x : A.Carrier} (z : A.Carrier) → i < length roles → x ≡ cond (is_dependent (get_or roles i 0)) (get_or seeds i z) A.zero
-        → Turning A roles seeds store copied (i + 1) (set s (length roles + i) x) (set c i (get_or s i z))
-    turning_goes_on z h is =
+    pub turning_goes_on : {x seed original : A.Carrier} → i < length roles → original ≡ get_or s i original → seed ≡ get_or seeds i seed
+        → x ≡ cond (is_dependent (get_or roles i 0)) seed A.zero
+        → Turning A roles seeds store copied (i + 1) (set s (length roles + i) x) (set c i original)
+    turning_goes_on {x} {seed} {original} h original_is seed_is is =
         let next : i + 1 ≤ length roles = omega arith in
         let sizes = now.sizes in
-        let copying = rw (sym is) at (copying_goes_on A roles seeds store copied sizes i s c z h now.copying) in
+        let copying = rw (← seed_is, ← original_is, ← is) at (copying_goes_on A roles seeds store copied sizes i s c seed original h now.copying) in
         record {
           within = next;
           sizes = sizes;

@@ -25,7 +25,7 @@ use Rattle.machine.specs.Inner.RowAnswers.{branch_of, turn_of, height_branched}
 use Rattle.machine.specs.Inner.Buffers.{Buffers, memory_of, Sound, Does, InBoth, Assigns, Clears, MovesValues, SavesTurn, Compares, TakesTurn, stack_of}
 use Rattle.machine.specs.Inner.RowSteps.{PutAway, KeepsCount}
 use Rattle.machine.specs.declared.Branch.{Branch}
-use Rattle.machine.proofs.PlaceLaws.{place_there, look_there}
+use Rattle.machine.proofs.PlaceLaws.{place_there, look_there, look_read}
 use Rattle.machine.proofs.StackLaws.{stack_length, stack_top, stack_pushed, stack_below, pushed_on, taken_off}
 
 pub in_both : {P : Arithmetic → Type 0} → ((A : Arithmetic) → P A) → InBoth P
@@ -105,13 +105,12 @@ module _ {A : Arithmetic} where
     -- ---- kind 12
 
     module _ {values : List A.Carrier} {height : ℕ} where
-      pub save_goes : (z : A.Carrier) → d < length store → height < length values
-          → MovesValues A (save d) store values height store (set values height (get_or store d z)) (Ok (height + 1))
+      pub save_goes : {x : A.Carrier} → x ≡ get_or store d x → d < length store → height < length values
+          → MovesValues A (save d) store values height store (set values height x) (Ok (height + 1))
       unfolding acted
-      save_goes z here room =
+      save_goes {x} read here room =
           record {
             does = λ setting turns turn_height copied sound.
-                let x = get_or store d z in
                 let fits : length (stack_of height values) < setting.value_room =
                 rw (stack_length height values sound.values.within, sound.value_room) room in
                 rw (add-one height)
@@ -122,7 +121,7 @@ module _ {A : Arithmetic} where
                   value_room = rw length-set sound.value_room;
                   turn_room = sound.turn_room;
                 })
-                (rw (look_there store d z here, lt-ltb _ _ fits, stack_pushed height values x room)));
+                (rw (look_read store d x here read, lt-ltb _ _ fits, stack_pushed height values x room)));
           }
 
       pub save_full : d < length store → length values ≤ height → MovesValues A (save d) store values height store values (Err is_stuck)
@@ -155,23 +154,16 @@ module _ {A : Arithmetic} where
           }
 
       -- the height is one above the place that is taken back
-      pub take_back_goes : {height top : ℕ} {zero : A.Carrier} (z : A.Carrier) → zero ≡ A.zero → height ≡ suc top → d < length store → top < length values
-          → MovesValues A (take_back d) store values height (set store d (get_or values top z)) (set values top zero) (Ok top)
-      take_back_goes {top = top} z cleared is here there = rw (cleared, is) (take_back_top top z here there)
+      pub take_back_goes : {height top : ℕ} {x zero : A.Carrier} → x ≡ get_or values top x → zero ≡ A.zero → height ≡ suc top
+          → d < length store
+          → top < length values
+          → MovesValues A (take_back d) store values height (set store d x) (set values top zero) (Ok top)
+      take_back_goes {top = top} {x = x} read cleared is here there = rw (cleared, is, read) (take_back_top top x here there)
 
       module _ {height : ℕ} where
         pub take_back_empty : height ≡ 0 → MovesValues A (take_back d) store values height store values (Err is_stuck)
         unfolding acted
         take_back_empty is = record { does = λ setting turns turn_height copied sound. sticks setting (take_back d) _ sound (rw is) }
-
-        -- a sound stack is never higher than its cells
-        pub take_back_above : length values < height → MovesValues A (take_back d) store values height store values (Err is_stuck)
-        take_back_above h =
-            record {
-              does = λ setting turns turn_height copied sound.
-                  let within = sound.values.within in
-                  absurd (omega arith);
-            }
 
   -- ---- a word onto the turn stack, whatever it stands for
 
@@ -256,19 +248,17 @@ module _ {A : Arithmetic} where
             record { meaning = rw keeps; sound = sound; unchanged = λ stuck_there. cc };
       }
 
-  -- ---- the operands of kind 7
-
   -- ---- kind 7
 
   module _ {a b : ℕ} {store : List A.Carrier} where
-    pub compares : {picked : Branch} (z : A.Carrier) → a < length store → b < length store
-        → branch_of picked ≡ some (A.less (get_or store a z) (get_or store b z))
+    pub compares : {picked : Branch} {x y : A.Carrier} → x ≡ get_or store a x → y ≡ get_or store b y → a < length store → b < length store
+        → branch_of picked ≡ some (A.less x y)
         → Compares A a b store picked
     unfolding tested compared
-    compares z first second picks =
+    compares {x = x} {y = y} first_is second_is first second picks =
         record {
           tests = λ setting values height turns turn_height copied sound.
-              record { meaning = rw (picks, place_there store a z first, place_there store b z second); sound = sound; unchanged = λ _. refl };
+              record { meaning = rw (picks, place_there store a x first, place_there store b y second, ← first_is, ← second_is); sound = sound; unchanged = λ _. refl };
         }
 
   -- ---- kind 15

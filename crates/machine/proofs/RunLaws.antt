@@ -176,16 +176,6 @@ module _ {A : Arithmetic} (task : Task A) where
             };
       })
 
-  pub inner_starts : {until : ℕ} (place : Place) (cells : Cells A) (bodies to_come : List ℕ) → Reaches until task.rows place
-      → Inner until place cells place cells bodies to_come
-  inner_starts place cells bodies to_come reaches =
-      record {
-        lengths = record { store = refl; values = refl; turns = refl; copied = refl };
-        reaches = reaches;
-        fewer = omega arith;
-        still = λ first now. now;
-      }
-
   module _ (first : Cells A) (setting : Setting A) (lines : List TableLine) (start : Memory A) (place : Place) (cells : Cells A) (bodies to_come : List ℕ)
       (now : Running first setting lines start place cells bodies to_come) where
     abbrev state : State A
@@ -365,9 +355,6 @@ module _ {A : Arithmetic} (task : Task A) where
       pub straight_fewer : next.left < place.left
       straight_fewer = omega (arith, (rw is at straight).left)
 
-      pub straight_reaches : until ≤ next.at.0 + next.left
-      straight_reaches = let goes = rw is at straight in omega (arith, goes.left, goes.at, inner.reaches)
-
       pub inner_goes : SameLengths cells after → Inner until began cells_then next after bodies to_come
       inner_goes kept =
           let goes = rw is at straight in
@@ -402,9 +389,6 @@ module _ {A : Arithmetic} (task : Task A) where
 
       module _ {turns_after bodies_after to_come_after : List ℕ} {crossing : Result Place Ended}
           (block : Block place after bodies to_come turns_after bodies_after to_come_after crossing) where
-        pub block_fewer : {next : Place} → crossing ≡ Ok next → next.left < began.left
-        block_fewer is = omega (arith, (rw is at block).left, inner.fewer)
-
         pub block_goes : {next : Place} → answer ≡ acted.Block → crossing ≡ Ok next
             → SameLengths cells (cells_of A after.store after.values turns_after after.copied)
             → Invariant first next (cells_of A after.store after.values turns_after after.copied) bodies_after to_come_after

@@ -1,26 +1,23 @@
 -- A straight row's code as one step of the machine: what is read at a place, and then over the arithmetic.
-use Prim.Native.Nat.{ℕ, zero, suc, ◌+◌, ◌*◌, ◌≤◌, ◌<◌}
+use Prim.Native.Nat.{ℕ, zero, suc, ◌+◌, ◌*◌, ◌<◌}
 use Rattle.std.specs.Prelude.{Result, Ok, Err}
 use Rattle.machine.specs.declared.Stuck.{Stuck}
 use mathlib.Core.Path.{◌≡◌, refl, sym, ap, ◌∙◌, subst}
 use mathlib.Core.Bool.{Bool}
 use mathlib.Core.Logic.{◌⊎◌, inl, inr}
 use mathlib.Core.List.{List, [], ◌∷◌}
-use mathlib.Core.Option.{Option, none, some}
+use mathlib.Core.Option.{none, some}
 use native.Mathlib.Omega.{arith}
 use native.Mathlib.Numerals.{add-one}
-use lib.ListN.{length, drop, get_elem?, drop_of_length-le}
+use lib.ListN.{length, drop}
 use lib.Dec.{eqb}
-use lib.Ieee.{Float}
-use Rattle.number.specs.Arithmetic.{Arithmetic, over}
-use Rattle.number.specs.Doubles.{doubles}
-use Rattle.number.specs.Residues.{residues}
+use Rattle.number.specs.Arithmetic.{Arithmetic}
 use Rattle.sheet.specs.Bounds.{limit}
 use Rattle.sheet.specs.Tree.{basic}
 use Rattle.sheet.specs.Rows.{Source, quotient, ◌≔◌, Row, row_of, quotient_kind}
 use Rattle.sheet.specs.Sheets.{row_at}
 use Rattle.table.specs.TableRows.{Action, assign, save, take_back, save_turn, clear, turn_round, TableLine, TableRow, row_of_action, table_row_of}
-use Rattle.machine.specs.Actions.{Attempt, through, halted, stuck, ◌>>=◌, from_outcome, present, Memory, Setting, Try, stopping_at, evaluated, acted}
+use Rattle.machine.specs.Actions.{Attempt, through, halted, stuck, Memory, Setting, Try, stopping_at, evaluated, acted}
 use Rattle.machine.specs.Inner.RowAnswers.{whether_went, whether_did, whether_moved, height_after}
 use Rattle.machine.specs.Machine.{Repeat, Step, step, step_at, after_action, go_to}
 use Rattle.machine.specs.Inner.Buffers.{Buffers, Cells, cells_of, memory_of, Sound, Does, Assigns, MovesValues, SavesTurn, Clears, RoundSizes, TurnsRound}
@@ -52,12 +49,6 @@ stands_there (line ∷ lines) (suc at) h =
 
 heads : (line other : TableLine) (rest more : List TableLine) → line ∷ rest ≡ other ∷ more → line ≡ other
 heads line other rest more is = cc
-
-none_beyond : (lines : List TableLine) (at : ℕ) → length lines ≤ at → NoneStraight at lines
-none_beyond lines at h row rest is =
-    let none_there = drop_of_length-le lines {i = at} h in
-    let z : ◌≡◌ {A = ℕ} 0 1 = cc in
-    omega arith
 
 -- its row's words are those in the table
 pub words_there : (table : List ℕ) (lines rest : List TableLine) (line : TableLine) (at : ℕ) (row : Row) → Holds table lines
@@ -282,19 +273,6 @@ module _ {A : Arithmetic} where
         (omega arith, subst (λ (s : Step A). Blocked A s) (sym stays) tt, stays_there height turn_height held (does.unchanged stuck_apart))
 
   module _ {table : List ℕ} {until : ℕ} {roles constants : List ℕ} {seeds : List A.Carrier} {place : Place} where
-    pub straight_over : {cells : Cells A} → until ≤ place.at.0 → StraightRow A table until roles constants seeds place cells cells acted_as.Block
-    straight_over over =
-        record {
-          left = tt;
-          at = tt;
-          steps = λ setting lines repeats former holds reaches suits sizes sound.
-              record {
-                held = former;
-                says = (λ some_left. none_beyond lines place.at.0 (omega arith), refl, refl);
-                copies = inl (refl, refl);
-              };
-        }
-
     pub straight_acts : {before after : Cells A} {answer : Acted} {words : Row} {to : Place} {left : ℕ}
         → place.left ≡ suc left
         → place.at.0 < until

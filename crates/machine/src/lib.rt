@@ -1,6 +1,6 @@
 // The row machine's code in which no arithmetic has a part: places, what stands at a place of a table, the rows of blocks, the turn stack; and what
-// rows answer in either arithmetic. Each row's code is held against its written meaning (specs/Actions.antt), a run of rows, in `double_rows` and
-// `residue_rows`, against the machine's steps (specs/Machine.antt). Where a stack ends, a ninth repeat would open or no jump is noted, the answer is Stuck.
+// rows answer in either arithmetic. Each row's code is held against its written meaning (specs/Actions.antt), a run of rows, in `runner`,
+// against the machine's steps (specs/Machine.antt). Where a stack ends, a ninth repeat would open or no jump is noted, the answer is Stuck.
 #![tactic(auto)]
 
 ghost use Rattle.std.specs.Prelude.{◌≡◌};

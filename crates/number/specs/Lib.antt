@@ -3,3 +3,4 @@ pub mod Arithmetic
 pub mod Doubles
 pub mod Residues
 pub mod Answers
+pub mod Sizes

@@ -1,5 +1,6 @@
 // Doubles: each operation rounded once, and a stop where the result isn't finite.
 ghost use Rattle.std.specs.Prelude.{◌≡◌};
+ghost use Rattle.std.proofs.Common.{lit<};
 ghost use Rattle.std.proofs.Math.Option.{some};
 ghost use Rattle.number.specs.Arithmetic.{operations_of, over};
 ghost use Rattle.number.specs.Answers.{outcome_of, why_not_finite, is_doubles};
@@ -82,4 +83,6 @@ impl Number for f64 {
     fn divides() -> bool {
         true
     }
+
+    ghost takes_little = { lit< tt };
 }

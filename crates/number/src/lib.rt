@@ -3,6 +3,7 @@
 #![tactic(auto)]
 
 ghost use Rattle.std.specs.Prelude.{◌≡◌};
+ghost use Rattle.number.specs.Sizes.{TakesLittle};
 ghost use Rattle.number.specs.Arithmetic.{Operations, arithmetic_on, over, divides, signed};
 ghost use Rattle.number.specs.Answers.{outcome_of, outcome_if_any, Known};
 
@@ -63,4 +64,6 @@ pub trait Number: Copy {
 
     fn divides() -> bool
         ensures { result ≡ divides (arithmetic_on operations) };
+
+    ghost takes_little: { TakesLittle Self.row };
 }

@@ -1,6 +1,7 @@
 // Residues modulo 2^32: an operation on u32 goes through u64, where nothing wraps, and is reduced once. No operation stops, and none divides.
 ghost use Rattle.std.specs.Prelude.{◌≡◌};
-ghost use Rattle.number.specs.Arithmetic.{operations_of};
+ghost use Rattle.std.proofs.Common.{lit<};
+ghost use Rattle.number.specs.Arithmetic.{operations_of, value};
 ghost use Rattle.number.specs.Answers.{why_never, is_residues};
 ghost use Rattle.number.specs.Residues.{residue, opposite, residues};
 
@@ -12,6 +13,18 @@ fn reduced(n: u64) -> u32
     ensures { result ≡ residue n }
 {
     (n % MODULUS) as u32
+}
+
+pub fn sum(x: u32, y: u32) -> u32
+    ensures { value result ≡ residues.sum x y }
+{
+    reduced(x as u64 + y as u64)
+}
+
+pub fn product(x: u32, y: u32) -> u32
+    ensures { value result ≡ residues.product x y }
+{
+    reduced(x as u64 * y as u64)
 }
 
 pub fn opposite(x: u32) -> u32
@@ -32,7 +45,7 @@ impl Number for u32 {
     ghost known = { is_residues };
 
     fn sum(self, other: u32) -> Result<u32, Never> {
-        Ok(reduced(self as u64 + other as u64))
+        Ok(sum(self, other))
     }
 
     fn difference(self, other: u32) -> Result<u32, Never> {
@@ -40,7 +53,7 @@ impl Number for u32 {
     }
 
     fn product(self, other: u32) -> Result<u32, Never> {
-        Ok(reduced(self as u64 * other as u64))
+        Ok(product(self, other))
     }
 
     fn negation(self) -> Result<u32, Never> {
@@ -70,4 +83,6 @@ impl Number for u32 {
     fn divides() -> bool {
         false
     }
+
+    ghost takes_little = { lit< tt };
 }

@@ -71,10 +71,10 @@ pub fn tangent_plain(words: &[u16], starts: &[f64], rates: &[f64], res: &mut [f6
         Err(why) => return Reply::from(why),
     };
     if let Err(why) = refusals::lengths_fit(shape.variables, starts.len(), rates.len(), res.len()) {
-        return refusals::answer_no(why);
+        return Reply::from(why);
     }
-    if let Err(why) = refusals::all_admitted(starts, rates) {
-        return refusals::answer_no(why);
+    if let Err(why) = refusals::all_finite(starts, rates) {
+        return Reply::from(why);
     }
     carry(words, shape, &marks, &goes, starts, rates, res)
 }

@@ -1,7 +1,7 @@
 -- From what the runner leaves to what a call answers and leaves, of any table, start and result.
 use Prim.Native.Nat.{ℕ, suc, ◌-◌, ◌≤◌}
 use mathlib.Core.Path.{◌≡◌, refl, sym, ap, ◌∙◌}
-use mathlib.Core.Logic.{◌⊎◌}
+use mathlib.Core.Logic.{◌⊎◌, inl, inr}
 use mathlib.Core.Bool.{Bool}
 use mathlib.Core.List.{List, []}
 use native.Mathlib.Omega.{arith}
@@ -26,6 +26,26 @@ use Rattle.run.specs.Inner.CallSteps.{answer_at, result_at}
 use Rattle.run.specs.Inner.CallAnswers.{Ready, RunRoom, StacksCleared, RanTo}
 use Rattle.run.proofs.RunEnds.{ends_like}
 use Rattle.run.proofs.OpenRepeats.{table_shallow}
+
+-- an answer by its number and its place
+pub replied : {answer : Reply} {number place : ℕ} → (answer.number ≡ number) × (answer.place ≡ place) → answer ≡ record { number = number; place = place }
+replied (number, place) = λ i. record { number = number i; place = place i }
+
+-- what is answered where no step is left, or none can be done
+pub answered_stuck : {end : Ended} {answer : Reply} → (end ≡ ended_as.Stuck) ⊎ (end ≡ ended_as.Unfinished)
+    → answer ≡ record { number = 65535; place = 0 }
+    → answer ≡ answer_at end
+unfolding answer_at
+answered_stuck (inl is) answers = rw is answers
+answered_stuck (inr is) answers = rw is answers
+
+-- the result where the run hasn't finished
+pub result_kept : {X : Type 0} (end : Ended) (finished : List X) {before : List X} → (end ≡ ended_as.Finished → ⊥) → before ≡ result_at end finished before
+unfolding result_at
+result_kept ended_as.Finished finished apart = absurd (apart refl)
+result_kept (ended_as.Stopped row) finished apart = refl
+result_kept ended_as.Stuck finished apart = refl
+result_kept ended_as.Unfinished finished apart = refl
 
 -- a table that the runner has room for its open repeats and steps enough for
 pub record Runnable (its : Table) : Type 0 where

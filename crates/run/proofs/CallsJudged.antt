@@ -2,7 +2,7 @@
 use Prim.Native.Nat.{ℕ}
 use Rattle.run.specs.declared.Unfit.{Unfit}
 use Rattle.sheet.specs.declared.No.{No}
-use Rattle.std.specs.Prelude.{Err, Ok, Result}
+use Rattle.std.specs.Prelude.{Err, Ok, Result, IsErrAnd}
 use mathlib.Core.Path.{◌≡◌, sym, ap, ◌∙◌}
 use mathlib.Core.Bool.{Bool, true}
 use mathlib.Core.List.{List, ◌++◌}
@@ -26,12 +26,26 @@ use Rattle.table.specs.declared.Plan.{Plan}
 use Rattle.run.specs.Runs.{Lent, lent_of, ran_of, Job}
 use Rattle.run.specs.Calls.{all_admitted, read_to_run, ran_on, run_by}
 use Rattle.run.specs.declared.Rooms.{Rooms}
-use Rattle.run.specs.Inner.CallSteps.{table_fits, stacks_fit, rooms_fit, fit_said, read_with_room, Answers, NoRoom, HasRoom}
+use Rattle.run.specs.Inner.CallSteps.{table_fits, stacks_fit, rooms_fit, fit_said, read_with_room, Answers, NoRoom, HasRoom, JudgedAs}
 use Rattle.run.specs.Inner.CallAnswers.{TableInPlace, RanTo}
 
 -- what a judgement comes to, by the code's answer
 pub said : {judgement : Answer (Unit {0})} {fit answer : Result (Unit {0}) Unfit} → fit_said fit ≡ judgement → fit ≡ answer → judgement ≡ fit_said answer
 said {judgement} {fit} {answer} is told = sym is ∙ ap fit_said told
+
+-- what `?` hands on
+pub handed_on : {X : Type 0} {answer : Result X Unfit} {why : Unfit} → IsErrAnd answer (λ e. e ≡ why) → answer ≡ Err why
+handed_on {answer = Ok x} never = absurd never
+handed_on {answer = Err e} is = ap Err is
+
+-- a judgement that hands an answer on, by what is known of each such answer
+pub judged_no : {divides : Bool} {needs : Sheet → Needs} {words : List ℕ} {rooms : Rooms} (marks came goes : List ℕ) (judgement : Result Plan answered.Reply)
+    {Is : answered.Reply → Type 0}
+    → IsErrAnd judgement Is
+    → ((answer : answered.Reply) → Is answer → NoRoom divides needs words rooms answer)
+    → JudgedAs divides needs words rooms marks came goes judgement
+judged_no marks came goes (Ok plan) never refuses = absurd never
+judged_no marks came goes (Err answer) is refuses = refuses answer is
 
 -- ---- 1 to 10, by a plan
 

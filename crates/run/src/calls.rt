@@ -40,11 +40,8 @@ pub fn write_result<N: Number>(
     ensures { res.new
         ≡ result_at end (halves_of (arithmetic_on N.operations) first.now counted roles.now second.now) res.old }
 {
-    match end {
-        Ended::Finished => buffers::lay(first, counted, roles, second, res),
-        Ended::Stopped(_) => {}
-        Ended::Stuck => {}
-        Ended::Unfinished => {}
+    if let Ended::Finished = end {
+        buffers::lay(first, counted, roles, second, res);
     }
 }
 
@@ -153,8 +150,8 @@ fn run_written<N: Number>(
     let first_constant = shape.first_constant;
     let constants_end = first_constant + shape.constants;
     let size = 2 * variables + 2;
-    let mut store = [N::zero(); buffers::STORE];
-    let mut copied = [N::zero(); MAX_VARIABLES];
+    let store: &mut [N] = &mut [N::zero(); buffers::STORE];
+    let copied: &mut [N] = &mut [N::zero(); MAX_VARIABLES];
     run_in(
         &words[1..roles_end],
         &words[first_constant..constants_end],
@@ -202,7 +199,7 @@ fn run_sheet<N: Number>(
         Err(answer) => answer,
         Ok(plan) => {
             if let Err(why) = refusals::all_admitted(starts, seeds) {
-                return refusals::answer_no(why);
+                return Reply::from(why);
             }
             let mut beyond = [0u16; MAX_TABLE_ROWS];
             writer::write_planned(words, plan, &marks, &came, &goes, table, &mut beyond);

@@ -1,6 +1,7 @@
 // Refusals 1 to 11 and 13, judged one after another, and the numbers 9 to 12.
 ghost use Rattle.std.specs.Prelude.{◌≡◌, Bool, List, ◌++◌, ℕ, ◌+◌, ◌^◌, ◌<◌, length};
 ghost use Rattle.number.specs.Arithmetic.{arithmetic_on, divides};
+ghost use Rattle.number.specs.Doubles.{doubles};
 ghost use Rattle.sheet.specs.Sheets.{Sheet};
 ghost use Rattle.table.specs.Sizes.{Needs};
 ghost use Rattle.table.specs.Inner.Plans.{PlanSaysFor, PlanSaysIn, RowsWithin};
@@ -81,10 +82,18 @@ fn admitted_from<N: Number>(numbers: &[N], place: usize) -> Result<(), Unfit>
 }
 
 pub fn all_admitted<N: Number>(starts: &[N], seeds: &[N]) -> Result<(), Unfit>
+    requires { length starts.now + length seeds.now < 2 ^ 64 }
     ensures { fit_said result ≡ all_admitted (arithmetic_on N.operations) (starts.now ++ seeds.now) 0 }
 {
     admitted_from(starts, 0)?;
     admitted_from(seeds, starts.len())
+}
+
+// The same of doubles, of which no memory holds so many that their places aren't numbers.
+pub fn all_finite(starts: &[f64], seeds: &[f64]) -> Result<(), Unfit>
+    ensures { fit_said result ≡ all_admitted doubles (starts.now ++ seeds.now) 0 }
+{
+    all_admitted(starts, seeds)
 }
 
 // 13, where the arithmetic doesn't divide: the plan is for it as well, or refused.
@@ -110,38 +119,19 @@ fn rooms_fit(plan: Plan, rooms: Rooms) -> Result<(), Unfit>
     lengths_fit(shape.variables, rooms.starts, rooms.seeds, rooms.result)
 }
 
-pub fn answer_no(why: Unfit) -> Reply
-    ensures { Answers result (unfit_refusal why) }
-{
-    match why {
-        Unfit::SmallTable => Reply {
-            number: table::SMALL_TABLE,
-            place: 0,
-        },
-        Unfit::SmallValueStack => Reply {
-            number: SMALL_STACK,
-            place: 0,
-        },
-        Unfit::SmallTurnStack => Reply {
-            number: SMALL_STACK,
-            place: 1,
-        },
-        Unfit::WrongStarts => Reply {
-            number: WRONG_LENGTH,
-            place: 0,
-        },
-        Unfit::WrongSeeds => Reply {
-            number: WRONG_LENGTH,
-            place: 1,
-        },
-        Unfit::WrongResult => Reply {
-            number: WRONG_LENGTH,
-            place: 2,
-        },
-        Unfit::NotFinite(place) => Reply {
-            number: NOT_FINITE_GIVEN,
-            place,
-        },
+impl From<Unfit> for Reply {
+    ghost from_gives = { λ why reply. Answers reply (unfit_refusal why) };
+
+    fn from(why: Unfit) -> Reply {
+        match why {
+            Unfit::SmallTable => Reply::refused(table::SMALL_TABLE, 0),
+            Unfit::SmallValueStack => Reply::refused(SMALL_STACK, 0),
+            Unfit::SmallTurnStack => Reply::refused(SMALL_STACK, 1),
+            Unfit::WrongStarts => Reply::refused(WRONG_LENGTH, 0),
+            Unfit::WrongSeeds => Reply::refused(WRONG_LENGTH, 1),
+            Unfit::WrongResult => Reply::refused(WRONG_LENGTH, 2),
+            Unfit::NotFinite(place) => Reply::refused(NOT_FINITE_GIVEN, place),
+        }
     }
 }
 
@@ -150,16 +140,9 @@ pub fn judge(planned: Result<Plan, No>, rooms: Rooms) -> Result<Plan, Reply>
     ensures { (divides : Bool) (needs : Sheet → Needs) (words marks came goes : List ℕ) → PlanSaysIn divides needs words marks came goes planned
         → JudgedAs divides needs words rooms marks came goes result }
 {
-    match planned {
-        Err(why) => Err(Reply {
-            number: sheet::number_of(why),
-            place: sheet::place_of(why),
-        }),
-        Ok(plan) => match rooms_fit(plan, rooms) {
-            Err(why) => Err(answer_no(why)),
-            Ok(()) => Ok(plan),
-        },
-    }
+    let plan = planned?;
+    rooms_fit(plan, rooms)?;
+    Ok(plan)
 }
 
 // What a run's end is answered by: 0, 12 at its row, or the number of no run.
@@ -167,21 +150,8 @@ pub fn answer_end(end: Ended) -> Reply
     ensures { result ≡ answer_at end }
 {
     match end {
-        Ended::Finished => Reply {
-            number: table::DONE,
-            place: 0,
-        },
-        Ended::Stopped(row) => Reply {
-            number: NOT_FINITE_RESULT,
-            place: row.0,
-        },
-        Ended::Stuck => Reply {
-            number: STUCK,
-            place: 0,
-        },
-        Ended::Unfinished => Reply {
-            number: STUCK,
-            place: 0,
-        },
+        Ended::Finished => Reply::done(),
+        Ended::Stopped(row) => Reply::refused(NOT_FINITE_RESULT, row.0),
+        Ended::Stuck | Ended::Unfinished => Reply::refused(STUCK, 0),
     }
 }

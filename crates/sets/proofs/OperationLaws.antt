@@ -9,11 +9,12 @@ use Rattle.sheet.specs.Inner.RowLines.{source_of}
 use Rattle.sheet.specs.Rows.{Assignment, copy, fixed, sum, difference, product, negation, quotient, ◌≔◌, Row, row_of_assignment, SheetLine, sheet_row_of, quotient_kind}
 use Rattle.sheet.specs.Inner.Kinds.{assigns, form_for, part_of}
 use Rattle.sheet.specs.declared.kinds.Form.{Form}
-use Rattle.sets.specs.declared.transfers.MaskedAssignment.{MaskedAssignment}
+use Rattle.sets.specs.declared.operations.MaskedAssignment.{MaskedAssignment}
 use Rattle.sets.specs.VariableSets.{VariableSet, empty, has, ◌∪◌, single, single_if, without, has_some, single_some}
 use Rattle.sets.specs.Transfers.{any_read, first_read, second_read, reads, varied_after, useful_before}
 use Rattle.sets.specs.Transfers.{Activity, activity_of, adjoint_use, recorded_by, required_after}
-use Rattle.sets.specs.Inner.Operations.{named_by, meets, Performs, PerformsRow}
+use Rattle.sets.specs.Inner.Masks.{named_by, meets}
+use Rattle.sets.specs.Inner.Operations.{Performs, PerformsRow}
 use Rattle.sets.proofs.Truths.{never}
 use Rattle.sets.proofs.VariableSetLaws.{meets_none, meets_single}
 

@@ -11,7 +11,7 @@ use lib.Seq.{drop-cons, get_or-take, get_or-drop, length-take-le, drop-length}
 use lib.Pow.{pow_mono}
 use Rattle.sets.specs.Inner.Analyses.{Which}
 use Rattle.sets.specs.VariableSets.{VariableSet, empty, places}
-use Rattle.sets.specs.Inner.Operations.{mask_bits}
+use Rattle.sets.specs.Inner.Masks.{mask_bits}
 use Rattle.sets.specs.Inner.RowEquations.{has_role, seed_in}
 use Rattle.sets.proofs.VariableSetSizes.{places_below}
 
@@ -34,9 +34,12 @@ module _ (which : Which) (words : List ℕ) (v : ℕ) (there : v < length words)
       let none : drop v roles ≡ [] = subst (λ n. drop n roles ≡ []) roles_length (drop-length roles) in
       rw (none, places)
 
-  pub seed_all : seed_from which words v 0 ≡ seed_in which words v
+  seed_all : seed_from which words v 0 ≡ seed_in which words v
   unfolding seed_from seed_in
   seed_all = refl
+
+  pub seed_done : (i seed : ℕ) → i ≡ 0 → seed ≡ seed_from which words v i → seed ≡ seed_in which words v
+  seed_done i seed none is = is ∙ ap (seed_from which words v) none ∙ seed_all
 
   pub seed_on : (i j : ℕ) → i + 1 ≡ j → j ≤ v → seed_from which words v i ≡ cond (has_role which (get_or words j 0)) 1 0 + 2 * seed_from which words v j
   unfolding seed_from places

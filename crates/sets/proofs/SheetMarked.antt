@@ -26,7 +26,7 @@ use Rattle.sets.specs.Inner.PartnerPass.{found, PartnersFound}
 use Rattle.sets.specs.Inner.RowEquations.{given_by, line_in, unasked, known_of_line, known_from, turn_of, equation_of, equation_in, row_in_turn}
 use Rattle.sets.specs.Inner.RowEquations.{row_equations, start_of, all_equations, AllReadable, seed_in}
 use Rattle.sets.specs.Inner.Walks.{Wired, Settles}
-use Rattle.sets.specs.Inner.Operations.{mask_bits}
+use Rattle.sets.specs.Inner.Masks.{mask_bits}
 use Rattle.sets.specs.MarkBytes.{mark_bytes}
 use Rattle.sets.specs.Inner.RowBytes.{bytes_of, written}
 use Rattle.sets.specs.declared.Ends.{Ends}

@@ -17,7 +17,8 @@ use Rattle.sheet.specs.Names.{SourcePresent, AssignmentPresent, Present}
 use Rattle.sheet.specs.Sheets.{rows_at}
 use Rattle.sheet.proofs.PartsRead.{form_there, form_in}
 use Rattle.sheet.proofs.RowsByNumber.{StandsAt, tree_stands, stands_after, line_said, Each, rows_of_tree, tree_says, tree_each}
-use Rattle.sets.specs.Inner.Operations.{mask_bits, InMask}
+use Rattle.sets.specs.Inner.Masks.{mask_bits}
+use Rattle.sets.specs.Inner.Operations.{InMask}
 use Rattle.sets.specs.Inner.RowEquations.{line_in, RowReadable, AllReadable, FitsMask, KindRead, Formed}
 use Rattle.sets.proofs.RowByRow.{LinesAt}
 

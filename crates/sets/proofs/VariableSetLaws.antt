@@ -12,7 +12,7 @@ use lib.Dec.{T, eqb, eqb_refl, eqb→eq, eqb-zero-suc, eqb-suc-zero, eqb-suc-suc
 use lib.Arith.{bin_ind}
 use lib.Pow.{shr-shr}
 use Rattle.sets.specs.VariableSets.{VariableSet, empty, has, ◌∪◌, single, single_if, without, places, has_some, ◌⊆◌}
-use Rattle.sets.specs.Inner.Operations.{meets}
+use Rattle.sets.specs.Inner.Masks.{meets}
 use Rattle.sets.proofs.Truths.{each_truth, or_left, or_right, or_least, and_left}
 
 -- ---- a member is a digit

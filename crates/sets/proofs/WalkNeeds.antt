@@ -14,7 +14,7 @@ use Rattle.sheet.specs.Inner.Kinds.{assigns, part_of, all_forms}
 use Rattle.sheet.specs.declared.kinds.Form.{Form}
 use Rattle.sheet.specs.declared.kinds.Part.{Part}
 use Rattle.sheet.specs.declared.kinds.Part.TheVariants as part
-use Rattle.sets.specs.declared.transfers.MaskedAssignment.{MaskedAssignment}
+use Rattle.sets.specs.declared.operations.MaskedAssignment.{MaskedAssignment}
 use Rattle.sets.specs.declared.walk.WalkedTo.{WalkedTo}
 use Rattle.sets.specs.Inner.Analyses.{Which, Varied, Useful, Required, Lends, known_at, marked_at, passed_over}
 use Rattle.sets.specs.VariableSets.{VariableSet, empty}
@@ -122,9 +122,9 @@ module _ {which : Which} {given : Given} {others : List ℕ} {n v : ℕ} {sets�
   pub operation_there : assigns form.3 ≡ true → (row < n) × Formed given.words given.first row form × (assigns form.3 ≡ true)
   operation_there h = (row_below, at.formed, h)
 
-  pub assignment_there : {FitsMask Lent : Type 0} → FitsMask → Lent → FitsMask × (row < word_values) × (suc row < length sets) × (reached.turn < word_values) × Lent
-  assignment_there small lent =
-      (small, readable.numbered, omega (arith, row_below, at.carried.walk.kept.long), (at.readable reached.turn at.below).numbered, lent)
+  pub assignment_there : {Lent : Type 0} → Lent → (row < word_values) × (suc row < length sets) × (reached.turn < word_values) × Lent
+  assignment_there lent =
+      (readable.numbered, omega (arith, row_below, at.carried.walk.kept.long), (at.readable reached.turn at.below).numbered, lent)
 
   pub assigned : {operation : MaskedAssignment} → assigns form.3 ≡ true → PerformsRow operation (row_in given row) → AssignedBy operation line
   assigned h performs = assigned_by performs line readable.says.back (ap assigns (sym line_part) ∙ h)

@@ -1,5 +1,5 @@
 // The sets: any words in; `mark` reads them, finds an accepted sheet's three least sets at every point, marks every row and hands up two of the sets.
-// In reading order: masks, rows, transfers, partners, marks, analyses, equations, walk.
+// In reading order: masks, rows, operations, transfers, partners, marks, analyses, equations, walk.
 #![tactic(auto)]
 
 ghost use Rattle.std.specs.Prelude.{◌≡◌, ◌≤◌, ◌<◌, length};
@@ -10,13 +10,14 @@ ghost use Rattle.sets.specs.Calls.{lent, SheetMarks, MarksSaid, ends_at, ends_of
 ghost use Rattle.sets.specs.Rounds.{set_at};
 ghost use Rattle.sets.specs.Inner.RowEquations.{AllReadable, line_in};
 ghost use Rattle.sets.specs.Inner.Laid.{Laid, ClearRoom, AllMarked, EndsFound};
-ghost use Rattle.sets.specs.Inner.Operations.{mask_bits};
+ghost use Rattle.sets.specs.Inner.Masks.{mask_bits};
 ghost use Rattle.sets.specs.Inner.PartnerPass.{PartnersFound};
 
 mod analyses;
 mod equations;
 mod marks;
 mod masks;
+mod operations;
 mod partners;
 mod rows;
 mod transfers;
@@ -58,11 +59,9 @@ fn ends_of(varied: &[u64], useful: &[u64], rows: usize) -> Ends
     requires { (rows < length varied.now) × (0 < length useful.now) }
     ensures { result ≡ ends_at (set_at varied.now) (set_at useful.now) rows }
 {
-    let useful_first = equations::set_at(useful, 0);
-    let varied_last = equations::set_at(varied, rows);
     Ends {
-        useful_first,
-        varied_last,
+        useful_first: useful[0],
+        varied_last: varied[rows],
     }
 }
 

@@ -1,12 +1,13 @@
 // What is known of an assignment, and its byte of marks, by the three sets at its points.
 ghost use Rattle.std.specs.Prelude.{◌≡◌, suc, ◌+◌, ◌≤◌, ◌<◌, length};
-ghost use Rattle.sets.specs.Inner.Operations.{TargetSmall, Gives, activity_by};
+ghost use Rattle.sets.specs.Inner.Operations.{Gives, activity_by};
 ghost use Rattle.sets.specs.Rounds.{set_at};
 ghost use Rattle.sets.specs.Transfers.{activity_of};
 ghost use Rattle.sets.specs.MarkBytes.{weight_if};
 ghost use Rattle.sets.specs.Inner.RowBytes.{byte_for};
 
-use super::transfers::{KnownActivity, MaskedAssignment};
+use super::operations::MaskedAssignment;
+use super::transfers::KnownActivity;
 use super::{ACTIVE, SAVED, VARIED_A, VARIED_B, equations, transfers};
 use sheet::RowNumber;
 
@@ -17,7 +18,7 @@ pub fn activity_at(
     varied: &[u64],
     useful: &[u64],
 ) -> KnownActivity
-    requires { TargetSmall operation × (row.0 < length varied.now) × (suc row.0 < length useful.now) }
+    requires { (row.0 < length varied.now) × (suc row.0 < length useful.now) }
     ensures { Gives operation (activity_by result) (λ b. activity_of b (set_at varied.now row.0) (set_at useful.now (row.0 + 1))) }
 {
     let before = equations::set_at(varied, row.0);
@@ -33,7 +34,6 @@ fn weight_if(there: bool, weight: u8) -> u8
 
 // `required` are the variables required before the row.
 pub fn row_byte(row: MaskedAssignment, known: KnownActivity, required: u64) -> u8
-    requires { TargetSmall row }
     ensures { Gives row result (byte_for (activity_by known) required) }
 {
     let saved = transfers::recorded(row, known, required);

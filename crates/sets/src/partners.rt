@@ -23,16 +23,14 @@ pub fn partner_there(partners: &[u16], row: RowNumber) -> RowNumber
     requires { row.0 < length partners.now }
     ensures { (result.0 ≡ get_or partners.now row.0 0) × (result.0 < word_values) }
 {
-    let number = row.0;
-    RowNumber(partners[number] as usize)
+    RowNumber(partners[row.0] as usize)
 }
 
 fn put(list: &mut [u16], row: RowNumber, partner: RowNumber)
     requires { (row.0 < length list.old) × (partner.0 < word_values) }
     ensures { list.new ≡ set list.old row.0 partner.0 }
 {
-    let place = row.0;
-    list[place] = partner.0 as u16;
+    list[row.0] = partner.0 as u16;
 }
 
 // Two rows become partners: `to` came from `from`. The answer is the row that was innermost outside `top`, the innermost open one until now.
@@ -87,6 +85,7 @@ fn end_loop(
 }
 
 // One row: `top` is the innermost open block's last row so far, and the answer is the same after this row.
+#[tactic(auto, unfolding(crate::specs::Inner::PartnerPass::found_by))]
 fn partner_step(
     laid: LaidSheet,
     part: Part,
@@ -130,7 +129,6 @@ pub fn find_partners(laid: LaidSheet, came: &mut [u16], goes: &mut [u16])
         let row = RowNumber(number);
         let kind = rows::kind_of(laid, row);
         let form = forms[kind];
-        let part = form.3;
-        top = partner_step(laid, part, row, top, came, goes);
+        top = partner_step(laid, form.3, row, top, came, goes);
     }
 }

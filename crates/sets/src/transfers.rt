@@ -3,21 +3,14 @@ ghost use Rattle.std.specs.Prelude.{◌≡◌, ◌<◌, true};
 ghost use Rattle.sheet.specs.Inner.RowLines.{source_of, numbered_row};
 ghost use Rattle.sheet.specs.Inner.Kinds.{assigns};
 ghost use Rattle.sets.specs.Transfers.{any_read, reads, varied_after, useful_before, activity_of, adjoint_use, required_after, recorded_by};
-ghost use Rattle.sets.specs.Inner.Operations.{mask_bits, named_by, PerformsRow, TargetSmall, Gives, activity_by};
+ghost use Rattle.sets.specs.Inner.Masks.{mask_bits, named_by};
+ghost use Rattle.sets.specs.Inner.Operations.{PerformsRow, Gives, activity_by};
 ghost use Rattle.sets.specs.Inner.RowEquations.{Formed};
 
+use super::operations::MaskedAssignment;
 use super::{LaidSheet, masks};
 use sheet::kinds::{Form, Slot};
 use sheet::{RowNumber, Variable, kinds};
-
-// An assignment's kind, its target, and the variables that its words a and b name, as sets: the empty one for a word that names none.
-#[derive(Clone, Copy)]
-pub struct MaskedAssignment {
-    pub kind: u16,
-    pub target: Variable,
-    pub first: u64,
-    pub second: u64,
-}
 
 // What is known of an assignment: whether a is varied before it, whether b is, and whether it is active.
 #[derive(Clone, Copy)]
@@ -41,34 +34,26 @@ fn named(slot: Slot, word: u16) -> u64
 // An assignment's operation, `form` being that of its kind.
 pub fn operation_at(laid: LaidSheet, row: RowNumber, form: Form) -> MaskedAssignment
     requires { (row.0 < laid.rows) × Formed laid.words.now laid.first row.0 form × (assigns form.3 ≡ true) }
-    ensures { PerformsRow result (numbered_row laid.entry.words.now laid.entry.first row.0) × TargetSmall result }
+    ensures { PerformsRow result (numbered_row laid.entry.words.now laid.entry.first row.0) }
 {
-    let number = row.0;
     let words = laid.words;
-    let from = laid.first + number * sheet::ROW_WORDS;
-    let of_a = form.1;
-    let of_b = form.2;
-    let kind = words[from];
-    let d = words[from + 1];
-    let a = words[from + 2];
-    let b = words[from + 3];
-    let reads_a = named(of_a, a);
-    let reads_b = named(of_b, b);
-    let target = Variable(d as usize);
+    let from = laid.first + row.0 * sheet::ROW_WORDS;
     MaskedAssignment {
-        kind,
-        target,
-        first: reads_a,
-        second: reads_b,
+        kind: words[from],
+        target: Variable(words[from + 1] as usize),
+        first: named(form.1, words[from + 2]),
+        second: named(form.2, words[from + 3]),
     }
 }
 
+#[tactic(auto, using(crate::proofs::OperationLaws::any_said))]
 fn any_read(row: MaskedAssignment, s: u64) -> bool
     ensures { Gives row result (λ b. any_read s (source_of b)) }
 {
     masks::meets(s, row.first) | masks::meets(s, row.second)
 }
 
+#[tactic(auto, using(crate::proofs::OperationLaws::reads_said))]
 fn reads(row: MaskedAssignment) -> u64
     ensures { Gives row result (λ b. reads (source_of b)) }
 {
@@ -76,7 +61,6 @@ fn reads(row: MaskedAssignment) -> u64
 }
 
 pub fn varied_after(row: MaskedAssignment, before: u64) -> u64
-    requires { TargetSmall row }
     ensures { Gives row result (λ b. varied_after b before) }
 {
     if any_read(row, before) {
@@ -87,7 +71,6 @@ pub fn varied_after(row: MaskedAssignment, before: u64) -> u64
 }
 
 pub fn useful_before(row: MaskedAssignment, after: u64) -> u64
-    requires { TargetSmall row }
     ensures { Gives row result (λ b. useful_before b after) }
 {
     let before = masks::without(row.target, after) | reads(row);
@@ -98,8 +81,8 @@ pub fn useful_before(row: MaskedAssignment, after: u64) -> u64
     }
 }
 
+#[tactic(auto, using(crate::proofs::OperationLaws::activity_said))]
 pub fn activity(row: MaskedAssignment, varied: u64, useful: u64) -> KnownActivity
-    requires { TargetSmall row }
     ensures { Gives row (activity_by result) (λ b. activity_of b varied useful) }
 {
     let varied_a = masks::meets(varied, row.first);
@@ -127,15 +110,15 @@ fn adjoint_use(row: MaskedAssignment, known: KnownActivity) -> u64
     }
 }
 
+#[tactic(auto, using(crate::proofs::OperationLaws::required_said))]
 pub fn required_after(row: MaskedAssignment, known: KnownActivity, before: u64) -> u64
-    requires { TargetSmall row }
     ensures { Gives row result (λ b. required_after b (activity_by known) before) }
 {
     masks::without(row.target, before | adjoint_use(row, known))
 }
 
+#[tactic(auto, using(crate::proofs::OperationLaws::recorded_said))]
 pub fn recorded(row: MaskedAssignment, known: KnownActivity, required: u64) -> bool
-    requires { TargetSmall row }
     ensures { Gives row result (λ b. recorded_by b (activity_by known) required) }
 {
     masks::has(required, row.target) | masks::has(adjoint_use(row, known), row.target)

@@ -62,7 +62,7 @@ impl Named {
 fn in_range(least: u16, beyond: u16, word: u16) -> bool
     ensures { result ≡ in_range least beyond word }
 {
-    (least <= word) & (word < beyond)
+    (least..beyond).contains(&word)
 }
 
 pub fn row_fits(rule: Rule, row: RowWords) -> bool

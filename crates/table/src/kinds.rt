@@ -1,4 +1,4 @@
-// The further kinds of a table's rows, each by its number.
+// The further kinds of a table's rows, each by its number: a row is words (01), which a buffer holds.
 pub const SAVE: u16 = 12;
 
 pub const TAKE_BACK: u16 = 13;

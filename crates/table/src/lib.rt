@@ -39,7 +39,7 @@ pub const DONE: u16 = 0;
 
 pub const SMALL_TABLE: u16 = 8;
 
-// A refusal's number and place, or 0 and 0.
+// What 01 has each call answer: a refusal's number and place, or 0 and 0.
 #[derive(Clone, Copy)]
 pub struct Reply {
     pub number: u16,

@@ -21,6 +21,31 @@ pub const NOTHING: Need = Need {
     turns: 0,
 };
 
+impl Need {
+    // After an assignment.
+    pub fn with_saved(self, mark: u8) -> Self
+        requires { Few (with_saved (saved_by mark) self) }
+        ensures { result ≡ with_saved (saved_by mark) self }
+    {
+        let saved = marks::bit(mark, sets::SAVED);
+        Need {
+            values: self.values + usize::from(saved),
+            ..self
+        }
+    }
+
+    // Before a loop: one with a test puts its count away.
+    fn with_count(self, kind: u16) -> Self
+        requires { Few (with_count (eqb kind while_kind) self) }
+        ensures { result ≡ with_count (eqb kind while_kind) self }
+    {
+        Need {
+            turns: self.turns + usize::from(kind == kinds::WHILE),
+            ..self
+        }
+    }
+}
+
 // A block that is open: what the rows before it need, what its first branch needs once that is known, and how often a repeat's body is run.
 #[derive(Clone, Copy)]
 pub struct Level {
@@ -35,76 +60,55 @@ pub const NO_LEVEL: Level = Level {
     times: 0,
 };
 
-// After an assignment.
-pub fn with_saved(need: Need, mark: u8) -> Need
-    requires { Few (with_saved (saved_by mark) need) }
-    ensures { result ≡ with_saved (saved_by mark) need }
-{
-    let saved = marks::bit(mark, sets::SAVED);
-    Need {
-        values: need.values + usize::from(saved),
-        ..need
+impl Level {
+    // The block begins with nothing needed in it.
+    pub fn opened(before: Need, times: usize) -> Self
+        ensures { result ≡ opened times before }
+    {
+        Level {
+            before,
+            first: NOTHING,
+            times,
+        }
     }
-}
 
-// Before a loop: one with a test puts its count away.
-fn with_count(need: Need, kind: u16) -> Need
-    requires { Few (with_count (eqb kind while_kind) need) }
-    ensures { result ≡ with_count (eqb kind while_kind) need }
-{
-    Need {
-        turns: need.turns + usize::from(kind == kinds::WHILE),
-        ..need
+    // A loop's row.
+    pub fn loop_opened(need: Need, row: RowWords) -> Self
+        requires { Few (with_count (eqb row.kind while_kind) need) }
+        ensures { result ≡ opened (turns_in (row_said row)) (with_count (eqb row.kind while_kind) need) }
+    {
+        let before = need.with_count(row.kind);
+        Level::opened(before, sheet::wide(kinds::turns_of(row)))
     }
-}
 
-// The block begins with nothing needed in it.
-pub fn opened(need: Need, times: usize) -> Level
-    ensures { result ≡ opened times need }
-{
-    Level {
-        before: need,
-        first: NOTHING,
-        times,
+    // "else": the second branch begins.
+    pub fn split(self, first: Need) -> Self
+        ensures { result ≡ split self first }
+    {
+        Level { first, ..self }
     }
-}
 
-// A loop's row.
-pub fn loop_opened(need: Need, row: RowWords) -> Level
-    requires { Few (with_count (eqb row.kind while_kind) need) }
-    ensures { result ≡ opened (turns_in (row_said row)) (with_count (eqb row.kind while_kind) need) }
-{
-    let before = with_count(need, row.kind);
-    opened(before, sheet::wide(kinds::turns_of(row)))
-}
-
-// "else": the second branch begins.
-pub fn split(level: Level, first: Need) -> Level
-    ensures { result ≡ split level first }
-{
-    Level { first, ..level }
-}
-
-// "end if": one of the branches is run, and the turn is saved.
-pub fn after_if(level: Level, second: Need) -> Need
-    requires { Few (after_if level second) }
-    ensures { result ≡ after_if level second }
-{
-    let Level { before, first, .. } = level;
-    Need {
-        values: before.values + first.values.max(second.values),
-        turns: before.turns + 1 + first.turns.max(second.turns),
+    // "end if": one of the branches is run, and the turn is saved.
+    pub fn after_if(self, second: Need) -> Need
+        requires { Few (after_if self second) }
+        ensures { result ≡ after_if self second }
+    {
+        let Level { before, first, .. } = self;
+        Need {
+            values: before.values + first.values.max(second.values),
+            turns: before.turns + 1 + first.turns.max(second.turns),
+        }
     }
-}
 
-// "end repeat": the body is run so many times.
-pub fn after_repeat(level: Level, body: Need) -> Need
-    requires { Few (after_repeat level body) }
-    ensures { result ≡ after_repeat level body }
-{
-    let Level { before, times, .. } = level;
-    Need {
-        values: before.values + times * body.values,
-        turns: before.turns + times * body.turns,
+    // "end repeat": the body is run so many times.
+    pub fn after_repeat(self, body: Need) -> Need
+        requires { Few (after_repeat self body) }
+        ensures { result ≡ after_repeat self body }
+    {
+        let Level { before, times, .. } = self;
+        Need {
+            values: before.values + times * body.values,
+            turns: before.turns + times * body.turns,
+        }
     }
 }

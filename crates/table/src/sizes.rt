@@ -2,8 +2,8 @@
 ghost use Rattle.table.specs.Inner.MarkedRows.{RowsReadable};
 ghost use Rattle.table.specs.Inner.Needs.{Sized, SizesFound};
 
-use super::needs::Need;
-use super::{count, needs};
+use super::count;
+use super::needs::{Level, NO_LEVEL, NOTHING, Need};
 use sheet::kinds::Part;
 use sheet::{RowNumber, kinds};
 
@@ -13,16 +13,16 @@ pub struct Sizes {
     pub need: Need,
 }
 
-// Entry n of the levels, from 1 on, is what is kept of the block n deep.
+// Entry n of the levels, from 1 on, is what is kept of the block n deep: a stack of fixed size, as a call uses no heap.
 pub fn sizes_of(words: &[u16], shape: sheet::Shape, marks: &[u8]) -> Sizes
     requires readable { RowsReadable words.now shape marks.now }
     requires sized { Sized words.now shape.first_row shape.rows marks.now }
     ensures { SizesFound words.now shape marks.now result }
 {
-    let mut levels = [needs::NO_LEVEL; sheet::MAX_DEPTH + 1];
+    let mut levels = [NO_LEVEL; sheet::MAX_DEPTH + 1];
     let forms = kinds::forms();
     let mut depth: usize = 0;
-    let mut need = needs::NOTHING;
+    let mut need = NOTHING;
     let mut rows: usize = 1;
     for p in 0..shape.rows {
         let row = sheet::row_of(words, shape.first_row, RowNumber(p));
@@ -31,27 +31,27 @@ pub fn sizes_of(words: &[u16], shape: sheet::Shape, marks: &[u8]) -> Sizes
         let mark = marks[p];
         rows += count::row_count(row, part, mark);
         match part {
-            Part::Assignment => need = needs::with_saved(need, mark),
+            Part::Assignment => need = need.with_saved(mark),
             Part::If => {
                 depth += 1;
-                levels[depth] = needs::opened(need, 1);
-                need = needs::NOTHING;
+                levels[depth] = Level::opened(need, 1);
+                need = NOTHING;
             }
             Part::Else => {
-                levels[depth] = needs::split(levels[depth], need);
-                need = needs::NOTHING;
+                levels[depth] = levels[depth].split(need);
+                need = NOTHING;
             }
             Part::EndIf => {
-                need = needs::after_if(levels[depth], need);
+                need = levels[depth].after_if(need);
                 depth -= 1;
             }
             Part::Repeat => {
                 depth += 1;
-                levels[depth] = needs::loop_opened(need, row);
-                need = needs::NOTHING;
+                levels[depth] = Level::loop_opened(need, row);
+                need = NOTHING;
             }
             Part::EndRepeat => {
-                need = needs::after_repeat(levels[depth], need);
+                need = levels[depth].after_repeat(need);
                 depth -= 1;
             }
         }

@@ -144,7 +144,7 @@ fn run_sheet<N: Number>(
         Err(answer) => return answer,
     };
     if let Err(why) = refusals::all_admitted(starts, rates) {
-        return refusals::answer_no(why);
+        return Reply::from(why);
     }
     let mut beyond = [0u16; MAX_TABLE_ROWS];
     super::write_planned(words, plan, &marks, table, &mut beyond);

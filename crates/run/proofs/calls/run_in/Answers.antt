@@ -10,10 +10,6 @@ pub run_table-end-requires : goal.run_table-end-requires
 run_table-end-requires g c =
     still_indexed c.copy.auto.into c.requires.indexed
 
-pub offset_bounds-store-variables : goal.offset_bounds-store-variables
-offset_bounds-store-variables g c =
-    omega (arith, c.requires.room.starts_fit)
-
 pub write_result-requires : goal.write_result-requires
 write_result-requires g c =
     result_fits_lem (arithmetic_on g.N.Number.operations) c.requires.room c.run_table-end.new.store (c.run_table-end.auto.store ∙ c.copy.auto.into) c.run_table-end.auto.copied

@@ -2,6 +2,7 @@
 use mathlib.Core.Path.{◌∙◌}
 use Rattle.number.specs.Arithmetic.{arithmetic_on}
 use Rattle.run.specs.Inner.CallSteps.{result_at}
+use Rattle.run.proofs.CallLaws.{result_kept}
 use Rattle.run.proofs.FillingLaws.{halves_fit, result_laid}
 use Rattle.run.proofs.calls.write_result.Goals as goal
 
@@ -13,14 +14,5 @@ unfolding result_at
 returns-in-Finished g c =
     rw c.in-Finished.is (c.lay.ensures ∙ result_laid (arithmetic_on g.N.Number.operations) _ c.requires)
 
-pub returns-in-Stopped : goal.returns-in-Stopped
-unfolding result_at
-returns-in-Stopped g c = rw c.in-Stopped.is
-
-pub returns-in-Stuck : goal.returns-in-Stuck
-unfolding result_at
-returns-in-Stuck g c = rw c.in-Stuck.is
-
-pub returns-in-Unfinished : goal.returns-in-Unfinished
-unfolding result_at
-returns-in-Unfinished g c = rw c.in-Unfinished.is
+pub returns-in_default : goal.returns-in_default
+returns-in_default g c = result_kept _ _ c.in_default.not-Finished

@@ -25,14 +25,14 @@ operation_at-operation-requires g c =
 pub pass_assignment-reached-requires : goal.pass_assignment-reached-requires
 pass_assignment-reached-requires g c =
     let at = at_row c.args.laid.readable c.requires.settles c.loop-reached.invariant.carried c.loop-reached-test.true c.row_in_turn-row.ensures c.forms-forms.ensures c.kind_of-kind.ensures in
-    assignment_there at c.operation_at-operation.ensures.1
+    assignment_there at
     (marks_lent g.A.Analysis.which _ _ _ _ _ _ _ _ _ c.loop-reached.invariant.marking c.requires.lent (row_below at))
 
 pub loop-reached-smaller-then-assigns : goal.loop-reached-smaller-then-assigns
 loop-reached-smaller-then-assigns g c =
     let at = at_row c.args.laid.readable c.requires.settles c.loop-reached.invariant.carried c.loop-reached-test.true c.row_in_turn-row.ensures c.forms-forms.ensures c.kind_of-kind.ensures in
     (gone_on at
-    (assignment_passed at (sym c.assigns.ensures ∙ c.if-assigns.true) c.operation_at-operation.ensures.0
+    (assignment_passed at (sym c.assigns.ensures ∙ c.if-assigns.true) c.operation_at-operation.ensures
     (known_as g.A.Analysis.which _ _ _ _ _) c.pass_assignment-reached.ensures.turn c.pass_assignment-reached.ensures.set)).1
 
 pub loop-reached-preserved-then-assigns : goal.loop-reached-preserved-then-assigns
@@ -40,12 +40,12 @@ loop-reached-preserved-then-assigns g c =
     let at = at_row c.args.laid.readable c.requires.settles c.loop-reached.invariant.carried c.loop-reached-test.true c.row_in_turn-row.ensures c.forms-forms.ensures c.kind_of-kind.ensures in
     let is_assigned = sym c.assigns.ensures ∙ c.if-assigns.true in
     let passes =
-    assignment_passed at is_assigned c.operation_at-operation.ensures.0 (known_as g.A.Analysis.which _ _ _ _ _)
+    assignment_passed at is_assigned c.operation_at-operation.ensures (known_as g.A.Analysis.which _ _ _ _ _)
     c.pass_assignment-reached.ensures.turn c.pass_assignment-reached.ensures.set in
     record {
       carried = (gone_on at passes).0;
       marking =
-          assigned_marks g.A.Analysis.which at _ _ _ _ _ is_assigned c.operation_at-operation.ensures.0 passes c.loop-reached.invariant.marking
+          assigned_marks g.A.Analysis.which at _ _ _ _ _ is_assigned c.operation_at-operation.ensures passes c.loop-reached.invariant.marking
           c.requires.lent c.pass_assignment-reached.ensures.marks;
     }
 

@@ -1,9 +1,9 @@
 -- `writer::sweep::backward_part` meets its contract.
-use Prim.Native.Nat.{ℕ, ◌+◌, ◌-◌, ◌≤◌, ◌<◌}
+use Prim.Native.Nat.{ℕ, ◌+◌, ◌-◌, ◌<◌}
 use mathlib.Core.Path.{◌≡◌, refl, sym, ap, subst, ◌∙◌}
 use mathlib.Core.Bool.{true}
 use mathlib.Core.List.{◌++◌}
-use lib.ListN.{length, get_or}
+use lib.ListN.{get_or}
 use native.Mathlib.Omega.{arith}
 use Rattle.sheet.specs.Answers.{row_said}
 use Rattle.sheet.specs.declared.kinds.Part.{Part}
@@ -13,7 +13,7 @@ use Rattle.sheet.proofs.PartsRead.{form_in, part_there}
 use Rattle.sheet.proofs.RowsByKind.{row_kind}
 use Rattle.table.specs.Inner.MarkedRows.{SaysPart, SmallWords, backward_of_line}
 use Rattle.table.proofs.LineRows.{says_part}
-use Rattle.writer.specs.Inner.RowsWritten.{leads_on, Handed, backward_all, backward_rows, step_back, turns_back, Visited}
+use Rattle.writer.specs.Inner.RowsWritten.{leads_on, Handed, backward_rows, step_back, turns_back, Visited}
 use Rattle.writer.specs.Inner.TableHanded.{handed_by}
 use Rattle.writer.proofs.WritingLaws.{underway_start, underway_room, underway_next, underway_end, underway_length, room_first}
 use Rattle.writer.proofs.JumpLaws.{jumping_start, backward_ends, row_ends, jumping_next, jumping_end}

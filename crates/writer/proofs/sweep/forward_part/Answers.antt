@@ -1,8 +1,8 @@
 -- `writer::sweep::forward_part` meets its contract.
-use Prim.Native.Nat.{◌+◌, ◌-◌, ◌≤◌}
+use Prim.Native.Nat.{◌+◌, ◌-◌}
 use mathlib.Core.Path.{◌≡◌, ap, sym, subst}
 use mathlib.Core.List.{◌++◌}
-use lib.ListN.{length, get_or}
+use lib.ListN.{get_or}
 use native.Mathlib.Omega.{arith}
 use Rattle.sheet.specs.Answers.{row_said}
 use Rattle.sheet.specs.Inner.RowLines.{line_of_row, SaysLine}
