@@ -1,5 +1,6 @@
 -- `tangent::calls::run_sheet` meets its contract.
 use mathlib.Core.Path.{subst}
+use native.Mathlib.Omega.{arith}
 use Rattle.number.specs.Arithmetic.{arithmetic_on, divides}
 use Rattle.table.proofs.QuotientLaws.{rows_within}
 use Rattle.run.specs.Inner.CallSteps.{JudgedAs, HasRoom}
@@ -29,10 +30,15 @@ returns-in-Err g c =
     (subst (JudgedAs (divides (arithmetic_on g.N.Number.operations)) tangent_needs_of _ _ _ _ _) c.in-Err.is
     (c.judge.ensures _ tangent_needs_of _ _ _ _ (c.divisible-allowed.ensures tangent_needs_of _ _ _ c.plan_tangent-planned.ensures)))
 
+pub all_admitted-requires : goal.all_admitted-requires
+all_admitted-requires g c =
+    let fits = sheet_room _ _ _ (room g (goal.at.all_admitted-requires g c).In-Ok) in
+    omega (arith, fits.few, fits.starts_fit, fits.seeds_fit)
+
 pub returns-in-Err-all_admitted : goal.returns-in-Err-all_admitted
 returns-in-Err-all_admitted g c =
     tangent_numbers_refused (arithmetic_on g.N.Number.operations) _ _ _ _ _ (room g (goal.at.returns-in-Err-all_admitted g c).In-Ok)
-    (said c.all_admitted.ensures c.in-Err-all_admitted.is) c.answer_no.ensures
+    (said c.all_admitted.ensures c.in-Err-all_admitted.is) c.from.ensures
 
 pub write_planned-requires : goal.write_planned-requires
 write_planned-requires g c =

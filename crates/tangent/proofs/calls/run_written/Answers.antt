@@ -1,7 +1,14 @@
 -- `tangent::calls::run_written` meets its contract.
+use native.Mathlib.Omega.{arith}
 use Rattle.number.specs.Arithmetic.{arithmetic_on}
 use Rattle.run.proofs.SectionLaws.{run_room, part_indexed, ready_to_run}
 use Rattle.tangent.proofs.calls.run_written.Goals as goal
+
+pub whole_as_slice-store : goal.whole_as_slice-store
+whole_as_slice-store g c = omega (arith, g.met.N.Number.takes_little)
+
+pub whole_as_slice-copied : goal.whole_as_slice-copied
+whole_as_slice-copied g c = omega (arith, g.met.N.Number.takes_little)
 
 pub run_in-requires : goal.run_in-requires
 run_in-requires g c =
