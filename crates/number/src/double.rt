@@ -1,7 +1,8 @@
 // Doubles: each operation rounded once, and a stop where the result isn't finite.
 ghost use Rattle.std.specs.Prelude.{◌≡◌};
 ghost use Rattle.std.proofs.Common.{lit<};
-ghost use Rattle.number.specs.Arithmetic.{operations_of};
+ghost use Rattle.std.proofs.Math.Option.{some};
+ghost use Rattle.number.specs.Arithmetic.{operations_of, over};
 ghost use Rattle.number.specs.Answers.{outcome_of, why_not_finite, is_doubles};
 ghost use Rattle.number.specs.Doubles.{doubles, Reason, finite_or_stop};
 
@@ -21,6 +22,13 @@ fn finite_or_stop(x: f64) -> Result<f64, NotFinite>
     ensures { outcome_of why_not_finite result ≡ finite_or_stop x }
 {
     if is_finite(x) { Ok(x) } else { Err(NotFinite) }
+}
+
+// Doubles always have a quotient: infinite where a number is divided by a zero of either sign, no number where both are zeros, so a stop.
+pub fn quotient(x: f64, y: f64) -> Result<f64, NotFinite>
+    ensures { some (outcome_of why_not_finite result) ≡ over doubles.quotient x y }
+{
+    finite_or_stop(x / y)
 }
 
 impl Number for f64 {
@@ -51,9 +59,8 @@ impl Number for f64 {
         finite_or_stop(-self)
     }
 
-    // Infinite where a number is divided by a zero of either sign, no number where both are zeros: a stop.
     fn quotient(self, other: f64) -> Option<Result<f64, NotFinite>> {
-        Some(finite_or_stop(self / other))
+        Some(quotient(self, other))
     }
 
     fn less(self, other: f64) -> bool {

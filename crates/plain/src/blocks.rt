@@ -19,8 +19,7 @@ fn beyond(goes: &[u16], row: RowNumber) -> RowNumber
     requires { row.0 < length goes.now }
     ensures { result.0 ≡ get_or goes.now row.0 0 + 1 }
 {
-    let number = row.0;
-    RowNumber(sheet::wide(goes[number]) + 1)
+    RowNumber(sheet::wide(goes[row.0]) + 1)
 }
 
 // After an "if": the first branch, or the second.
@@ -29,9 +28,10 @@ fn branch(goes: &[u16], holds: bool, row: RowNumber) -> RowNumber
     ensures { result.0 ≡ cond holds (row.0 + 1) (get_or goes.now row.0 0 + 1) }
 {
     if holds {
-        return RowNumber(row.0 + 1);
+        RowNumber(row.0 + 1)
+    } else {
+        beyond(goes, row)
     }
-    beyond(goes, row)
 }
 
 // The row whose words say what is asked where a block's row stands: at an "end repeat" the one that opened the loop.
@@ -39,14 +39,9 @@ pub fn asked_row(part: Part, goes: &[u16], row: RowNumber) -> RowNumber
     requires { row.0 < length goes.now }
     ensures { result.0 ≡ asked_row part goes.now row.0 }
 {
-    let number = row.0;
     match part {
-        Part::Assignment => row,
-        Part::If => row,
-        Part::Else => row,
-        Part::EndIf => row,
-        Part::Repeat => row,
-        Part::EndRepeat => RowNumber(sheet::wide(goes[number])),
+        Part::Assignment | Part::If | Part::Else | Part::EndIf | Part::Repeat => row,
+        Part::EndRepeat => RowNumber(sheet::wide(goes[row.0])),
     }
 }
 
@@ -54,10 +49,7 @@ pub fn asked_row(part: Part, goes: &[u16], row: RowNumber) -> RowNumber
 fn turns_on(asked: RowWords, holds: bool) -> bool
     ensures { result ≡ turns_on (row_said asked) holds }
 {
-    if asked.kind == kinds::WHILE {
-        return holds;
-    }
-    true
+    asked.kind != kinds::WHILE || holds
 }
 
 // A loop that is reached from outside: its first turn, or past it.
@@ -65,13 +57,11 @@ fn opened(more: bool, turns: u16, goes: &[u16], to_come: &mut [u16], at: At) -> 
     requires { (at.row.0 < length goes.now) × (1 ≤ turns) × (at.depth < length to_come.old) }
     ensures { record { at = result; to_come = to_come.new } ≡ opened more turns goes.now to_come.old at }
 {
-    let depth = at.depth;
-    let row = at.row;
-    let number = row.0;
+    let At { row, depth } = at;
     if more {
         to_come[depth] = turns - 1;
         return At {
-            row: RowNumber(number + 1),
+            row: RowNumber(row.0 + 1),
             depth: depth + 1,
         };
     }
@@ -86,14 +76,12 @@ fn turn_ended(more: bool, goes: &[u16], to_come: &mut [u16], at: At) -> At
     requires { (at.row.0 < length goes.now) × (1 ≤ at.depth) × (at.depth ≤ length to_come.old) }
     ensures { record { at = result; to_come = to_come.new } ≡ ended_turn more goes.now to_come.old at }
 {
-    let depth = at.depth;
-    let row = at.row;
-    let number = row.0;
+    let At { row, depth } = at;
     let top = depth - 1;
     let turns = to_come[top];
     if (turns == 0) | !more {
         return At {
-            row: RowNumber(number + 1),
+            row: RowNumber(row.0 + 1),
             depth: top,
         };
     }
@@ -116,13 +104,11 @@ pub fn cross(
     requires { (at.row.0 < length goes.now) × Crossable part (turns_in (row_said asked)) at.depth (length to_come.old) }
     ensures { record { at = result; to_come = to_come.new } ≡ crossing part (row_said asked) holds goes.now to_come.old at }
 {
-    let row = at.row;
-    let number = row.0;
-    let depth = at.depth;
+    let At { row, depth } = at;
     let more = turns_on(asked, holds);
     match part {
-        Part::Assignment => At {
-            row: RowNumber(number + 1),
+        Part::Assignment | Part::EndIf => At {
+            row: RowNumber(row.0 + 1),
             depth,
         },
         Part::If => At {
@@ -131,10 +117,6 @@ pub fn cross(
         },
         Part::Else => At {
             row: beyond(goes, row),
-            depth,
-        },
-        Part::EndIf => At {
-            row: RowNumber(number + 1),
             depth,
         },
         Part::Repeat => opened(more, kinds::turns_of(asked), goes, to_come, at),

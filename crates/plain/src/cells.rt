@@ -6,7 +6,7 @@ ghost use Rattle.tangent.specs.TangentRuns.{starting_rates};
 ghost use Rattle.plain.specs.Inner.Engine.{carried_in, result_of};
 
 use super::Rated;
-use number::double;
+use number::Number;
 use run::buffers;
 use sheet::{MAX_VARIABLES, is_dependent, is_independent};
 
@@ -19,17 +19,16 @@ pub fn laid(roles: &[u16], starts: &[f64], rates: &[f64]) -> [Rated; MAX_VARIABL
         ≡ record { values = starts.now; rates = starting_rates doubles roles.now rates.now }) × (length result ≡ limit.variables) }
 {
     let none = Rated {
-        value: double::zero(),
-        rate: double::zero(),
+        value: f64::zero(),
+        rate: f64::zero(),
     };
     let mut cells = [none; MAX_VARIABLES];
-    let mut i: usize = 0;
-    while i < roles.len() {
-        let value = starts[i];
-        let role = roles[i];
-        let rate = buffers::double_or_zero(is_independent(role), rates[i]);
-        cells[i] = Rated { value, rate };
-        i += 1;
+    for i in 0..roles.len() {
+        let rate = buffers::number_or_zero(is_independent(roles[i]), rates[i]);
+        cells[i] = Rated {
+            value: starts[i],
+            rate,
+        };
     }
     cells
 }
@@ -41,12 +40,9 @@ pub fn write_out(cells: [Rated; MAX_VARIABLES], roles: &[u16], res: &mut [f64])
     ensures { res.new ≡ result_of roles.now (carried_in (length roles.now) cells) }
 {
     let variables = roles.len();
-    let mut i: usize = 0;
-    while i < variables {
+    for i in 0..variables {
         let cell = cells[i];
         res[i] = cell.value;
-        let role = roles[i];
-        res[variables + i] = buffers::double_or_zero(is_dependent(role), cell.rate);
-        i += 1;
+        res[variables + i] = buffers::number_or_zero(is_dependent(roles[i]), cell.rate);
     }
 }

@@ -5,20 +5,14 @@ ghost use Rattle.plain.specs.Inner.Engine.{Ready, RunsTo};
 
 use super::blocks::At;
 use super::{Rated, blocks, rates};
-use number::double;
+use number::Number;
 use sheet::{MAX_VARIABLES, RowNumber, Shape, kinds};
 
-// How a run ends: it is through, or it stops at a sheet's row, after so many of that row's table rows.
+// Where a run stops: at a sheet's row, after so many of that row's table rows.
 #[derive(Clone, Copy)]
-pub enum End {
-    Finished,
-    Stopped(RowNumber, u8),
-}
-
-#[derive(Clone, Copy)]
-pub struct Ran {
-    pub cells: [Rated; MAX_VARIABLES],
-    pub end: End,
+pub struct StoppedAt {
+    pub row: RowNumber,
+    pub after: u8,
 }
 
 // As many steps as suffice for any sheet: for each that W counts one more, as an "if" block takes.
@@ -28,11 +22,7 @@ const STEPS: usize = 2 * sheet::MAX_LONGEST;
 fn cell_of(word: u16) -> usize
     ensures { (result < limit.variables) × (word < limit.variables → result ≡ word) }
 {
-    let place = sheet::wide(word);
-    if place < MAX_VARIABLES {
-        return place;
-    }
-    0
+    sheet::wide(word).min(MAX_VARIABLES - 1)
 }
 
 // One row at a time, from the first: an assignment sets its cell, a block's row leads on.
@@ -42,7 +32,7 @@ pub fn run_rows(
     marks: &[u8],
     goes: &[u16],
     start: [Rated; MAX_VARIABLES],
-) -> Ran
+) -> Result<[Rated; MAX_VARIABLES], StoppedAt>
     requires ready { Ready words.now shape marks.now goes.now }
     requires start_fits { length start ≡ limit.variables }
     ensures { RunsTo words.now shape marks.now start result }
@@ -53,37 +43,30 @@ pub fn run_rows(
     let mut number: usize = 0;
     let mut depth: usize = 0;
     let mut left: usize = STEPS;
+    // No `for`: a block's row leads on to another than the next.
     while number < shape.rows {
         let row = RowNumber(number);
         let said = sheet::row_of(words, shape.first_row, row);
         let kind = sheet::wide(said.kind);
-        let form = forms[kind];
-        let part = form.3;
-        let a = cells[cell_of(said.a)];
-        let b = cells[cell_of(said.b)];
+        let part = forms[kind].3;
         left -= 1;
         if kinds::assigns(part) {
+            let a = cells[cell_of(said.a)];
+            let b = cells[cell_of(said.b)];
             match rates::assigned(words, shape.first_constant, said, marks[number], a, b) {
                 Ok(x) => cells[cell_of(said.d)] = x,
-                Err(after) => return Ran {
-                    cells,
-                    end: End::Stopped(row, after),
-                },
+                Err(after) => return Err(StoppedAt { row, after }),
             }
             number += 1;
         } else {
             let asked = sheet::row_of(words, shape.first_row, blocks::asked_row(part, goes, row));
             let x = cells[cell_of(asked.a)];
             let y = cells[cell_of(asked.b)];
-            let holds = double::less(x.value, y.value);
+            let holds = x.value.less(y.value);
             let next = blocks::cross(part, asked, holds, goes, &mut to_come, At { row, depth });
-            let to = next.row;
-            number = to.0;
+            number = next.row.0;
             depth = next.depth;
         }
     }
-    Ran {
-        cells,
-        end: End::Finished,
-    }
+    Ok(cells)
 }

@@ -13,7 +13,6 @@ ghost use Rattle.plain.specs.Carries.{carry_of};
 ghost use Rattle.plain.specs.Calls.{carried_to, plain};
 ghost use Rattle.plain.specs.Inner.Engine.{Found, CarryRoom};
 
-use engine::End;
 use run::refusals;
 use sheet::{MAX_ROWS, Shape};
 use table::Reply;
@@ -47,21 +46,15 @@ fn carry(
 {
     let roles_end = 1 + shape.variables;
     let start = cells::laid(&words[1..roles_end], starts, rates);
-    let ran = engine::run_rows(words, shape, marks, goes, start);
-    let last = ran.cells;
-    let end = ran.end;
-    match end {
-        End::Finished => {
+    match engine::run_rows(words, shape, marks, goes, start) {
+        Ok(last) => {
             cells::write_out(last, &words[1..roles_end], res);
-            Reply {
-                number: table::DONE,
-                place: 0,
-            }
+            Reply::done()
         }
-        End::Stopped(row, after) => Reply {
-            number: run::NOT_FINITE_RESULT,
-            place: tangent::rows_before(words, shape, marks, row) + after as usize,
-        },
+        Err(at) => {
+            let first = tangent::rows_before(words, shape, marks, at.row);
+            Reply::refused(run::NOT_FINITE_RESULT, first + usize::from(at.after))
+        }
     }
 }
 
@@ -73,24 +66,15 @@ pub fn tangent_plain(words: &[u16], starts: &[f64], rates: &[f64], res: &mut [f6
     let mut marks = [0u8; MAX_ROWS];
     let mut came = [0u16; MAX_ROWS];
     let mut goes = [0u16; MAX_ROWS];
-    match sets::mark(words, &mut marks, &mut came, &mut goes) {
-        Err(why) => Reply {
-            number: sheet::number_of(why),
-            place: sheet::place_of(why),
-        },
-        Ok((shape, _)) => {
-            if let Err(why) = refusals::lengths_fit(
-                shape.variables,
-                starts.len(),
-                rates.len(),
-                res.len(),
-            ) {
-                return refusals::answer_no(why);
-            }
-            if let Err(why) = refusals::all_finite(starts, rates) {
-                return refusals::answer_no(why);
-            }
-            carry(words, shape, &marks, &goes, starts, rates, res)
-        }
+    let shape = match sets::mark(words, &mut marks, &mut came, &mut goes) {
+        Ok((shape, _)) => shape,
+        Err(why) => return Reply::from(why),
+    };
+    if let Err(why) = refusals::lengths_fit(shape.variables, starts.len(), rates.len(), res.len()) {
+        return Reply::from(why);
     }
+    if let Err(why) = refusals::all_finite(starts, rates) {
+        return Reply::from(why);
+    }
+    carry(words, shape, &marks, &goes, starts, rates, res)
 }

@@ -1,8 +1,9 @@
 -- How many rows a sheet's row has in the tangent table, by what the code learns of it: its part, its kind and its byte of marks.
 use Prim.Native.Nat.{ℕ, ◌+◌}
 use mathlib.Core.Path.{◌≡◌, refl, sym, ap, ◌∙◌}
-use mathlib.Core.Bool.{Bool, true, false, cond, not, ◌&&◌}
+use mathlib.Core.Bool.{Bool, true, false, cond, ◌&&◌}
 use lib.Dec.{eqb}
+use borrow.Author.Tests.{ne_eqb}
 use Rattle.sheet.specs.Tree.{basic, if_line, else_line, end_if, repeat, end_repeat}
 use Rattle.sheet.specs.Rows.{◌≔◌, copy, fixed, sum, difference, product, negation, quotient, Row, SheetLine, row_of, row_of_assignment, sheet_row_of, quotient_kind}
 use Rattle.sheet.specs.Inner.RowLines.{line_of_row}
@@ -51,23 +52,27 @@ module _ {r : Row} {p : Part} (s : SaysPart r p) (known : Activity) {assigning :
       ≡ cond assigning (over_assignment (eqb r.kind 5) (eqb r.kind quotient_kind) known.active known.varied_a known.varied_b) 1
   row_counted = line_counted (line_of_row r) known ∙ rw (s.says.back, e, s.is)
 
-  pub block_row : not assigning ≡ true → 1 ≡ line_count known (line_of_row r)
-  block_row left = sym (row_counted ∙ ap (λ b. cond b (over_assignment (eqb r.kind 5) (eqb r.kind quotient_kind) known.active known.varied_a known.varied_b) 1) (by assigning left))
-    where
-      by : (b : Bool) → not b ≡ true → b ≡ false
-      by false e = refl
-      by true e = sym e
+  pub block_row : assigning ≡ false → 1 ≡ line_count known (line_of_row r)
+  block_row block = sym (row_counted ∙ rw block)
 
-  assigning_is : (b : Bool) → not b ≡ false → b ≡ true
-  assigning_is true e = refl
-  assigning_is false e = sym e
-
-  module _ (assigned : not assigning ≡ false) {active first second : Bool} (a : active ≡ known.active) (f : first ≡ known.varied_a)
+  -- an assignment's, by its kind
+  module _ (assigned : assigning ≡ true) {active first second : Bool} (a : active ≡ known.active) (f : first ≡ known.varied_a)
       (g : second ≡ known.varied_b) where
-    pub quotient_row : (eqb r.kind quotient_kind && active) ≡ true → quotient_count first second + 1 ≡ line_count known (line_of_row r)
-    quotient_row divides = sym (row_counted ∙ rw (assigning_is assigning assigned, sym a, sym f, sym g, divides))
+    assigned_row : {multiplies divides : Bool} → eqb r.kind 5 ≡ multiplies → eqb r.kind quotient_kind ≡ divides
+        → over_assignment multiplies divides active first second ≡ line_count known (line_of_row r)
+    assigned_row is_5 is_18 = sym (row_counted ∙ rw (assigned, is_5, is_18, sym a, sym f, sym g))
 
-    -- by whether it is a product and all of the marks hold
-    pub assigned_row : (eqb r.kind quotient_kind && active) ≡ false → {all : Bool} → (((eqb r.kind 5 && active) && first) && second) ≡ all
-        → cond all 4 2 ≡ line_count known (line_of_row r)
-    assigned_row other is = sym (row_counted ∙ rw (assigning_is assigning assigned, sym a, sym f, sym g, other, is))
+    of_kind : {kind : ℕ} → r.kind ≡ kind → over_assignment (eqb kind 5) (eqb kind quotient_kind) active first second ≡ line_count known (line_of_row r)
+    of_kind is = assigned_row (ap (λ k. eqb k 5) is) (ap (λ k. eqb k quotient_kind) is)
+
+    pub quotient_row : r.kind ≡ quotient_kind → active ≡ true → quotient_count first second + 1 ≡ line_count known (line_of_row r)
+    quotient_row is on = rw on at (of_kind {kind = quotient_kind} is)
+
+    pub inactive_row : r.kind ≡ quotient_kind → active ≡ false → 2 ≡ line_count known (line_of_row r)
+    inactive_row is off = rw off at (of_kind {kind = quotient_kind} is)
+
+    pub product_row : r.kind ≡ 5 → {both : Bool} → ((active && first) && second) ≡ both → cond both 4 2 ≡ line_count known (line_of_row r)
+    product_row is terms = rw terms at (of_kind {kind = 5} is)
+
+    pub other_row : (r.kind ≡ 5 → ⊥) → (r.kind ≡ quotient_kind → ⊥) → 2 ≡ line_count known (line_of_row r)
+    other_row not_5 not_18 = assigned_row (ne_eqb r.kind 5 not_5) (ne_eqb r.kind quotient_kind not_18)

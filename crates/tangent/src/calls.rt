@@ -98,8 +98,8 @@ fn run_written<N: Number>(
     let first_constant = shape.first_constant;
     let constants_end = first_constant + shape.constants;
     let size = 2 * variables + 2;
-    let mut store = [N::zero(); buffers::STORE];
-    let mut copied = [N::zero(); MAX_VARIABLES];
+    let store: &mut [N] = &mut [N::zero(); buffers::STORE];
+    let copied: &mut [N] = &mut [N::zero(); MAX_VARIABLES];
     run_in(
         &words[1..roles_end],
         &words[first_constant..constants_end],
@@ -139,17 +139,16 @@ fn run_sheet<N: Number>(
     };
     let planned = super::plan_tangent(words, &mut marks, &mut came, &mut goes);
     let allowed = refusals::divisible::<N>(words, planned);
-    match refusals::judge(allowed, rooms) {
-        Err(answer) => answer,
-        Ok(plan) => {
-            if let Err(why) = refusals::all_admitted(starts, rates) {
-                return refusals::answer_no(why);
-            }
-            let mut beyond = [0u16; MAX_TABLE_ROWS];
-            super::write_planned(words, plan, &marks, table, &mut beyond);
-            run_written(words, plan, table, &beyond, starts, rates, res)
-        }
+    let plan = match refusals::judge(allowed, rooms) {
+        Ok(plan) => plan,
+        Err(answer) => return answer,
+    };
+    if let Err(why) = refusals::all_admitted(starts, rates) {
+        return Reply::from(why);
     }
+    let mut beyond = [0u16; MAX_TABLE_ROWS];
+    super::write_planned(words, plan, &marks, table, &mut beyond);
+    run_written(words, plan, table, &beyond, starts, rates, res)
 }
 
 // In doubles.

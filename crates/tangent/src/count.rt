@@ -13,13 +13,11 @@ use table::marks;
 fn quotient_count(first: bool, second: bool) -> usize
     ensures { (result ≡ quotient_count first second) × (result ≤ most_rates) }
 {
-    if first {
-        if second {
-            return 5;
-        }
-        return 1;
+    match (first, second) {
+        (true, true) => 5,
+        (true, false) => 1,
+        (false, _) => 4,
     }
-    4
 }
 
 // A block's row stands alone, and an assignment has one rate row, or three where both terms of a product are its rate; a quotient has its own.
@@ -33,11 +31,10 @@ pub fn rows_over(row: RowWords, part: Part, mark: u8) -> usize
     if !kinds::assigns(part) {
         return 1;
     }
-    if (row.kind == kinds::QUOTIENT) & active {
-        return quotient_count(first, second) + 1;
-    }
-    if (row.kind == kinds::PRODUCT) & active & first & second {
-        return 3 + 1;
-    }
-    1 + 1
+    let rates = match row.kind {
+        kinds::QUOTIENT if active => quotient_count(first, second),
+        kinds::PRODUCT if active & first & second => 3,
+        _ => 1,
+    };
+    rates + 1
 }

@@ -54,10 +54,8 @@ pub fn plan_tangent(
 ) -> Result<Plan, sheet::No>
     ensures { PlanSaysFor tangent_needs_of words.now marks.new came.new goes.new result }
 {
-    match sets::mark(words, marks, came, goes) {
-        Err(why) => Err(why),
-        Ok((shape, _)) => Ok(plan_of(words, shape, marks, came, goes)),
-    }
+    let (shape, _) = sets::mark(words, marks, came, goes)?;
+    Ok(plan_of(words, shape, marks, came, goes))
 }
 
 // The tangent table of a planned sheet into a buffer that has room for it, and where each of its "if"s, "else"s and "repeat"s goes on to.
@@ -83,24 +81,14 @@ pub fn write_tangent(words: &[u16], table: &mut [u16]) -> Reply
     let mut marks = [0u8; sheet::MAX_ROWS];
     let mut came = [0u16; sheet::MAX_ROWS];
     let mut goes = [0u16; sheet::MAX_ROWS];
-    match plan_tangent(words, &mut marks, &mut came, &mut goes) {
-        Err(why) => Reply {
-            number: sheet::number_of(why),
-            place: sheet::place_of(why),
-        },
-        Ok(plan) => {
-            if !writer::has_room(plan.rows, table.len()) {
-                return Reply {
-                    number: table::SMALL_TABLE,
-                    place: 0,
-                };
-            }
-            let mut beyond = [0u16; MAX_TABLE_ROWS];
-            write_planned(words, plan, &marks, table, &mut beyond);
-            Reply {
-                number: table::DONE,
-                place: 0,
-            }
-        }
+    let plan = match plan_tangent(words, &mut marks, &mut came, &mut goes) {
+        Ok(plan) => plan,
+        Err(why) => return Reply::from(why),
+    };
+    if !writer::has_room(plan.rows, table.len()) {
+        return Reply::refused(table::SMALL_TABLE, 0);
     }
+    let mut beyond = [0u16; MAX_TABLE_ROWS];
+    write_planned(words, plan, &marks, table, &mut beyond);
+    Reply::done()
 }

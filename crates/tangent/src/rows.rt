@@ -117,30 +117,24 @@ fn active_rates(table: &mut [u16], place: usize, variables: u16, row: RowWords, 
 {
     let first = bit(mark, sets::VARIED_A);
     let second = bit(mark, sets::VARIED_B);
-    if row.kind == kinds::PRODUCT {
-        return term_rates(table, place, variables, row, first, second);
+    let d_rate = variables + row.d;
+    match row.kind {
+        kinds::CONSTANT => put(table, place, table::kinds::CLEAR, d_rate, 0, 0),
+        kinds::SUM => combined_rate(table, place, variables, row, first, second, kinds::COPY),
+        kinds::DIFFERENCE => combined_rate(
+            table,
+            place,
+            variables,
+            row,
+            first,
+            second,
+            kinds::NEGATION,
+        ),
+        kinds::PRODUCT => term_rates(table, place, variables, row, first, second),
+        kinds::QUOTIENT => quotient_rates(table, place, variables, row, first, second),
+        // A copy and a negation do to the rate as they do themselves.
+        _ => put(table, place, row.kind, d_rate, variables + row.a, 0),
     }
-    if row.kind == kinds::SUM {
-        return combined_rate(table, place, variables, row, first, second, kinds::COPY);
-    }
-    if row.kind == kinds::DIFFERENCE {
-        return combined_rate(table, place, variables, row, first, second, kinds::NEGATION);
-    }
-    if row.kind == kinds::CONSTANT {
-        return put(table, place, table::kinds::CLEAR, variables + row.d, 0, 0);
-    }
-    if row.kind == kinds::QUOTIENT {
-        return quotient_rates(table, place, variables, row, first, second);
-    }
-    // A copy and a negation do to the rate as they do themselves.
-    put(
-        table,
-        place,
-        row.kind,
-        variables + row.d,
-        variables + row.a,
-        0,
-    )
 }
 
 // An assignment's rate rows: where it is inactive, ḋ := 0.

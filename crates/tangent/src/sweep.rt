@@ -21,14 +21,10 @@ pub fn rows_before(words: &[u16], shape: Shape, marks: &[u8], row: RowNumber) ->
 {
     let forms = sheet::kinds::forms();
     let mut rows: usize = 0;
-    let mut p: usize = 0;
-    while p < row.0 {
+    for p in 0..row.0 {
         let said = sheet::row_of(words, shape.first_row, RowNumber(p));
         let kind = sheet::wide(said.kind);
-        let form = forms[kind];
-        let part = form.3;
-        rows += count::rows_over(said, part, marks[p]);
-        p += 1;
+        rows += count::rows_over(said, forms[kind].3, marks[p]);
     }
     rows
 }
@@ -50,21 +46,16 @@ pub fn write_table(
         table.new beyond.old beyond.new }
 {
     let shape = plan.shape;
-    let rows = shape.rows;
     let variables = shape.variables as u16;
     let forms = sheet::kinds::forms();
     table[0] = plan.rows as u16;
     let mut next: usize = 1;
     let mut top: u16 = 0;
-    let mut p: usize = 0;
-    while p < rows {
+    for p in 0..shape.rows {
         let row = sheet::row_of(words, shape.first_row, RowNumber(p));
         let kind = sheet::wide(row.kind);
-        let form = forms[kind];
-        let part = form.3;
+        let part = forms[kind].3;
         next = rows::tangent_row(table, next, variables, row, part, marks[p]);
-        let what = jumps::forward(part);
-        top = jumps::note(what, next, top, beyond);
-        p += 1;
+        top = jumps::note(jumps::forward(part), next, top, beyond);
     }
 }

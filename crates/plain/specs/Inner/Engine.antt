@@ -1,5 +1,6 @@
 -- What the engine is handed, what its cells carry, and what its end says.
 use Rattle.std.specs.Prelude.{ℕ, ◌+◌, ◌*◌, ◌≤◌, ◌≡◌, List, map, ◌++◌, length, take, Float}
+use Rattle.std.specs.Prelude.{Err, Ok, Result}
 use Rattle.number.specs.Doubles.{not_finite, doubles}
 use Rattle.sheet.specs.Bounds.{limit}
 use Rattle.sheet.specs.Judging.{given}
@@ -16,9 +17,7 @@ use Rattle.machine.specs.Actions.{Attempt, through, halted, counting}
 use Rattle.tangent.specs.Inner.TangentPlans.{table_rows_before}
 use Rattle.plain.specs.Plain.{Carried, StopAt, plain_run}
 use Rattle.plain.specs.declared.Rated.{Rated}
-use Rattle.plain.specs.declared.engine.End.{End}
-use Rattle.plain.specs.declared.engine.End.TheVariants as end
-use Rattle.plain.specs.declared.engine.Ran.{Ran}
+use Rattle.plain.specs.declared.engine.StoppedAt.{StoppedAt}
 
 -- ---- cells
 
@@ -55,21 +54,20 @@ pub record Ready (words : List ℕ) (shape : Shape) (marks goes : List ℕ) : Ty
 abbrev pub stop_at : (row : ℕ) → StopAt doubles
 stop_at row = record { row = record { index = row }; why = not_finite }
 
-abbrev pub end_said : (variables : ℕ) → (before : ℕ → ℕ) → List Rated → End → Attempt (StopAt doubles) (Carried doubles)
-end_said v before cells end.Finished = through (carried_in v cells)
-end_said v before cells (end.Stopped row after) = halted (stop_at (before row.0 + after))
+abbrev pub end_said : (variables : ℕ) → (before : ℕ → ℕ) → Result (List Rated) StoppedAt → Attempt (StopAt doubles) (Carried doubles)
+end_said v before (Ok cells) = through (carried_in v cells)
+end_said v before (Err at) = halted (stop_at (before at.row.0 + at.after))
 
--- which row it stops at, if any
-abbrev pub stopped_row : End → ℕ
-stopped_row end.Finished = 0
-stopped_row (end.Stopped row after) = row.0
+-- there are as many cells as ever, or the row is one of the sheet's
+abbrev pub EndsWithin : Shape → Result (List Rated) StoppedAt → Type 0
+EndsWithin shape (Ok cells) = length cells ≡ limit.variables
+EndsWithin shape (Err at) = at.row.0 ≤ shape.rows
 
-pub record RunsTo (words : List ℕ) (shape : Shape) (marks : List ℕ) (start : List Rated) (ran : Ran) : Type 0 where
-  pub room : length ran.cells ≡ limit.variables
-  pub within : stopped_row ran.end ≤ shape.rows
+pub record RunsTo (words : List ℕ) (shape : Shape) (marks : List ℕ) (start : List Rated) (ran : Result (List Rated) StoppedAt) : Type 0 where
+  pub within : EndsWithin shape ran
   pub ends : (sheet : Sheet) → read words ≡ given sheet
       → plain_run doubles (variables_of sheet) sheet.constants (marked_by (sets_of sheet) sheet) 0 (carried_in (variables_of sheet) start)
-      ≡ end_said (variables_of sheet) (table_rows_before words shape.first_row marks) ran.cells ran.end
+      ≡ end_said (variables_of sheet) (table_rows_before words shape.first_row marks) ran
 
 -- ---- buffers
 

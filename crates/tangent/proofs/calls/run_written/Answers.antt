@@ -1,21 +1,21 @@
--- `tangent::calls_double::run_written` meets its contract.
-use mathlib.Core.Path.{sym}
-use lib.Seq.{length-take-le}
-use lib.Ieee.{of_bits}
-use Rattle.number.specs.Doubles.{doubles}
-use Rattle.run.proofs.SectionLaws.{run_room, part_indexed, ready_to_run}
+-- `tangent::calls::run_written` meets its contract.
 use native.Mathlib.Omega.{arith}
-use Rattle.tangent.proofs.calls_double.run_written.Goals as goal
+use Rattle.number.specs.Arithmetic.{arithmetic_on}
+use Rattle.run.proofs.SectionLaws.{run_room, part_indexed, ready_to_run}
+use Rattle.tangent.proofs.calls.run_written.Goals as goal
 
-pub slice_bounds-run_in-end-3 : goal.slice_bounds-run_in-end-3
-slice_bounds-run_in-end-3 c = sym (length-take-le _ _ (omega arith))
+pub whole_as_slice-store : goal.whole_as_slice-store
+whole_as_slice-store g c = omega (arith, g.met.N.Number.takes_little)
 
-pub slice_bounds-run_in-end-4 : goal.slice_bounds-run_in-end-4
-slice_bounds-run_in-end-4 c = sym (length-take-le _ _ (omega arith))
+pub whole_as_slice-copied : goal.whole_as_slice-copied
+whole_as_slice-copied g c = omega (arith, g.met.N.Number.takes_little)
 
 pub run_in-requires : goal.run_in-requires
-unfolding of_bits
-run_in-requires c = record { indexed = part_indexed _ _ doubles c.requires.room c.requires.indexed; room = run_room _ _ doubles c.requires.room }
+run_in-requires g c =
+    record {
+      indexed = rw c.zero.ensures (part_indexed _ _ (arithmetic_on g.N.Number.operations) c.requires.room c.requires.indexed);
+      room = rw (c.zero.ensures, c.zero-2.ensures) (run_room _ _ (arithmetic_on g.N.Number.operations) c.requires.room);
+    }
 
 pub returns : goal.returns
-returns c = λ sheet buffer place. c.run_in.ensures sheet buffer (ready_to_run _ _ place)
+returns g c = λ sheet buffer place. c.run_in.ensures sheet buffer (ready_to_run _ _ place)

@@ -1,19 +1,13 @@
--- `tangent::calls_double::write_rates` meets its contract.
-use mathlib.Core.Path.{sym}
-use lib.Seq.{length-take-le}
-use Rattle.number.specs.Doubles.{doubles}
+-- `tangent::calls::write_rates` meets its contract.
+use Rattle.number.specs.Arithmetic.{arithmetic_on}
 use Rattle.tangent.proofs.TangentCalls.{rates_fit, rates_written}
-use native.Mathlib.Omega.{arith}
-use Rattle.tangent.proofs.calls_double.write_rates.Goals as goal
-
-pub slice_bounds-write_result-end : goal.slice_bounds-write_result-end
-slice_bounds-write_result-end c = sym (length-take-le _ _ (omega arith))
+use Rattle.tangent.proofs.calls.write_rates.Goals as goal
 
 pub write_result-requires : goal.write_result-requires
-write_result-requires c =
-    rates_fit doubles _ c.requires.store_fits c.requires.result_fits
+write_result-requires g c =
+    rates_fit (arithmetic_on g.N.Number.operations) _ c.requires.store_fits c.requires.result_fits
 
 pub returns : goal.returns
-returns c =
+returns g c =
     let args = c.args in
-    rates_written doubles args.end args.roles.now args.store.now args.res.now c.write_result.ensures
+    rates_written (arithmetic_on g.N.Number.operations) args.end args.roles.now args.store.now args.res.now c.write_result.ensures

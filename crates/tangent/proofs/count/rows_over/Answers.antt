@@ -1,0 +1,34 @@
+-- `tangent::count::rows_over` meets its contract.
+use Prim.Native.Nat.{ℕ, ◌+◌, ◌≤◌}
+use mathlib.Core.Path.{◌≡◌, ap, ◌∙◌}
+use native.Mathlib.Omega.{arith}
+use Rattle.sheet.specs.Answers.{row_said}
+use Rattle.sheet.specs.Inner.RowLines.{line_of_row}
+use Rattle.table.specs.Inner.MarkedRows.{known_by}
+use Rattle.tangent.specs.Inner.TangentPlans.{line_count, most_line_count}
+use Rattle.tangent.proofs.LineCounts.{block_row, quotient_row, inactive_row, product_row, other_row}
+use Rattle.tangent.proofs.count.rows_over.Goals.{in-18, in-5, in_default-2, in_default-3, in_default}
+use Rattle.tangent.proofs.count.rows_over.Goals as goal
+
+pub returns-then-not-assigns : goal.returns-then-not-assigns
+returns-then-not-assigns c = (block_row c.requires _ c.assigns.ensures c.if-not-assigns.true, omega arith)
+
+-- by the rate rows that it was counted to have
+with_rates : {rates counted : ℕ} {count : ℕ} → rates ≡ counted → counted + 1 ≡ count → counted ≤ 5 → (rates + 1 ≡ count) × (rates + 1 ≤ most_line_count)
+with_rates is whole few = (omega (arith, is, whole), omega (arith, is, few))
+
+pub returns : goal.returns
+returns c =
+    let s = c.requires in
+    let e = c.assigns.ensures in
+    let is = c.if-not-assigns.false in
+    let active = c.bit-active.ensures in
+    let first = c.bit-first.ensures in
+    let second = c.bit-second.ensures in
+    elim c.match-row.branch [
+      | in-18 w ↦ with_rates (w.rates-is ∙ w.quotient_count-rates.ensures.0) (quotient_row s _ e is active first second w.in-18.is w.if-active.true) (omega (arith, w.quotient_count-rates.ensures))
+      | in-5 w ↦ with_rates w.rates-is (product_row s _ e is active first second w.in-5.is w.if-active-first.true) (omega arith)
+      | in_default-2 w ↦ with_rates w.rates-is (inactive_row s _ e is active first second w.in-18.is w.if-active.false) (omega arith)
+      | in_default-3 w ↦ with_rates w.rates-is (product_row s _ e is active first second w.in-5.is w.if-active-first.false) (omega arith)
+      | in_default w ↦ with_rates w.rates-is (other_row s _ e is active first second (λ h. omega arith) (λ h. omega arith)) (omega arith)
+    ]
