@@ -1,5 +1,6 @@
 -- Demand 1 for the reader's call: whatever its contract permits, each refusal is answered exactly when 01's rule for it holds.
 use mathlib.Core.Path.{◌≡◌, refl, sym, ap, subst}
+use Rattle.sheet.specs.declared.No.{No}
 use Rattle.std.specs.Prelude.{Ok, Result}
 use mathlib.Core.List.{List}
 use mathlib.Core.Logic.{◌⊎◌, inl, inr}

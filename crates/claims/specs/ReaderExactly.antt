@@ -1,4 +1,5 @@
 -- Demand 1 of reading: of the executable reader and of the reader's own call. No demand rests on it.
+use Rattle.sheet.specs.declared.No.{No}
 use Rattle.std.specs.Prelude.{ℕ, ◌≤◌, ◌≡◌, List, ◌↔◌}
 use Rattle.std.specs.Prelude.{Ok, Result}
 use Rattle.sheet.specs.Judging.{Answer, refused, given, number_in, place_in}
