@@ -1,48 +1,67 @@
 -- How many rows a sheet's row has in the table's two parts, and how many all of them have.
-use Prim.Native.Nat.{ℕ, suc, ◌+◌, ◌*◌, ◌-◌, ◌≤◌, ◌<◌}
+use Prim.Native.Nat.{ℕ, zero, suc, ◌+◌, ◌*◌, ◌-◌, ◌≤◌, ◌<◌}
 use mathlib.Core.Path.{◌≡◌, refl, ap, ◌∙◌}
-use mathlib.Core.Bool.{Bool, true, false}
+use mathlib.Core.Bool.{Bool, true, false, cond, not, ◌&&◌, ◌||◌}
 use mathlib.Core.List.{List, [], ◌∷◌, ◌++◌}
 use mir.Val.{bool_byte as from_bool}
 use lib.ListN.{length, length-append, get_or}
+use lib.Dec.{eqb}
+use native.Mathlib.Decide.{ℕ_discrete}
 use native.Mathlib.Omega.{arith}
 use Rattle.sheet.specs.Rows.{Row, quotient_kind}
 use Rattle.sheet.specs.Inner.RowLines.{line_of_row, numbered_row}
 use Rattle.sheet.specs.declared.kinds.Part.{Part}
-use Rattle.table.specs.Inner.MarkedRows.{row_if, known_by, saved_by, SaysPart, part_rows, derivatives_of, assignment_back, forward_of_line, backward_of_line, both_parts, count_rows}
+use Rattle.table.specs.Inner.MarkedRows.{row_if, known_by, saved_by, Assigns, SaysPart, part_rows, derivatives_of, assignment_back, forward_of_line, backward_of_line, both_parts, count_rows}
 use Rattle.table.proofs.AssignmentRows.{constant_rows, copy_rows, negation_rows, two_rows, product_rows, quotient_rows, active_rows, inactive_rows, assignment_rows}
 use Rattle.table.proofs.LineRows.{forward_for, forward_by, backward_for, backward_by}
 
-counted_if : (b : Bool) (r : Row) → length (row_if b r) ≡ from_bool b
-counted_if true r = refl
-counted_if false r = refl
+one_if : (b : Bool) (r : Row) → length (row_if b r) ≡ from_bool b
+one_if true r = refl
+one_if false r = refl
+
+-- whether an operand names a varied variable: a constant has none, and a sum, a difference, a product and a quotient have two
+abbrev pub first_of : (kind : ℕ) (first : Bool) → ℕ
+first_of kind first = from_bool (not (eqb kind 2) && first)
+
+abbrev pub second_of : (kind : ℕ) (second : Bool) → ℕ
+second_of kind second = from_bool ((((eqb kind 3 || eqb kind 4) || eqb kind 5) || eqb kind quotient_kind) && second)
+
+-- each has one row of the parts, and in a product two; in a quotient the first has one and the second three, after one for both
+abbrev pub part_count : (kind : ℕ) (first second : ℕ) → ℕ
+part_count kind first second = cond (eqb kind 5) (2 * (first + second)) (cond (eqb kind quotient_kind) (1 + first + 3 * second) (first + second))
 
 module _ (v : ℕ) (r : Row) (mark : ℕ) where
-  pub constant_count : r.kind ≡ 2 → length (part_rows v r mark) ≡ 0
-  constant_count e = ap length (constant_rows v r mark e)
+  pub parts_counted : {first second : Bool} → first ≡ (known_by mark).varied_a → second ≡ (known_by mark).varied_b → Assigns r.kind
+      → length (part_rows v r mark) ≡ part_count r.kind (first_of r.kind first) (second_of r.kind second)
+  parts_counted {first} {second} a_is b_is assigns = either (ℕ_discrete r.kind quotient_kind)
+    where
+      Count : ℕ → Type 0
+      Count kind = length (part_rows v r mark) ≡ part_count kind (first_of kind first) (second_of kind second)
 
-  -- each operand that is varied has one row of the parts, and in a product two; in a quotient the first has one and the second three, after one for both
-  module _ {first : Bool} (varied_a : first ≡ (known_by mark).varied_a) where
-    pub copy_count : r.kind ≡ 1 → length (part_rows v r mark) ≡ from_bool first
-    copy_count e = ap length (copy_rows v r mark varied_a refl e) ∙ counted_if first _
+      by : (kind : ℕ) → r.kind ≡ kind → 1 ≤ kind → kind ≤ 6 → Count kind
+      by zero e l h = absurd (omega arith)
+      by (suc zero) e l h = ap length (copy_rows v r mark a_is refl e) ∙ one_if first _ ∙ omega arith
+      by (suc (suc zero)) e l h = ap length (constant_rows v r mark e)
+      by (suc (suc (suc zero))) e l h =
+          ap length (two_rows v r mark a_is b_is refl (omega arith, omega arith)) ∙ simp (length-append, one_if)
+      by (suc (suc (suc (suc zero)))) e l h =
+          ap length (two_rows v r mark a_is b_is refl (omega arith, omega arith)) ∙ simp (length-append, one_if)
+      by (suc (suc (suc (suc (suc zero))))) e l h =
+          ap length (product_rows v r mark a_is b_is e) ∙ simp (length-append, one_if) (omega arith)
+      by (suc (suc (suc (suc (suc (suc zero)))))) e l h = ap length (negation_rows v r mark a_is refl e) ∙ one_if first _ ∙ omega arith
+      by (suc (suc (suc (suc (suc (suc (suc k))))))) e l h = absurd (omega arith)
 
-    pub negation_count : r.kind ≡ 6 → length (part_rows v r mark) ≡ from_bool first
-    negation_count e = ap length (negation_rows v r mark varied_a refl e) ∙ counted_if first _
+      quotient : (kind : ℕ) → r.kind ≡ kind → kind ≡ quotient_kind → Count kind
+      quotient kind e divides = rw divides (ap length (quotient_rows v r mark a_is b_is (e ∙ divides)) ∙ simp (length-append, one_if) (omega arith))
 
-    module _ {second : Bool} (varied_b : second ≡ (known_by mark).varied_b) where
-      pub two_count : (3 ≤ r.kind) × (r.kind ≤ 4) → length (part_rows v r mark) ≡ from_bool first + from_bool second
-      two_count within = ap length (two_rows v r mark varied_a varied_b refl within) ∙ simp (length-append, counted_if)
-
-      pub product_count : r.kind ≡ 5 → length (part_rows v r mark) ≡ 2 * (from_bool first + from_bool second)
-      product_count e = ap length (product_rows v r mark varied_a varied_b e) ∙ simp (length-append, counted_if) (omega arith)
-
-      pub quotient_count : r.kind ≡ quotient_kind → length (part_rows v r mark) ≡ 1 + from_bool first + 3 * from_bool second
-      quotient_count e = ap length (quotient_rows v r mark varied_a varied_b e) ∙ simp (length-append, counted_if) (omega arith)
+      either : Dec (r.kind ≡ quotient_kind) → Count r.kind
+      either (yes e) = quotient r.kind refl e
+      either (no other) = by r.kind refl assigns.some (assigns.most other)
 
   -- an assignment's rows backward: the take back if it is saved, two more where it is active
   module _ {saved : Bool} (is_saved : saved ≡ saved_by mark) where
     taken_count : length (assignment_back v r mark) ≡ from_bool saved + length (derivatives_of v r mark)
-    taken_count = ap length (assignment_rows v r mark is_saved) ∙ simp (length-append, counted_if)
+    taken_count = ap length (assignment_rows v r mark is_saved) ∙ simp (length-append, one_if)
 
     pub active_count : (known_by mark).active ≡ true → length (assignment_back v r mark) ≡ from_bool saved + (2 + length (part_rows v r mark))
     active_count e = omega (arith, taken_count, ap length (active_rows v r mark refl e))
@@ -61,7 +80,7 @@ pub both_by : {r : Row} {p q : Part} → SaysPart r p → p ≡ q → (v mark : 
 both_by {r} s told v mark e = both_length v mark r ∙ rw (forward_by s told mark e, backward_by s told v mark 0)
 
 pub saved_first : (saved : Bool) (first r : Row) → length (row_if saved first ++ (r ∷ [])) ≡ from_bool saved + 1
-saved_first saved first r = simp (length-append, counted_if)
+saved_first saved first r = simp (length-append, one_if)
 
 -- ---- all rows
 

@@ -15,13 +15,15 @@ fn parts_count(row: RowWords, mark: u8) -> usize
     requires { Assigns row.kind }
     ensures { Counted most_parts result (λ v. part_rows v (row_said row) mark) }
 {
-    let of_a = usize::from(marks::bit(mark, sets::VARIED_A));
-    let of_b = usize::from(marks::bit(mark, sets::VARIED_B));
-    // With `COPY | NEGATION`, as tried, a proof of the last arm isn't told that the kind is neither.
+    // Which operands there are is found without branches: by arms for each kind, as tried, the sizes of mixed rows took four tenths longer.
+    let has_a = row.kind != kinds::CONSTANT;
+    let has_b = (row.kind == kinds::SUM)
+        | (row.kind == kinds::DIFFERENCE)
+        | (row.kind == kinds::PRODUCT)
+        | (row.kind == kinds::QUOTIENT);
+    let of_a = usize::from(has_a & marks::bit(mark, sets::VARIED_A));
+    let of_b = usize::from(has_b & marks::bit(mark, sets::VARIED_B));
     match row.kind {
-        kinds::CONSTANT => 0,
-        kinds::COPY => of_a,
-        kinds::NEGATION => of_a,
         kinds::PRODUCT => 2 * (of_a + of_b),
         kinds::QUOTIENT => 1 + of_a + 3 * of_b,
         _ => of_a + of_b,

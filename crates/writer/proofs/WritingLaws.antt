@@ -1,22 +1,21 @@
 -- Rows written one after another, and the rows that a table says.
-use Prim.Native.Nat.{ℕ, suc, ◌+◌, ◌≤◌}
+use Prim.Native.Nat.{ℕ, suc, ◌+◌}
 use mathlib.Core.Path.{◌≡◌, refl, sym, ap, ◌∙◌, subst}
 use mathlib.Core.List.{List, [], ◌∷◌, ◌++◌, append-nil, append_assoc}
-use lib.ListN.{length, set, take, drop, length-append, length-set}
-use lib.Seq.{sets, length-sets, sets-eq, drop-drop}
-use borrow.Rule.Slice.PartMut.{put_mid}
+use lib.ListN.{length, set, length-append, length-set}
+use lib.Seq.{sets, length-sets}
 use native.Mathlib.Omega.{arith}
 use Rattle.sheet.specs.Rows.{Row}
 use Rattle.table.specs.TableRows.{words_of}
 use Rattle.table.proofs.TableLength.{words_counted}
 use Rattle.writer.specs.Inner.RowsWritten.{RowRoom, Wrote}
 
--- words copied into a part of a list
-pub part_stored : (l words : List ℕ) (p k : ℕ) → k ≡ length words → p + length words ≤ length l → put_mid p k l words ≡ sets l p words
-part_stored l words p k e fits =
-    rw e
-    (ap (λ rest. take p l ++ (words ++ rest)) (drop-drop (length words) p l) ∙ sym (append_assoc (take p l) words (drop (p + length words) l))
-    ∙ sym (sets-eq words l p fits))
+pub row_stores : (l : List ℕ) (p k d a b : ℕ) → set (set (set (set l p k) (p + 1) d) (p + 2) a) (p + 3) b ≡ sets l p (k ∷ d ∷ a ∷ b ∷ [])
+row_stores l p k d a b =
+    let one : p + 1 ≡ suc p = omega arith in
+    let two : p + 2 ≡ suc (suc p) = omega arith in
+    let three : p + 3 ≡ suc (suc (suc p)) = omega arith in
+    rw (one, two, three)
 
 sets_append : (l xs ys : List ℕ) (p : ℕ) → sets l p (xs ++ ys) ≡ sets (sets l p xs) (p + length xs) ys
 sets_append l [] ys p = let e : p + 0 ≡ p = omega arith in rw e
