@@ -1,7 +1,7 @@
 -- `plain::carry` meets its contract.
-use mathlib.Core.Path.{sym, ap, subst, ◌∙◌}
+use mathlib.Core.Path.{◌≡◌, sym, ap, subst, ◌∙◌}
 use native.Mathlib.Omega.{arith}
-use Prim.Native.Nat.{◌*◌}
+use Prim.Native.Nat.{◌+◌, ◌*◌}
 use Rattle.table.proofs.PlanLaws.{readable}
 use Rattle.run.proofs.CallLaws.{replied}
 use Rattle.plain.specs.Inner.Engine.{EndsWithin}
@@ -47,7 +47,8 @@ returns-in-Ok c =
 
 pub returns-in-Err : goal.returns-in-Err
 returns-in-Err c =
+    let place : c.refused.result.place ≡ c.rows_before-first.result + c.in-Err.at.after = omega arith in
     λ sheet e.
-    rw (replied c.refused.ensures, c.from.ensures)
+    rw (replied (c.refused.ensures.0, place))
     (stopped c.requires.found c.args.starts.now c.args.rates.now c.laid-start.result c.laid-start.ensures.0 c.run_rows.result
     c.run_rows.ensures c.args.res.now c.in-Err.is c.rows_before-first.result c.rows_before-first.ensures.0 sheet e)
