@@ -1,13 +1,23 @@
--- An "end repeat", by the turns still to come and whether the loop turns on.
+-- Where a block's row leads; an "end repeat", by the turns still to come and whether the loop turns on.
 use Prim.Native.Nat.{ℕ, zero, suc, ◌+◌, ◌-◌, ◌≤◌}
 use mathlib.Core.Path.{◌≡◌}
 use mathlib.Core.Bool.{Bool, true, false, not, ◌||◌}
 use mathlib.Core.List.{List}
+use mathlib.Core.Logic.{◌⊎◌, inl, inr}
 use native.Mathlib.Omega.{arith}
 use lib.ListN.{get_or, set}
 use lib.Dec.{eqb}
+use Rattle.sheet.specs.Rows.{Row}
+use Rattle.sheet.specs.declared.kinds.Part.{Part}
+use Rattle.sheet.specs.declared.kinds.Part.TheVariants as part
 use Rattle.plain.specs.declared.blocks.At.{At}
-use Rattle.plain.specs.Inner.Crossing.{crossed_to, ended_turn}
+use Rattle.plain.specs.Inner.Crossing.{crossed_to, crossing, ended_turn}
+
+-- past an assignment or an "end if" the next row is at hand
+pub goes_on : {p : Part} (asked : Row) (holds : Bool) (goes to_come : List ℕ) (at : At) → (p ≡ part.Assignment) ⊎ (p ≡ part.EndIf)
+    → crossed_to (at.row.0 + 1) at.depth to_come ≡ crossing p asked holds goes to_come at
+goes_on asked holds goes to_come at (inl is) = rw is
+goes_on asked holds goes to_come at (inr is) = rw is
 
 pub some_to_come : (turns : ℕ) (over : Bool) → (eqb turns 0 || over) ≡ false → 1 ≤ turns
 some_to_come zero over on = let z : ◌≡◌ {A = ℕ} 0 1 = cc in absurd (omega arith)

@@ -1,5 +1,6 @@
 -- From what the engine leaves to what the call answers and leaves; before it, refusals 1 to 7, 10 and 11.
 use Prim.Native.Nat.{ℕ, ◌+◌, ◌-◌, ◌≤◌}
+use Rattle.std.specs.Prelude.{Err, Ok, Result}
 use mathlib.Core.Path.{◌≡◌, sym, ap, subst, ◌∙◌}
 use mathlib.Core.List.{List, ◌++◌}
 use native.Mathlib.Omega.{arith}
@@ -14,7 +15,6 @@ use Rattle.sheet.specs.Refusals.{Refusal, wrong_starts, wrong_seeds, wrong_resul
 use Rattle.sheet.specs.Sheets.{Sheet, variables_of}
 use Rattle.sheet.specs.Reading.{read, read_in}
 use Rattle.sheet.specs.Answers.{shape_of, shape_read}
-use Rattle.sheet.specs.declared.RowNumber.{RowNumber}
 use Rattle.sheet.specs.declared.Shape.{Shape}
 use Rattle.sheet.proofs.Judgements.{bind_assoc}
 use Rattle.sheet.proofs.ReadingParts.{bound, passed, same_given}
@@ -31,8 +31,7 @@ use Rattle.plain.specs.Plain.{plain_by, plain_result}
 use Rattle.plain.specs.Carries.{carry_of}
 use Rattle.plain.specs.Calls.{read_to_carry, carried_to, carried_on, plain}
 use Rattle.plain.specs.declared.Rated.{Rated}
-use Rattle.plain.specs.declared.engine.End.TheVariants as end
-use Rattle.plain.specs.declared.engine.Ran.{Ran}
+use Rattle.plain.specs.declared.engine.StoppedAt.{StoppedAt}
 use Rattle.plain.specs.Inner.Engine.{carried_in, Found, end_said, RunsTo, CarryRoom, result_of}
 use Rattle.plain.proofs.ReadyLaws.{found_sections, found_lies}
 
@@ -59,9 +58,9 @@ module _ {words : List ℕ} {shape : Shape} {marks goes : List ℕ} (found : Fou
 
   module _ (starts rates : List Float) (start : List Rated)
       (laid : carried_in (length roles_part) start ≡ record { values = starts; rates = starting_rates doubles roles_part rates })
-      (ran : Ran) (runs : RunsTo words shape marks start ran) where
+      (ran : Result (List Rated) StoppedAt) (runs : RunsTo words shape marks start ran) where
     -- what the run of the sheet comes to
-    run_is : plain_by doubles (sets_of its) its starts rates ≡ end_said (variables_of its) (table_rows_before words shape.first_row marks) ran.cells ran.end
+    run_is : plain_by doubles (sets_of its) its starts rates ≡ end_said (variables_of its) (table_rows_before words shape.first_row marks) ran
     unfolding plain_by
     run_is =
         let from : carried_in (variables_of its) start ≡ record { values = starts; rates = starting_rates doubles its.roles rates } =
@@ -73,7 +72,7 @@ module _ {words : List ℕ} {shape : Shape} {marks goes : List ℕ} (found : Fou
     this_sheet P here sheet e = subst P (same_given (sym found.accepted ∙ e)) here
 
     module _ (result : List Float) where
-      pub finished : ran.end ≡ end.Finished → (after : List Float) → after ≡ result_of roles_part (carried_in (length roles_part) ran.cells)
+      pub finished : {cells : List Rated} → ran ≡ Ok cells → (after : List Float) → after ≡ result_of roles_part (carried_in (length roles_part) cells)
           → (sheet : Sheet) → read words ≡ given sheet
           → carry_of doubles (record { number = 0; place = 0 }) after ≡ carried_to doubles sheet result (plain_by doubles (sets_of sheet) sheet starts rates)
       unfolding carried_to plain_result result_of
@@ -82,12 +81,12 @@ module _ {words : List ℕ} {shape : Shape} {marks goes : List ℕ} (found : Fou
           ≡ carried_to doubles sheet result (plain_by doubles (sets_of sheet) sheet starts rates))
           (rw (run_is, told, written, roles_are_lem))
 
-      pub stopped : (row : RowNumber) (n : ℕ) → ran.end ≡ end.Stopped row n → (place : ℕ) → place ≡ table_rows_before words shape.first_row marks row.0
+      pub stopped : {at : StoppedAt} → ran ≡ Err at → (place : ℕ) → place ≡ table_rows_before words shape.first_row marks at.row.0
           → (sheet : Sheet) → read words ≡ given sheet
-          → carry_of doubles (record { number = 12; place = place + n }) result ≡ carried_to doubles sheet result (plain_by doubles (sets_of sheet) sheet starts rates)
+          → carry_of doubles (record { number = 12; place = place + at.after }) result ≡ carried_to doubles sheet result (plain_by doubles (sets_of sheet) sheet starts rates)
       unfolding carried_to
-      stopped row n told place counted =
-          this_sheet (λ sheet. carry_of doubles (record { number = 12; place = place + n }) result
+      stopped {at} told place counted =
+          this_sheet (λ sheet. carry_of doubles (record { number = 12; place = place + at.after }) result
           ≡ carried_to doubles sheet result (plain_by doubles (sets_of sheet) sheet starts rates))
           (rw (run_is, told, counted))
 

@@ -36,8 +36,8 @@ use Rattle.plain.specs.declared.Rated.{Rated}
 use Rattle.plain.specs.declared.blocks.At.{At}
 use Rattle.plain.specs.Inner.Working.{operand_on, worked_on, worked_said}
 use Rattle.plain.specs.Inner.Crossing.{Crossed, at_row, asked_row, crossing, Crossable}
-use Rattle.plain.specs.declared.engine.Ran.{Ran}
-use Rattle.plain.specs.Inner.Engine.{carried_in, Ready, stop_at, end_said, stopped_row, RunsTo}
+use Rattle.plain.specs.declared.engine.StoppedAt.{StoppedAt}
+use Rattle.plain.specs.Inner.Engine.{carried_in, Ready, stop_at, end_said, EndsWithin, RunsTo}
 use Rattle.plain.proofs.CarriedOver.{stopping_from, carried_over_lem}
 use Rattle.plain.proofs.EngineLaws.{line_here, line_asked, run_at, resume, Going, going_starts, going_line, going_asked, going_left, going_ends, AtAssignment, at_assignment, test_holds, at_block}
 use Rattle.plain.proofs.ReadyLaws.{ready_lies, ready_sections, ready_rows, ready_constants, constant_there, ready_placed}
@@ -263,15 +263,14 @@ module _ {words : List ℕ} {shape : Shape} {marks goes : List ℕ} (ready : Rea
       (λ (s : Sheet). plain_run doubles (variables_of s) s.constants (marked_by (sets_of s) s) 0 (carried_in (variables_of s) start) ≡ whole_from ready start)
       (same_given (sym ready.found.accepted ∙ e)) refl
 
-  pub runs_to : (ran : Ran) → length ran.cells ≡ limit.variables → stopped_row ran.end ≤ shape.rows
-      → whole_from ready start ≡ end_said (variables_of ready.found.sheet) (table_rows_before words shape.first_row marks) ran.cells ran.end
+  pub runs_to : (ran : Result (List Rated) StoppedAt) → EndsWithin shape ran
+      → whole_from ready start ≡ end_said (variables_of ready.found.sheet) (table_rows_before words shape.first_row marks) ran
       → RunsTo words shape marks start ran
-  runs_to ran room within comes =
+  runs_to ran within comes =
       record {
-        room = room;
         within = within;
         ends = λ sheet e.
             whole_is sheet e ∙ comes
-            ∙ ap (λ (s : Sheet). end_said (variables_of s) (table_rows_before words shape.first_row marks) ran.cells ran.end)
+            ∙ ap (λ (s : Sheet). end_said (variables_of s) (table_rows_before words shape.first_row marks) ran)
             (same_given (sym ready.found.accepted ∙ e));
       }

@@ -4,6 +4,7 @@ use lib.ListN.{length}
 use Rattle.sheet.specs.Answers.{row_said}
 use Rattle.sheet.specs.Inner.Kinds.{turns_in}
 use Rattle.plain.specs.Inner.Crossing.{Crossable}
+use Rattle.plain.proofs.BlockLaws.{goes_on}
 use Rattle.plain.proofs.blocks.cross.Goals as goal
 
 pub opened-requires : goal.opened-requires
@@ -21,16 +22,13 @@ turn_ended-requires c =
     (c.requires.0, ends.0, ends.1)
 
 pub returns-in-Assignment : goal.returns-in-Assignment
-returns-in-Assignment c = rw c.in-Assignment.is
+returns-in-Assignment c = goes_on _ _ _ _ _ c.in-Assignment.is
 
 pub returns-in-If : goal.returns-in-If
 returns-in-If c = rw (c.in-If.is, c.branch-goes.ensures)
 
 pub returns-in-Else : goal.returns-in-Else
 returns-in-Else c = rw (c.in-Else.is, c.beyond.ensures)
-
-pub returns-in-EndIf : goal.returns-in-EndIf
-returns-in-EndIf c = rw c.in-EndIf.is
 
 pub returns-in-Repeat : goal.returns-in-Repeat
 returns-in-Repeat c =

@@ -1,11 +1,6 @@
 -- `plain::cells::laid` meets its contract. The invariant: the variables passed are laid.
-use Prim.Native.Nat.{◌-◌}
-use lib.ListN.{length}
 use Rattle.plain.proofs.LayingLaws.{Laying}
 use Rattle.plain.proofs.cells.laid.Given as goal
 
 abbrev pub invariant-loop-i : goal.invariant-loop-i
 invariant-loop-i l = Laying l.roles l.starts l.rates l.i l.cells
-
-abbrev pub decreases-loop-i : goal.decreases-loop-i
-decreases-loop-i l = length l.roles - l.i

@@ -1,5 +1,6 @@
 -- `plain::rates::active_rate` meets its contract.
 use mathlib.Core.Path.{sym}
+use native.Mathlib.Omega.{arith}
 use Rattle.plain.proofs.WorkLaws.{moves}
 use Rattle.plain.proofs.rates.active_rate.Goals as goal
 
@@ -20,5 +21,4 @@ returns-in-18 c = rw c.in-18.is c.quotient_rate.ensures
 
 pub returns-in_default : goal.returns-in_default
 returns-in_default c =
-    let other = c.in_default.in_default-own.rest in
-    moves _ _ _ _ _ _ other.0.0.0.0.1 other.0.0.0.1 other.0.0.1 other.0.1 other.1
+    moves c.args.kind _ _ _ _ _ _ (λ e. omega arith) (λ e. omega arith) (λ e. omega arith) (λ e. omega arith) (λ e. omega arith)

@@ -16,4 +16,4 @@ pub bounds-words-place : goal.bounds-words-place
 bounds-words-place c = omega (arith, c.requires c.if-row-ne-CONSTANT.false, c.wide.ensures.0)
 
 pub returns : goal.returns
-returns c = rw (eq-eqb _ 2 c.if-row-ne-CONSTANT.false, ← c.wide.ensures.0, c.double_of.ensures, c.zero.ensures)
+returns c = rw (eq-eqb _ 2 c.if-row-ne-CONSTANT.false, ← c.wide.ensures.0, c.constant.ensures, c.zero.ensures)

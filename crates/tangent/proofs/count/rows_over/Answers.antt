@@ -1,11 +1,8 @@
 -- `tangent::count::rows_over` meets its contract.
 use Prim.Native.Nat.{ℕ, ◌+◌, ◌≤◌}
-use mathlib.Core.Path.{◌≡◌, ap, ◌∙◌}
+use mathlib.Core.Path.{◌≡◌, ◌∙◌}
 use native.Mathlib.Omega.{arith}
-use Rattle.sheet.specs.Answers.{row_said}
-use Rattle.sheet.specs.Inner.RowLines.{line_of_row}
-use Rattle.table.specs.Inner.MarkedRows.{known_by}
-use Rattle.tangent.specs.Inner.TangentPlans.{line_count, most_line_count}
+use Rattle.tangent.specs.Inner.TangentPlans.{most_line_count}
 use Rattle.tangent.proofs.LineCounts.{block_row, quotient_row, inactive_row, product_row, other_row}
 use Rattle.tangent.proofs.count.rows_over.Goals.{in-18, in-5, in_default-2, in_default-3, in_default}
 use Rattle.tangent.proofs.count.rows_over.Goals as goal

@@ -1,7 +1,5 @@
 -- `tangent::sweep::rows_before` meets its contract.
-use Prim.Native.Nat.{◌≤◌}
 use mathlib.Core.Path.{◌≡◌, refl, sym, subst, ap, ◌∙◌}
-use lib.ListN.{length}
 use native.Mathlib.Omega.{arith}
 use Rattle.sheet.specs.Answers.{row_said}
 use Rattle.sheet.specs.Inner.RowLines.{SaysLine}
