@@ -15,7 +15,7 @@ use Rattle.sheet.specs.Inner.Kinds.{assigns, part_of}
 use Rattle.sets.specs.VariableSets.{VariableSet}
 use Rattle.sets.specs.Rounds.{set_at}
 use Rattle.sets.specs.Inner.Analyses.{Which, Varied, Useful, Required, Lends, LendsAt, known_at, marks_left}
-use Rattle.sets.specs.Transfers.{Activity, activity_of}
+use Rattle.sets.specs.Transfers.{Activity}
 use Rattle.sets.specs.Marks.{mark_by, activity_at}
 use Rattle.sets.specs.MarkBytes.{weight, weight_if, byte_by, bit_of}
 use Rattle.sets.specs.Inner.RowEquations.{known_of_line}

@@ -3,22 +3,20 @@ use Prim.Native.Nat.{ℕ, suc, ◌+◌, ◌<◌}
 use native.Mathlib.Omega.{arith}
 use native.Mathlib.Numerals.{add-one}
 use mathlib.Core.Path.{◌≡◌, refl, sym}
-use mathlib.Core.Bool.{true, false, ◌||◌}
+use mathlib.Core.Bool.{false}
 use mathlib.Core.List.{List}
 use lib.Bits.{or_comm}
 use Rattle.sheet.specs.Tree.{basic, if_line, else_line, end_if, repeat, end_repeat}
 use Rattle.sheet.specs.Rows.{Assignment, SheetLine}
 use Rattle.sheet.specs.Inner.Kinds.{assigns, part_of}
-use Rattle.sheet.specs.declared.kinds.Part.{Part}
 use Rattle.sets.specs.Inner.Analyses.{Which, Varied, Useful, Required}
 use Rattle.sets.specs.VariableSets.{VariableSet}
 use Rattle.sets.specs.Equations.{right_side, point_of}
 use Rattle.sets.specs.Transfers.{Activity}
 use Rattle.sets.specs.Rounds.{set_at}
-use Rattle.sets.specs.Inner.RowEquations.{equation_of, forward_of, backward_of, turn_of, own_point, settled_point, splits, joins_by}
+use Rattle.sets.specs.Inner.RowEquations.{equation_of, forward_of, backward_of, turn_of, own_point, settled_point, joins_by}
 use Rattle.sets.specs.Inner.RowEquations.{Given, equation_in, start_of}
-use Rattle.sets.specs.Inner.Walks.{ends_repeat, asks_partner, side_by}
-use Rattle.sets.proofs.Truths.{T_of, of_T, or_right}
+use Rattle.sets.specs.Inner.Walks.{ends_repeat, side_by}
 
 module _ (which : Which) (known : Activity) (sets : List VariableSet) (p c : ℕ) where
   abbrev side_of : SheetLine → VariableSet
@@ -76,20 +74,6 @@ unfolding start_of
 start_below Varied n size h = omega arith
 start_below Useful n size h = h
 start_below Required n size h = omega arith
-
--- ---- which rows ask their partner's set
-
-pub asks_else : (which : Which) (part : Part) → splits part ≡ true → (splits part || joins_by which part) ≡ true
-asks_else which part e = rw e
-
-pub asks_joined : (which : Which) (part : Part) → joins_by which part ≡ true → (splits part || joins_by which part) ≡ true
-asks_joined which part e = of_T _ (or_right (splits part) (joins_by which part) (T_of e))
-
-pub asks_beyond : (which : Which) (part : Part) → ends_repeat which part ≡ true → asks_partner which part ≡ true
-asks_beyond which part e = rw e
-
-pub asks_inside : (which : Which) (part : Part) → (splits part || joins_by which part) ≡ true → asks_partner which part ≡ true
-asks_inside which part e = of_T _ (or_right (ends_repeat which part) (splits part || joins_by which part) (T_of e))
 
 -- ---- the point that a row settles
 

@@ -34,9 +34,12 @@ module _ (which : Which) (words : List ℕ) (v : ℕ) (there : v < length words)
       let none : drop v roles ≡ [] = subst (λ n. drop n roles ≡ []) roles_length (drop-length roles) in
       rw (none, places)
 
-  pub seed_all : seed_from which words v 0 ≡ seed_in which words v
+  seed_all : seed_from which words v 0 ≡ seed_in which words v
   unfolding seed_from seed_in
   seed_all = refl
+
+  pub seed_done : (i seed : ℕ) → i ≡ 0 → seed ≡ seed_from which words v i → seed ≡ seed_in which words v
+  seed_done i seed none is = is ∙ ap (seed_from which words v) none ∙ seed_all
 
   pub seed_on : (i j : ℕ) → i + 1 ≡ j → j ≤ v → seed_from which words v i ≡ cond (has_role which (get_or words j 0)) 1 0 + 2 * seed_from which words v j
   unfolding seed_from places

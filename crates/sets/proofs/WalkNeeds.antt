@@ -16,7 +16,7 @@ use Rattle.sheet.specs.declared.kinds.Part.{Part}
 use Rattle.sheet.specs.declared.kinds.Part.TheVariants as part
 use Rattle.sets.specs.declared.operations.MaskedAssignment.{MaskedAssignment}
 use Rattle.sets.specs.declared.walk.WalkedTo.{WalkedTo}
-use Rattle.sets.specs.Inner.Analyses.{Which, Varied, Useful, Required, Lends, known_at, marked_at, passed_over}
+use Rattle.sets.specs.Inner.Analyses.{Which, Varied, Useful, Required, Lends, known_at, marked_at, marks_over}
 use Rattle.sets.specs.VariableSets.{VariableSet, empty}
 use Rattle.sets.specs.Equations.{right_side}
 use Rattle.sets.specs.Rounds.{set_at, least}
@@ -252,7 +252,7 @@ pub block_marks : (which : Which) {given : Given} {others : List ℕ} {n v : ℕ
     (at : AtRow which given others n v sets₀ sets reached row form) {next : List VariableSet} {after : WalkedTo}
     (varied useful before marks marks' : List ℕ) → assigns form.3 ≡ false → Passes which given others n row form.3 sets next after
     → MarkingSoFar which (line_in given.words given.first) varied useful n before sets marks reached.turn
-    → Lends which varied useful (length before) n → marks' ≡ passed_over which row marks
+    → Lends which varied useful (length before) n → marks' ≡ marks_over which row marks
     → MarkingSoFar which (line_in given.words given.first) varied useful n before next marks' after.turn
 block_marks Varied at varied useful before marks marks' h passes marking lends left = left ∙ marking
 block_marks Useful at varied useful before marks marks' h passes marking lends left = left ∙ marking

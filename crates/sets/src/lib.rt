@@ -59,11 +59,9 @@ fn ends_of(varied: &[u64], useful: &[u64], rows: usize) -> Ends
     requires { (rows < length varied.now) × (0 < length useful.now) }
     ensures { result ≡ ends_at (set_at varied.now) (set_at useful.now) rows }
 {
-    let useful_first = equations::set_at(useful, 0);
-    let varied_last = equations::set_at(varied, rows);
     Ends {
-        useful_first,
-        varied_last,
+        useful_first: useful[0],
+        varied_last: varied[rows],
     }
 }
 

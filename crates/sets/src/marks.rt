@@ -26,6 +26,7 @@ pub fn activity_at(
     transfers::activity(operation, before, after)
 }
 
+// Not one generic function with `masks::only_if`: a bound by which a type has a zero, and what it is, says more than both functions do.
 fn weight_if(there: bool, weight: u8) -> u8
     ensures { (result ≡ weight_if there weight) × (result ≤ weight) }
 {

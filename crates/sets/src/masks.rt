@@ -5,6 +5,7 @@ ghost use Rattle.sets.specs.Inner.Masks.{mask_bits, meets};
 
 use sheet::Variable;
 
+#[tactic(auto, unfolding(crate::specs::VariableSets::has))]
 pub fn has(s: u64, i: Variable) -> bool
     requires { i.0 < mask_bits }
     ensures { result ≡ has s i.0 }
@@ -32,6 +33,7 @@ pub fn only_if(there: bool, s: u64) -> u64
     if there { s } else { 0 }
 }
 
+#[tactic(auto, unfolding(crate::specs::VariableSets::without))]
 pub fn without(i: Variable, s: u64) -> u64
     requires { i.0 < mask_bits }
     ensures { result ≡ without i.0 s }

@@ -23,19 +23,19 @@ pub fn partner_there(partners: &[u16], row: RowNumber) -> RowNumber
     requires { row.0 < length partners.now }
     ensures { (result.0 ≡ get_or partners.now row.0 0) × (result.0 < word_values) }
 {
-    let number = row.0;
-    RowNumber(partners[number] as usize)
+    RowNumber(partners[row.0] as usize)
 }
 
 fn put(list: &mut [u16], row: RowNumber, partner: RowNumber)
     requires { (row.0 < length list.old) × (partner.0 < word_values) }
     ensures { list.new ≡ set list.old row.0 partner.0 }
 {
-    let place = row.0;
-    list[place] = partner.0 as u16;
+    list[row.0] = partner.0 as u16;
 }
 
 // Two rows become partners: `to` came from `from`. The answer is the row that was innermost outside `top`, the innermost open one until now.
+// `came` and `goes` go side by side, here and below: a struct of both `&mut` would have to say in each contract that it still holds the same two references, beside
+// what the lists become.
 fn pair(
     to: RowNumber,
     from: RowNumber,
@@ -87,6 +87,7 @@ fn end_loop(
 }
 
 // One row: `top` is the innermost open block's last row so far, and the answer is the same after this row.
+#[tactic(auto, unfolding(crate::specs::Inner::PartnerPass::found_by))]
 fn partner_step(
     laid: LaidSheet,
     part: Part,
@@ -101,7 +102,7 @@ fn partner_step(
 {
     match part {
         Part::Assignment => top,
-        Part::If => {
+        Part::If | Part::Repeat => {
             put(goes, row, top);
             row
         }
@@ -111,10 +112,6 @@ fn partner_step(
             row
         }
         Part::EndIf => pair(row, top, top, came, goes),
-        Part::Repeat => {
-            put(goes, row, top);
-            row
-        }
         Part::EndRepeat => end_loop(rows::opens_test(laid, top), row, top, came, goes),
     }
 }
@@ -130,7 +127,6 @@ pub fn find_partners(laid: LaidSheet, came: &mut [u16], goes: &mut [u16])
         let row = RowNumber(number);
         let kind = rows::kind_of(laid, row);
         let form = forms[kind];
-        let part = form.3;
-        top = partner_step(laid, part, row, top, came, goes);
+        top = partner_step(laid, form.3, row, top, came, goes);
     }
 }

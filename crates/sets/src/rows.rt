@@ -12,9 +12,7 @@ pub fn kind_of(laid: LaidSheet, row: RowNumber) -> usize
     requires { row.0 < laid.rows }
     ensures { KindRead laid.entry.words.now laid.entry.first row.0 result }
 {
-    let number = row.0;
-    let from = laid.first + number * sheet::ROW_WORDS;
-    laid.words[from] as usize
+    laid.words[laid.first + row.0 * sheet::ROW_WORDS] as usize
 }
 
 // Whether a row opens a loop with a test.

@@ -36,32 +36,24 @@ pub fn operation_at(laid: LaidSheet, row: RowNumber, form: Form) -> MaskedAssign
     requires { (row.0 < laid.rows) × Formed laid.words.now laid.first row.0 form × (assigns form.3 ≡ true) }
     ensures { PerformsRow result (numbered_row laid.entry.words.now laid.entry.first row.0) }
 {
-    let number = row.0;
     let words = laid.words;
-    let from = laid.first + number * sheet::ROW_WORDS;
-    let of_a = form.1;
-    let of_b = form.2;
-    let kind = words[from];
-    let d = words[from + 1];
-    let a = words[from + 2];
-    let b = words[from + 3];
-    let reads_a = named(of_a, a);
-    let reads_b = named(of_b, b);
-    let target = Variable(d as usize);
+    let from = laid.first + row.0 * sheet::ROW_WORDS;
     MaskedAssignment {
-        kind,
-        target,
-        first: reads_a,
-        second: reads_b,
+        kind: words[from],
+        target: Variable(words[from + 1] as usize),
+        first: named(form.1, words[from + 2]),
+        second: named(form.2, words[from + 3]),
     }
 }
 
+#[tactic(auto, using(crate::proofs::OperationLaws::any_said))]
 fn any_read(row: MaskedAssignment, s: u64) -> bool
     ensures { Gives row result (λ b. any_read s (source_of b)) }
 {
     masks::meets(s, row.first) | masks::meets(s, row.second)
 }
 
+#[tactic(auto, using(crate::proofs::OperationLaws::reads_said))]
 fn reads(row: MaskedAssignment) -> u64
     ensures { Gives row result (λ b. reads (source_of b)) }
 {
@@ -89,6 +81,7 @@ pub fn useful_before(row: MaskedAssignment, after: u64) -> u64
     }
 }
 
+#[tactic(auto, using(crate::proofs::OperationLaws::activity_said))]
 pub fn activity(row: MaskedAssignment, varied: u64, useful: u64) -> KnownActivity
     ensures { Gives row (activity_by result) (λ b. activity_of b varied useful) }
 {
@@ -117,12 +110,14 @@ fn adjoint_use(row: MaskedAssignment, known: KnownActivity) -> u64
     }
 }
 
+#[tactic(auto, using(crate::proofs::OperationLaws::required_said))]
 pub fn required_after(row: MaskedAssignment, known: KnownActivity, before: u64) -> u64
     ensures { Gives row result (λ b. required_after b (activity_by known) before) }
 {
     masks::without(row.target, before | adjoint_use(row, known))
 }
 
+#[tactic(auto, using(crate::proofs::OperationLaws::recorded_said))]
 pub fn recorded(row: MaskedAssignment, known: KnownActivity, required: u64) -> bool
     ensures { Gives row result (λ b. recorded_by b (activity_by known) required) }
 {

@@ -5,7 +5,7 @@ ghost use Rattle.sheet.specs.Rows.{Assignment};
 ghost use Rattle.sets.specs.Rounds.{set_at, least};
 ghost use Rattle.sets.specs.Inner.Operations.{Gives, Performs};
 ghost use Rattle.sets.specs.Inner.Analyses.{Lends, LendsAt, known_at, marked_at, marks_left};
-ghost use Rattle.sets.specs.Inner.RowEquations.{given_by, known_by, line_in, turn_of, row_in_turn, own_point, settled_point};
+ghost use Rattle.sets.specs.Inner.RowEquations.{given_to, line_in, turn_of, row_in_turn, own_point, settled_point};
 ghost use Rattle.sets.specs.Inner.RowEquations.{start_of, all_equations, seed_in};
 ghost use Rattle.sets.specs.Inner.Walks.{ends_repeat, asks_partner, side_by, Grown, Judging, Brings, AtBlock, own_side, PassedRow, Settles};
 
@@ -29,42 +29,8 @@ fn grow(sets: &mut [u64], point: usize, more: u64) -> u64
     requires { point < length sets.old }
     ensures { Grown sets.old point more sets.new result }
 {
-    let old = sets[point];
-    let all = old | more;
-    sets[point] = all;
-    all
-}
-
-// Whether a row is where a walk leaves a repeat's body.
-#[tactic(auto, unfolding(crate::specs::Inner::Walks::ends_repeat))]
-fn ends_repeat<A: Analysis>(analysis: A, part: Part) -> bool
-    ensures { result ≡ ends_repeat A.which part }
-{
-    if analysis.goes_back() {
-        matches!(part, Part::Repeat)
-    } else {
-        matches!(part, Part::EndRepeat)
-    }
-}
-
-#[tactic(auto, unfolding(crate::specs::Inner::RowEquations::row_in_turn))]
-fn row_in_turn<A: Analysis>(analysis: A, rows: usize, turn: usize) -> RowNumber
-    requires { turn < rows }
-    ensures { result.0 ≡ row_in_turn A.which rows turn }
-{
-    RowNumber(if analysis.goes_back() {
-        rows - 1 - turn
-    } else {
-        turn
-    })
-}
-
-// The point that has its set from outside the sheet's rows.
-#[tactic(auto, unfolding(crate::specs::Inner::RowEquations::start_of))]
-fn start_of<A: Analysis>(analysis: A, rows: usize) -> usize
-    ensures { result ≡ start_of A.which rows }
-{
-    if analysis.goes_back() { rows } else { 0 }
+    sets[point] |= more;
+    sets[point]
 }
 
 // What the start point has: the variables with the role, from the last on.
@@ -80,19 +46,21 @@ fn seed_of<A: Analysis>(analysis: A, laid: LaidSheet) -> u64
 }
 
 // Puts into the start point's set what it has from outside the sheet's rows.
+#[tactic(auto, using(crate::proofs::RightSides::start_below))]
 fn begin<A: Analysis>(analysis: A, laid: LaidSheet, sets: &mut [u64]) -> WalkedTo
     requires { laid.rows < length sets.old }
     ensures { (result.turn ≡ 0) × Grown sets.old (start_of A.which laid.entry.rows)
         (seed_in A.which laid.entry.words.now laid.entry.variables) sets.new result.own }
 {
     let seed = seed_of(analysis, laid);
-    let start = start_of(analysis, laid.rows);
+    let start = analysis.start_of(laid.rows);
     let own = grow(sets, start, seed);
     WalkedTo { turn: 0, own }
 }
 
 // An assignment's equation: what it makes of its own set is put into the set that it settles. A walk tells assignments from the other rows once, before all
 // else: they have no partner and end no repeat, and their operation is made once for all that is asked of it.
+#[tactic(auto, using(crate::proofs::RightSides::settled_below))]
 fn pass_assignment<A: Analysis>(
     analysis: A,
     row: RowNumber,
@@ -109,12 +77,15 @@ fn pass_assignment<A: Analysis>(
     ensures marks { Gives operation marks.new (λ b. marked_at A.which (A.varied analysis) (A.useful analysis) row.0 reached.own b marks.old) }
 {
     let right = analysis.assign(row, operation, reached.own, marks);
-    let own = grow(sets, equations::settled_point(analysis, row), right);
-    let turn = reached.turn + 1;
-    WalkedTo { turn, own }
+    let own = grow(sets, analysis.settled_point(row), right);
+    WalkedTo {
+        turn: reached.turn + 1,
+        own,
+    }
 }
 
 // Whether a row ends a repeat and brings more to the body's start.
+#[tactic(auto, using(crate::proofs::RightSides::settled_below))]
 fn brings_more<A: Analysis>(
     analysis: A,
     part: Part,
@@ -126,9 +97,9 @@ fn brings_more<A: Analysis>(
     requires { Judging A.which part row.0 others.now sets.now own }
     ensures { Brings A.which part row.0 others.now sets.now result }
 {
-    if ends_repeat(analysis, part) {
+    if analysis.ends_repeat(part) {
         let near = partners::partner_there(others, row);
-        let kept = equations::set_at(sets, equations::settled_point(analysis, near));
+        let kept = equations::set_at(sets, analysis.settled_point(near));
         return (kept | own) != kept;
     }
     false
@@ -139,41 +110,46 @@ fn side_of<A: Analysis>(analysis: A, part: Part, own: u64, sets: &[u64], partner
     requires { (partner.0 < word_values) × (asks_partner A.which part ≡ true → (own_point A.which partner.0 < length sets.now) × (partner.0 < length sets.now)) }
     ensures { result ≡ side_by A.which part own (set_at sets.now (own_point A.which partner.0)) (set_at sets.now partner.0) }
 {
-    if ends_repeat(analysis, part) {
-        let point = partner.0;
-        return equations::set_at(sets, point);
+    if analysis.ends_repeat(part) {
+        return equations::set_at(sets, partner.0);
     }
     equations::right_side(analysis, part, own, sets, partner)
 }
 
 // The equation of a block's row; or, where the row brings more to the start of a repeat's body, that of the repeat's other end, after which the walk goes on.
+#[tactic(auto, using(crate::proofs::RightSides::own_below, crate::proofs::RightSides::settled_below, crate::proofs::Walking::turn_below))]
 fn pass_block_row<A: Analysis>(
     analysis: A,
     part: Part,
     rows: usize,
     row: RowNumber,
-    partners: Partners,
+    taken: &[u16],
+    back: &[u16],
     sets: &mut [u64],
     reached: WalkedTo,
 ) -> WalkedTo
-    requires { AtBlock A.which part rows row.0 partners.taken.now partners.back.now sets.old reached }
-    ensures { PassedRow A.which part (own_side A.which part row.0 partners.entry.taken.now sets.old) rows row.0 partners.entry.back.now
+    requires { AtBlock A.which part rows row.0 taken.now back.now sets.old reached }
+    ensures { PassedRow A.which part (own_side A.which part row.0 taken.now sets.old) rows row.0 back.now
         sets.old sets.new result }
 {
     let own = reached.own;
-    if brings_more(analysis, part, row, partners.back, sets, own) {
-        let near = partners::partner_there(partners.back, row);
+    if brings_more(analysis, part, row, back, sets, own) {
+        let near = partners::partner_there(back, row);
         let both = equations::own_set(analysis, sets, near) | own;
-        let own = grow(sets, equations::settled_point(analysis, near), both);
-        let entered = row_in_turn(analysis, rows, near.0);
-        let turn = entered.0 + 1;
-        return WalkedTo { turn, own };
+        let own = grow(sets, analysis.settled_point(near), both);
+        let entered = analysis.row_in_turn(rows, near.0);
+        return WalkedTo {
+            turn: entered.0 + 1,
+            own,
+        };
     }
-    let partner = partners::partner_there(partners.taken, row);
+    let partner = partners::partner_there(taken, row);
     let right = side_of(analysis, part, own, sets, partner);
-    let own = grow(sets, equations::settled_point(analysis, row), right);
-    let turn = reached.turn + 1;
-    WalkedTo { turn, own }
+    let own = grow(sets, analysis.settled_point(row), right);
+    WalkedTo {
+        turn: reached.turn + 1,
+        own,
+    }
 }
 
 // An analysis's set at every point, from empty ones; and what the analysis leaves in the marks.
@@ -185,30 +161,33 @@ pub fn settle<A: Analysis>(
     marks: &mut [u8],
 )
     requires settles { Settles A.which
-        (given_by laid.words.now laid.first (known_by A.which laid.words.now laid.first (A.varied analysis) (A.useful analysis)) partners.taken.now)
+        (given_to A.which laid.words.now laid.first (A.varied analysis) (A.useful analysis) partners.taken.now)
         partners.back.now laid.rows laid.variables sets.old }
     requires lent { Lends A.which (A.varied analysis) (A.useful analysis) (length marks.old) laid.rows }
     ensures sets { sets.new ≡ least laid.entry.variables (suc laid.entry.rows)
         (all_equations A.which
-        (given_by laid.entry.words.now laid.entry.first (known_by A.which laid.entry.words.now laid.entry.first (A.varied analysis) (A.useful analysis)) partners.entry.taken.now)
+        (given_to A.which laid.entry.words.now laid.entry.first (A.varied analysis) (A.useful analysis) partners.entry.taken.now)
         laid.entry.rows (seed_in A.which laid.entry.words.now laid.entry.variables)) }
-    ensures marks { marks.new ≡ marks_left A.which (A.varied analysis) (A.useful analysis) sets.new (line_in laid.entry.words.now laid.entry.first) laid.entry.rows marks.old }
+    ensures marks { marks.new ≡ marks_left A.which (A.varied analysis) (A.useful analysis) sets.new
+        (line_in laid.entry.words.now laid.entry.first) laid.entry.rows marks.old }
 {
+    // Taken apart once: handed on whole at each row, as tried, they cost eight nested repeats a ninth more instructions, and straight rows a twenty-fifth.
+    let taken = partners.taken;
+    let back = partners.back;
     let forms = kinds::forms();
     let mut reached = begin(analysis, laid, sets);
     // A `while`: the walk goes back at repeats.
     while reached.turn < laid.rows {
-        let row = row_in_turn(analysis, laid.rows, reached.turn);
+        let row = analysis.row_in_turn(laid.rows, reached.turn);
         let kind = rows::kind_of(laid, row);
         let form = forms[kind];
-        let part = form.3;
-        if kinds::assigns(part) {
+        if kinds::assigns(form.3) {
             let operation = transfers::operation_at(laid, row, form);
             reached = pass_assignment(analysis, row, operation, sets, marks, reached);
         } else {
             analysis.pass_over(row, marks);
             let rows = laid.rows;
-            reached = pass_block_row(analysis, part, rows, row, partners, sets, reached);
+            reached = pass_block_row(analysis, form.3, rows, row, taken, back, sets, reached);
         }
     }
 }

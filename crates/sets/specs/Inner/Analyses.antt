@@ -48,10 +48,10 @@ marked_at Varied varied useful p own b marks = marks
 marked_at Useful varied useful p own b marks = marks
 marked_at Required varied useful p own b marks = set marks p (byte_for (known_at Required varied useful p b) own b)
 
-abbrev pub passed_over : Which → (row : ℕ) → (marks : List ℕ) → List ℕ
-passed_over Varied p marks = marks
-passed_over Useful p marks = marks
-passed_over Required p marks = set marks p 0
+abbrev pub marks_over : Which → (row : ℕ) → (marks : List ℕ) → List ℕ
+marks_over Varied p marks = marks
+marks_over Useful p marks = marks
+marks_over Required p marks = set marks p 0
 
 -- and after all rows
 abbrev pub marks_left : Which → (varied useful required : List VariableSet) → (ℕ → SheetLine) → (rows : ℕ) → (marks : List ℕ) → List ℕ

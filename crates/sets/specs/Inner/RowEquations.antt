@@ -85,6 +85,9 @@ known_by Varied words first varied useful = unasked
 known_by Useful words first varied useful = unasked
 known_by Required words first varied useful = known_from words first varied useful
 
+abbrev pub given_to : Which → (words : List ℕ) (first : ℕ) (varied useful : List VariableSet) (partners : List ℕ) → Given
+given_to which words first varied useful partners = given_by words first (known_by which words first varied useful) partners
+
 abbrev pub row_in : Given → ℕ → Row
 row_in given p = numbered_row given.words given.first p
 

@@ -1,5 +1,4 @@
 -- `sets::partners::find_partners` meets its contract: the rest of the pass from each row ends where the whole pass does.
-use native.Mathlib.Omega.{arith}
 use Rattle.sets.proofs.PartnerPass.{finding_starts, both_listed, finding_on, found_all, part_read}
 use Rattle.sets.proofs.SheetRows.{form_read}
 use Rattle.sets.proofs.partners.find_partners.Goals as goal

@@ -1,13 +1,8 @@
 -- `sets::rows::kind_of` meets its contract: the first word of a row that is there, which is a kind of the table.
 use mathlib.Core.Path.{refl}
-use native.Mathlib.Omega.{arith}
 use Rattle.sheet.specs.Sheets.{row_at}
 use Rattle.sheet.proofs.RowsByKind.{row_kind}
 use Rattle.sets.proofs.rows.kind_of.Goals as goal
-
-pub overflow_cast-result : goal.overflow_cast-result
-unfolding row_at
-overflow_cast-result c = omega (arith, row_kind (c.args.laid.readable _ c.requires).says)
 
 pub returns : goal.returns
 unfolding row_at

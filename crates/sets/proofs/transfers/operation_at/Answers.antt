@@ -5,13 +5,13 @@ use Rattle.sets.proofs.OperationLaws.{row_performed}
 use Rattle.sets.proofs.SheetRows.{in_mask}
 use Rattle.sets.proofs.transfers.operation_at.Goals as goal
 
-pub named-reads_a-requires : goal.named-reads_a-requires
+pub named-requires : goal.named-requires
 unfolding row_at
-named-reads_a-requires c = (in_mask c.args.laid.readable c.requires.0 c.requires.1 c.requires.2).a
+named-requires c = (in_mask c.args.laid.readable c.requires.0 c.requires.1 c.requires.2).a
 
-pub named-reads_b-requires : goal.named-reads_b-requires
+pub named-requires-2 : goal.named-requires-2
 unfolding row_at
-named-reads_b-requires c = (in_mask c.args.laid.readable c.requires.0 c.requires.1 c.requires.2).b
+named-requires-2 c = (in_mask c.args.laid.readable c.requires.0 c.requires.1 c.requires.2).b
 
 pub invariant_of-result : goal.invariant_of-result
 unfolding row_at
@@ -21,4 +21,4 @@ invariant_of-result c =
 pub returns : goal.returns
 unfolding row_at
 returns c =
-    row_performed _ _ _ c.requires.1 refl refl c.named-reads_a.ensures c.named-reads_b.ensures
+    row_performed _ _ _ c.requires.1 refl refl c.named.ensures c.named-2.ensures

@@ -1,10 +1,9 @@
 -- `sets::walk::seed_of` meets its contract: each variable doubles the mask that the later ones make, and adds its own bit.
 use Rattle.std.proofs.Common.{◌≡◌, ◌+◌, ◌-◌, ◌^◌, ◌<◌, ℕ}
 use native.Mathlib.Omega.{arith}
-use mathlib.Core.Path.{sym, ap, ◌∙◌}
+use mathlib.Core.Path.{sym, ap}
 use mathlib.Core.Bool.{cond}
-use lib.ListN.{get_or}
-use Rattle.sets.proofs.Seeds.{byte_of, seed_from, seed_none, seed_all, seed_on, seed_below}
+use Rattle.sets.proofs.Seeds.{byte_of, seed_none, seed_done, seed_on, seed_below}
 use Rattle.sets.proofs.walk.seed_of.Goals as goal
 
 pub loop-variable-init : goal.loop-variable-init
@@ -30,6 +29,4 @@ loop-variable-preserved g c =
     omega (arith, on, c.loop-variable.invariant, byte_of c.has_role-there.result, ap {B = ℕ} (λ b. cond b 1 0) there)
 
 pub returns : goal.returns
-returns g c =
-    let none : c.loop-variable.variable ≡ 0 = omega arith in
-    c.loop-variable.invariant ∙ ap (seed_from _ _ _) none ∙ seed_all _ _ _ c.args.laid.roles
+returns g c = seed_done _ _ _ c.args.laid.roles _ _ (omega arith) c.loop-variable.invariant
