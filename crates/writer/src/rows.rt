@@ -201,15 +201,14 @@ pub fn forward_row(table: &mut [u16], place: usize, row: RowWords, part: Part, m
     requires part_said { SaysPart (row_said row) part }
     ensures { Wrote table.old place (forward_of_line mark (line_of_row (row_said row))) table.new result }
 {
+    // An arm for each part: with one for the three that are alike, as tried, what notes the jumps had to ask for the part again, and it was slower.
     match part {
         Part::Assignment => {
             let saved = bit(mark, sets::SAVED);
             let next = put_if(saved, table, place, kinds::SAVE, row.d, 0, 0);
             put(table, next, row.kind, row.d, row.a, row.b)
         }
-        Part::If | Part::Repeat | Part::EndRepeat => {
-            put(table, place, row.kind, row.d, row.a, row.b)
-        }
+        Part::If => put(table, place, row.kind, row.d, row.a, row.b),
         Part::Else => {
             let next = put(table, place, kinds::SAVE_TURN, 0, 1, 0);
             put(table, next, row.kind, row.d, row.a, row.b)
@@ -218,6 +217,8 @@ pub fn forward_row(table: &mut [u16], place: usize, row: RowWords, part: Part, m
             let next = put(table, place, kinds::SAVE_TURN, 0, 0, 0);
             put(table, next, row.kind, row.d, row.a, row.b)
         }
+        Part::Repeat => put(table, place, row.kind, row.d, row.a, row.b),
+        Part::EndRepeat => put(table, place, row.kind, row.d, row.a, row.b),
     }
 }
 

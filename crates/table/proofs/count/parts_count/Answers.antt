@@ -27,25 +27,25 @@ module _ (c : After-from-of_b) where
   few =
       (omega (arith, c.from-of_a.ensures, (byte_of (not (eqb kind 2) && c.bit.result)).1), omega (arith, c.from-of_b.ensures, (byte_of ((((eqb kind 3 || eqb kind 4) || eqb kind 5) || eqb kind 18) && c.bit-2.result)).1))
 
-pub returns-in-5 : goal.returns-in-5
-returns-in-5 c =
-    let here = (goal.at.returns-in-5 c).After-from-of_b in
+pub returns-then-row-eq-PRODUCT : goal.returns-then-row-eq-PRODUCT
+returns-then-row-eq-PRODUCT c =
+    let here = (goal.at.returns-then-row-eq-PRODUCT c).After-from-of_b in
     record {
       within = omega (arith, few here);
-      is = λ v. omega (arith, rw (eq-eqb c.args.row.kind 5 c.in-5.is) at (counted here v));
+      is = λ v. omega (arith, rw (eq-eqb c.args.row.kind 5 c.if-row-eq-PRODUCT.true) at (counted here v));
     }
 
-pub returns-in-18 : goal.returns-in-18
-returns-in-18 c =
-    let here = (goal.at.returns-in-18 c).After-from-of_b in
+pub returns-then-row-eq-QUOTIENT : goal.returns-then-row-eq-QUOTIENT
+returns-then-row-eq-QUOTIENT c =
+    let here = (goal.at.returns-then-row-eq-QUOTIENT c).After-from-of_b in
     record {
       within = omega (arith, few here);
-      is = λ v. omega (arith, rw (ne_eqb c.args.row.kind 5 (λ e. omega arith), eq-eqb c.args.row.kind 18 c.in-18.is) at (counted here v));
+      is = λ v. omega (arith, rw (ne_eqb c.args.row.kind 5 (λ e. omega arith), eq-eqb c.args.row.kind 18 c.if-row-eq-QUOTIENT.true) at (counted here v));
     }
 
-pub returns-in_default : goal.returns-in_default
-returns-in_default c =
-    let here = (goal.at.returns-in_default c).After-from-of_b in
+pub returns-else-row-eq-QUOTIENT : goal.returns-else-row-eq-QUOTIENT
+returns-else-row-eq-QUOTIENT c =
+    let here = (goal.at.returns-else-row-eq-QUOTIENT c).After-from-of_b in
     record {
       within = omega (arith, few here);
       is = λ v. omega (arith, rw (ne_eqb c.args.row.kind 5 (λ e. omega arith), ne_eqb c.args.row.kind 18 (λ e. omega arith)) at (counted here v));

@@ -1,23 +1,8 @@
 -- `writer::rows::forward_row` meets its contract, by what the row is to the blocks.
-use Prim.Native.Nat.{ℕ}
-use mathlib.Core.Path.{◌≡◌, refl}
-use mathlib.Core.List.{[], ◌∷◌}
-use mathlib.Core.Logic.{◌⊎◌, inl, inr}
-use Rattle.sheet.specs.Rows.{Row}
-use Rattle.sheet.specs.Inner.RowLines.{line_of_row}
-use Rattle.sheet.specs.declared.kinds.Part.{Part}
-use Rattle.sheet.specs.declared.kinds.Part.TheVariants as part
-use Rattle.table.specs.Inner.MarkedRows.{SaysPart, forward_of_line}
+use mathlib.Core.Path.{refl}
 use Rattle.writer.proofs.WritingLaws.{wrote_then, room_first, room_after}
 use Rattle.table.proofs.LineRows.{forward_by}
 use Rattle.writer.proofs.rows.forward_row.Goals as goal
-
--- an "if", a loop's start and its end stand alone
-alone : {r : Row} {p : Part} → SaysPart r p → p ≡ part.If ⊎ (p ≡ part.Repeat ⊎ p ≡ part.EndRepeat) → (mark : ℕ)
-    → forward_of_line mark (line_of_row r) ≡ r ∷ []
-alone said (inl is) mark = forward_by said is mark refl
-alone said (inr (inl is)) mark = forward_by said is mark refl
-alone said (inr (inr is)) mark = forward_by said is mark refl
 
 pub put_if-next-requires : goal.put_if-next-requires
 put_if-next-requires c =
@@ -29,7 +14,7 @@ put-requires c =
 
 pub put-requires-in-If : goal.put-requires-in-If
 put-requires-in-If c =
-    rw (alone c.requires.part_said c.in-If.is c.args.mark) at c.requires.room
+    rw (forward_by c.requires.part_said c.in-If.is c.args.mark refl) at c.requires.room
 
 pub put-next-requires : goal.put-next-requires
 put-next-requires c =
@@ -47,13 +32,21 @@ pub put-requires-in-EndIf : goal.put-requires-in-EndIf
 put-requires-in-EndIf c =
     room_after _ c.put-next-in-EndIf.ensures (rw (forward_by c.requires.part_said c.in-EndIf.is c.args.mark refl) at c.requires.room)
 
+pub put-requires-in-Repeat : goal.put-requires-in-Repeat
+put-requires-in-Repeat c =
+    rw (forward_by c.requires.part_said c.in-Repeat.is c.args.mark refl) at c.requires.room
+
+pub put-requires-in-EndRepeat : goal.put-requires-in-EndRepeat
+put-requires-in-EndRepeat c =
+    rw (forward_by c.requires.part_said c.in-EndRepeat.is c.args.mark refl) at c.requires.room
+
 pub returns-in-Assignment : goal.returns-in-Assignment
 returns-in-Assignment c =
     rw (forward_by c.requires.part_said c.in-Assignment.is c.args.mark c.bit-saved.ensures) (wrote_then c.put_if-next.ensures c.put.ensures)
 
 pub returns-in-If : goal.returns-in-If
 returns-in-If c =
-    rw (alone c.requires.part_said c.in-If.is c.args.mark) c.put-in-If.ensures
+    rw (forward_by c.requires.part_said c.in-If.is c.args.mark refl) c.put-in-If.ensures
 
 pub returns-in-Else : goal.returns-in-Else
 returns-in-Else c =
@@ -62,3 +55,11 @@ returns-in-Else c =
 pub returns-in-EndIf : goal.returns-in-EndIf
 returns-in-EndIf c =
     rw (forward_by c.requires.part_said c.in-EndIf.is c.args.mark refl) (wrote_then c.put-next-in-EndIf.ensures c.put-in-EndIf.ensures)
+
+pub returns-in-Repeat : goal.returns-in-Repeat
+returns-in-Repeat c =
+    rw (forward_by c.requires.part_said c.in-Repeat.is c.args.mark refl) c.put-in-Repeat.ensures
+
+pub returns-in-EndRepeat : goal.returns-in-EndRepeat
+returns-in-EndRepeat c =
+    rw (forward_by c.requires.part_said c.in-EndRepeat.is c.args.mark refl) c.put-in-EndRepeat.ensures
