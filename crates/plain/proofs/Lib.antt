@@ -7,10 +7,8 @@ pub mod EnginesAgree
 pub mod WholeRunsAgree
 pub mod EnginesAgreeCalled
 -- its code
-pub mod WorkLaws
 pub mod CellLaws
 pub mod CarriedOver
-pub mod BlockLaws
 pub mod LayingLaws
 pub mod PlacedTree
 pub mod EngineLaws

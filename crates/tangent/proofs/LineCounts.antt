@@ -52,9 +52,6 @@ module _ {r : Row} {p : Part} (s : SaysPart r p) (known : Activity) {assigning :
       ≡ cond assigning (over_assignment (eqb r.kind 5) (eqb r.kind quotient_kind) known.active known.varied_a known.varied_b) 1
   row_counted = line_counted (line_of_row r) known ∙ rw (s.says.back, e, s.is)
 
-  pub block_row : assigning ≡ false → 1 ≡ line_count known (line_of_row r)
-  block_row block = sym (row_counted ∙ rw block)
-
   -- an assignment's, by its kind
   module _ (assigned : assigning ≡ true) {active first second : Bool} (a : active ≡ known.active) (f : first ≡ known.varied_a)
       (g : second ≡ known.varied_b) where

@@ -1,12 +1,11 @@
 -- The run of a tangent table: what it starts from and what its result is, its place in a call, and what the call then answers and leaves.
-use Prim.Native.Nat.{ℕ, ◌+◌, ◌*◌, ◌-◌, ◌≤◌}
+use Prim.Native.Nat.{ℕ, ◌+◌, ◌*◌}
 use mathlib.Core.Path.{◌≡◌, refl, sym, ap, ◌∙◌}
 use mathlib.Core.Bool.{false}
 use mathlib.Core.List.{List, [], ◌∷◌, ◌++◌}
 use native.Mathlib.Omega.{arith}
-use lib.ListN.{length, take, drop, replicate, length-append, length-drop, length-replicate, replicate-append-replicate}
-use lib.Seq.{drop_at, length-take-le}
-use borrow.Author.Rules.{part_to_end}
+use lib.ListN.{length, drop, replicate, length-append, length-drop, length-replicate, replicate-append-replicate}
+use lib.Seq.{drop_at}
 use Rattle.number.specs.Arithmetic.{Arithmetic, divides}
 use Rattle.sheet.specs.Judging.{refused, given}
 use Rattle.sheet.specs.Refusals.{Refusal}
@@ -28,7 +27,7 @@ use Rattle.run.specs.Runs.{Lent, Job, ran_of}
 use Rattle.run.specs.Calls.{all_admitted}
 use Rattle.run.specs.declared.Counted.TheVariants as counted
 use Rattle.run.specs.Inner.TableRuns.{RunsTable}
-use Rattle.run.specs.Inner.CallSteps.{NoRoom, HasRoom, Answers, HalvesFit, ResultFits, halves_of, answer_at, result_at}
+use Rattle.run.specs.Inner.CallSteps.{NoRoom, HasRoom, Answers, halves_of, answer_at, result_at}
 use Rattle.run.specs.Inner.CallAnswers.{TableInPlace, Ready, RunRoom}
 use Rattle.run.proofs.SectionLaws.{table_in_place, place_indexed}
 use Rattle.run.proofs.CallsJudged.{rooms_of, refused_run, numbers_refuse, accepted_run}
@@ -89,32 +88,6 @@ two_zeros n zero =
     ap (drop n) (sym (replicate-append-replicate n 2 zero)) ∙ drop_at (replicate n zero) (replicate 2 zero) n (length-replicate n zero)
 
 module _ (A : Arithmetic) where
-  -- what the start is laid into has room for it
-  pub start_fits : {roles : List ℕ} {starts rates store copied result : List A.Carrier} → RunRoom A roles starts rates store copied result
-      → HalvesFit roles starts rates store
-  start_fits room =
-      record { first_fits = room.starts_fit; second_fits = omega (arith, room.seeds_fit); room = omega (arith, room.store_fits) }
-
-  -- the values and the rates that a run leaves in its store
-  pub rates_fit : {roles : List ℕ} (store : List A.Carrier) {result : List A.Carrier} → 2 * length roles ≤ length store
-      → length result ≡ 2 * length roles
-      → ResultFits roles (take (length roles) store) (take (length store - length roles) (drop (length roles) store)) result
-  rates_fit {roles} store long fits =
-      record {
-        first_fits = length-take-le (length roles) store (omega arith);
-        second_fits = rw (part_to_end store (length roles)) (omega (arith, length-drop (length roles) store));
-        result_fits = fits;
-      }
-
-  -- both parts of a store, as slices of it
-  pub rates_written : (end : Ended) (roles : List ℕ) (store result : List A.Carrier) {left : List A.Carrier}
-      → left
-      ≡ result_at end
-      (halves_of A (take (length roles) store) counted.Dependents roles (take (length store - length roles) (drop (length roles) store))) result
-      → left ≡ result_at end (rates_from A roles store) result
-  rates_written end roles store result is =
-      is ∙ ap (λ rates. result_at end (halves_of A (take (length roles) store) counted.Dependents roles rates) result) (part_to_end store (length roles))
-
   -- ---- the whole run
 
   module _ {sheet : Sheet} {roles constants table : List ℕ} {rows : ℕ} {beyond : List ℕ}

@@ -1,42 +1,31 @@
 -- `plain::carry` meets its contract.
-use mathlib.Core.Path.{◌≡◌, sym, ap, subst, ◌∙◌}
+use mathlib.Core.Path.{◌≡◌}
 use native.Mathlib.Omega.{arith}
-use Prim.Native.Nat.{◌+◌, ◌*◌}
+use Prim.Native.Nat.{◌+◌}
 use Rattle.table.proofs.PlanLaws.{readable}
 use Rattle.run.proofs.CallLaws.{replied}
-use Rattle.plain.specs.Inner.Engine.{EndsWithin}
 use Rattle.plain.proofs.ReadyLaws.{found_lies}
-use Rattle.plain.proofs.CallLaws.{roles_long, roles_within, roles_few, finished, stopped}
+use Rattle.plain.proofs.CallLaws.{roles_within, roles_few, finished, stopped}
 use Rattle.plain.proofs.carry.Goals as goal
 
 pub slice_bounds-laid-end : goal.slice_bounds-laid-end
 slice_bounds-laid-end c = omega (arith, roles_within c.requires.found)
 
-pub laid-start-requires : goal.laid-start-requires
-laid-start-requires c =
-    let found = c.requires.found in
-    let room = c.requires.room in record { roles_few = roles_few found; starts_fit = room.starts_fit ∙ sym (roles_long found); rates_fit = room.rates_fit ∙ sym (roles_long found) }
+pub laid-start-requires-clause-roles_few : goal.laid-start-requires-clause-roles_few
+laid-start-requires-clause-roles_few c = roles_few c.requires.found
 
-pub run_rows-requires : goal.run_rows-requires
-run_rows-requires c =
-    let few = (found_lies c.requires.found).few_rows in record { ready = record { found = c.requires.found; marks_there = omega arith; goes_there = omega arith }; start_fits = c.laid-start.ensures.1 }
+pub run_rows-requires-clause-ready : goal.run_rows-requires-clause-ready
+run_rows-requires-clause-ready c =
+    let few = (found_lies c.requires.found).few_rows in record { found = c.requires.found; marks_there = omega arith; goes_there = omega arith }
 
 pub slice_bounds-write_out-end : goal.slice_bounds-write_out-end
 slice_bounds-write_out-end c = omega (arith, roles_within c.requires.found)
 
-pub write_out-requires : goal.write_out-requires
-write_out-requires c =
-    let found = c.requires.found in
-    record {
-      cells_fit = omega (arith, roles_few found, subst (EndsWithin c.args.shape) c.in-Ok.is c.run_rows.ensures.within);
-      result_fits = c.requires.room.result_fits ∙ ap (λ n. 2 * n) (sym (roles_long found));
-    }
-
-pub rows_before-first-requires : goal.rows_before-first-requires
-rows_before-first-requires c =
+pub rows_before-first-requires-clause-readable : goal.rows_before-first-requires-clause-readable
+rows_before-first-requires-clause-readable c =
     let lies = found_lies c.requires.found in
     let few = lies.few_rows in
-    record { readable = readable lies _ (omega arith); row_in = subst (EndsWithin c.args.shape) c.in-Err.is c.run_rows.ensures.within }
+    readable lies _ (omega arith)
 
 pub returns-in-Ok : goal.returns-in-Ok
 returns-in-Ok c =

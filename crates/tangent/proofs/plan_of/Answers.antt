@@ -6,11 +6,11 @@ use Rattle.table.proofs.PlanLaws.{readable}
 use Rattle.tangent.proofs.TangentPlanLaws.{rows_right}
 use Rattle.tangent.proofs.plan_of.Goals as goal
 
-pub rows_before-rows-requires : goal.rows_before-rows-requires
-rows_before-rows-requires c =
+pub rows_before-rows-requires-clause-readable : goal.rows_before-rows-requires-clause-readable
+rows_before-rows-requires-clause-readable c =
     let lies = (accepted_lies _ _ c.requires.accepted).lies in
     let few = lies.few_rows in
-    record { readable = readable lies _ (omega arith); row_in = omega arith }
+    readable lies _ (omega arith)
 
 pub returns : goal.returns
 returns c =

@@ -12,6 +12,3 @@ pub returns-in_err-shape : goal.returns-in_err-shape
 returns-in_err-shape c =
     let gone : c.from_residual.result ≡ Err c.in_err-shape.field-0.0 = grind arith in
     rw gone (marking_refuses _ _ _ c.mark.ensures.0 c.in_err-shape.was)
-
-pub returns : goal.returns
-returns c = c.plan_of.ensures

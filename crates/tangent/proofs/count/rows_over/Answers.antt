@@ -3,12 +3,9 @@ use Prim.Native.Nat.{ℕ, ◌+◌, ◌≤◌}
 use mathlib.Core.Path.{◌≡◌, ◌∙◌}
 use native.Mathlib.Omega.{arith}
 use Rattle.tangent.specs.Inner.TangentPlans.{most_line_count}
-use Rattle.tangent.proofs.LineCounts.{block_row, quotient_row, inactive_row, product_row, other_row}
+use Rattle.tangent.proofs.LineCounts.{quotient_row, inactive_row, product_row, other_row}
 use Rattle.tangent.proofs.count.rows_over.Goals.{in-18, in-5, in_default-2, in_default-3, in_default}
 use Rattle.tangent.proofs.count.rows_over.Goals as goal
-
-pub returns-then-not-assigns : goal.returns-then-not-assigns
-returns-then-not-assigns c = (block_row c.requires _ c.assigns.ensures c.if-not-assigns.true, omega arith)
 
 -- by the rate rows that it was counted to have
 with_rates : {rates counted : ℕ} {count : ℕ} → rates ≡ counted → counted + 1 ≡ count → counted ≤ 5 → (rates + 1 ≡ count) × (rates + 1 ≤ most_line_count)
