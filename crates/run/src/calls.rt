@@ -182,6 +182,8 @@ fn run_sheet<N: Number>(
         ≡ run (arithmetic_on N.operations) words.now starts.now seeds.now (lent_of (arithmetic_on N.operations) table.old
         values.old turns.old res.old) }
 {
+    // Three lists here and in the calls below, not a struct: who they are handed on to takes a part of them (the tangent's writer the marks alone, the plain
+    // engine the marks and `goes`), and each is promised by itself (`MarksSaid`), so that a struct would be no plainer.
     let mut marks = [0u8; MAX_ROWS];
     let mut came = [0u16; MAX_ROWS];
     let mut goes = [0u16; MAX_ROWS];
@@ -210,7 +212,7 @@ fn run_sheet<N: Number>(
     }
 }
 
-// In doubles.
+// In doubles: under its own name, by which README has it and C is to call it.
 pub fn run_double(
     words: &[u16],
     table: &mut [u16],
@@ -227,7 +229,7 @@ pub fn run_double(
     run_sheet(words, table, values, turns, starts, seeds, res)
 }
 
-// In audit.
+// In audit, by its own name for the same reason.
 pub fn run_audit(
     words: &[u16],
     table: &mut [u16],

@@ -151,7 +151,7 @@ fn run_sheet<N: Number>(
     run_written(words, plan, table, &beyond, starts, rates, res)
 }
 
-// In doubles.
+// In doubles: under its own name, by which README has it.
 pub fn tangent_double(
     words: &[u16],
     table: &mut [u16],
@@ -165,7 +165,7 @@ pub fn tangent_double(
     run_sheet(words, table, starts, rates, res)
 }
 
-// In audit.
+// In audit, by its own name for the same reason.
 pub fn tangent_audit(
     words: &[u16],
     table: &mut [u16],
