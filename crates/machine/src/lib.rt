@@ -50,6 +50,7 @@ pub struct Loop {
     pub note: usize,
 }
 
+// What fills the array of open loops at first.
 pub const NO_LOOP: Loop = Loop { body: 0, note: 0 };
 
 // A loop with a test at its own row: the turns that it may still do, what is noted of it in another turn, and how many loops are open around it.
