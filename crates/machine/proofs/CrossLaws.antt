@@ -32,6 +32,7 @@ use Rattle.machine.specs.Inner.Buffers.{Cells, cells_of}
 use Rattle.machine.specs.declared.Place.{Place}
 use Rattle.machine.specs.declared.Branch.{Branch}
 use Rattle.machine.specs.declared.Branch.TheVariants as branch_as
+use Rattle.machine.specs.declared.Loop.{Loop}
 use Rattle.machine.specs.declared.Pending.{Pending}
 use Rattle.machine.specs.declared.Ended.{Ended}
 use Rattle.machine.specs.declared.Ended.TheVariants as ended_as
@@ -117,34 +118,34 @@ module _ {A : Arithmetic} where
 
   -- what is to be shown of one line
   record Crosses (at : ℕ) (next : Place) (setting : Setting A) (line : TableLine) (rest : List TableLine) (repeats : List Repeat)
-      (before after : Cells A) (held : List A.Carrier) (bodies to_come : List ℕ) (answer : Result Place Ended) : Type 0 where
-    says : CrossedSays A setting (preceding next at) repeats bodies to_come before after held
+      (before after : Cells A) (held : List A.Carrier) (loops : List Loop) (answer : Result Place Ended) : Type 0 where
+    says : CrossedSays A setting (preceding next at) repeats loops before after held
         (step_at A setting (state_at A (preceding next at) repeats before held) (line ∷ rest)) answer
 
   module _ {at : ℕ} {next : Place} {setting : Setting A} {line : TableLine} {rest : List TableLine} {repeats : List Repeat}
-      {before after : Cells A} {held : List A.Carrier} {bodies to_come : List ℕ} {answer : Result Place Ended} where
+      {before after : Cells A} {held : List A.Carrier} {loops : List Loop} {answer : Result Place Ended} where
     -- the step goes on to a place
     goes_to : (to : Place) (open_then : List Repeat)
         → answer ≡ Ok to
         → to.left ≡ next.left
-        → Opened to.depth bodies to_come open_then
+        → Opened to.depth loops open_then
         → Sound A setting (buffers_at A to after held)
         → step_at A setting (state_at A (preceding next at) repeats before held) (line ∷ rest)
         ≡ go_to A to.at.0 open_then (memory_of A (buffers_at A to after held))
-        → Crosses at next setting line rest repeats before after held bodies to_come answer
+        → Crosses at next setting line rest repeats before after held loops answer
     goes_to to open_then is left opened sound found =
-        subst (λ (r : Result Place Ended). Crosses at next setting line rest repeats before after held bodies to_come r) (sym is)
+        subst (λ (r : Result Place Ended). Crosses at next setting line rest repeats before after held loops r) (sym is)
         (record {
           says = record { repeats = open_then; opened = opened; goes = record { is = found; fewer = ap suc (sym left); sound = sound } };
         })
 
     -- the step is stuck
     sticks_there : answer ≡ stuck_there → Blocked A (step_at A setting (state_at A (preceding next at) repeats before held) (line ∷ rest))
-        → Opened next.depth bodies to_come repeats
+        → Opened next.depth loops repeats
         → Stays A next before after held held
-        → Crosses at next setting line rest repeats before after held bodies to_come answer
+        → Crosses at next setting line rest repeats before after held loops answer
     sticks_there is blocked opened stays =
-        subst (λ (r : Result Place Ended). Crosses at next setting line rest repeats before after held bodies to_come r) (sym is)
+        subst (λ (r : Result Place Ended). Crosses at next setting line rest repeats before after held loops r) (sym is)
         (record { says = (omega arith, blocked, record { opened = opened; stays = stays }) })
 
     -- a jump over as many lines as a search finds, among the loops that are then open
@@ -152,12 +153,12 @@ module _ {A : Arithmetic} where
         → from.left ≡ next.left
         → Arrives (one_more search_found) at (get_or beyond at 0)
         → JumpsTo beyond at from answer
-        → Opened from.depth bodies to_come open_then
+        → Opened from.depth loops open_then
         → Sound A setting (buffers_at A from after held)
         → (state : State A) → state.at.index ≡ at → state.repeats ≡ open_then
         → step_at A setting (state_at A (preceding next at) repeats before held) (line ∷ rest)
         ≡ jump A state (memory_of A (buffers_at A from after held)) (one_more search_found)
-        → Crosses at next setting line rest repeats before after held bodies to_come answer
+        → Crosses at next setting line rest repeats before after held loops answer
     jumps_among {beyond} from open_then search_found left reached jumps opened sound state there open_is found =
         let memory = memory_of A (buffers_at A from after held) in
         let positive = one_more_some search_found reached.far reached.finds in
@@ -172,26 +173,26 @@ module _ {A : Arithmetic} where
         → from.left ≡ next.left
         → Arrives (one_more search_found) at (get_or beyond at 0)
         → JumpsTo beyond at from answer
-        → Opened from.depth bodies to_come repeats
+        → Opened from.depth loops repeats
         → Sound A setting (buffers_at A from after held)
         → step_at A setting (state_at A (preceding next at) repeats before held) (line ∷ rest)
         ≡ jump A (state_at A (preceding next at) repeats before held) (memory_of A (buffers_at A from after held)) (one_more search_found)
-        → Crosses at next setting line rest repeats before after held bodies to_come answer
+        → Crosses at next setting line rest repeats before after held loops answer
     jumps_there from search_found left reached jumps opened sound found =
         jumps_among from repeats search_found left reached jumps opened sound (state_at A (preceding next at) repeats before held) refl refl found
 
   -- kinds 7 and 15
   module _ {beyond : List ℕ} {at : ℕ} {next : Place} {setting : Setting A} {lines rest : List TableLine} {repeats : List Repeat}
-      {before after : Cells A} {held : List A.Carrier} {bodies to_come : List ℕ} {answer : Result Place Ended}
+      {before after : Cells A} {held : List A.Carrier} {loops : List Loop} {answer : Result Place Ended}
       (test : TableTest) (height : ℕ)
       (follows : next.at.0 ≡ suc at)
       (here : drop at lines ≡ if_line test ∷ rest)
       (jumps : Jumps lines beyond)
-      (opened : Opened next.depth bodies to_come repeats) where
+      (opened : Opened next.depth loops repeats) where
     test_crosses : (picked : Option Bool)
         → Tests A setting test (buffers_at A next before held) (buffers_at A (lowered next height) after held) picked
         → PicksTo beyond at next height picked answer
-        → Crosses at next setting (if_line test) rest repeats before after held bodies to_come answer
+        → Crosses at next setting (if_line test) rest repeats before after held loops answer
     unfolding step_at
     test_crosses picked tests picks =
         by_branch picked picks tests.sound tests.unchanged (ap (after_test A (state_at A (preceding next at) repeats before held) rest) (sym tests.meaning))
@@ -202,7 +203,7 @@ module _ {A : Arithmetic} where
             → step_at A setting (state_at A (preceding next at) repeats before held) (if_line test ∷ rest)
             ≡ after_test A (state_at A (preceding next at) repeats before held) rest
             (verdict_on A (memory_of A (buffers_at A (lowered next height) after held)) picked)
-            → Crosses at next setting (if_line test) rest repeats before after held bodies to_come answer
+            → Crosses at next setting (if_line test) rest repeats before after held loops answer
         by_branch (some true) is sound same found =
             goes_to (lowered next height) repeats is refl opened sound
             (found ∙ ap (λ (n : ℕ). go_to A n repeats (memory_of A (buffers_at A (lowered next height) after held))) (sym follows))
@@ -223,39 +224,39 @@ module _ {A : Arithmetic} where
 
   -- one loop more, unless there is no room for it
   module _ {at : ℕ} {next : Place} {setting : Setting A} {line : TableLine} {rest : List TableLine} {repeats : List Repeat}
-      {before after : Cells A} {held : List A.Carrier} {bodies to_come bodies_after to_come_after : List ℕ} {answer : Result Place Ended} {body note : ℕ} where
+      {before after : Cells A} {held : List A.Carrier} {loops loops_after : List Loop} {answer : Result Place Ended} {body note : ℕ} where
     pushes_room : (from : Place) (r : Repeat) (outer : List Repeat)
         → from.left ≡ next.left → from.at.0 ≡ suc at → back_to r ≡ body → note_of r ≡ note
-        → Pushes body note from bodies to_come bodies_after to_come_after answer
+        → Pushes body note from loops loops_after answer
         → from.depth < limit.depth
-        → Opened from.depth bodies to_come outer
+        → Opened from.depth loops outer
         → Sound A setting (buffers_at A from after held)
         → step_at A setting (state_at A (preceding next at) repeats before held) (line ∷ rest)
         ≡ go_to A (suc at) (r ∷ outer) (memory_of A (buffers_at A from after held))
-        → Crosses at next setting line rest repeats before after held bodies_after to_come_after answer
+        → Crosses at next setting line rest repeats before after held loops_after answer
     pushes_room from r outer left follows back noted pushes room around sound found =
         goes_to (within from (suc from.depth)) (r ∷ outer) (pushes.room room) left (pushes.opened room r outer back noted around) sound
         (found ∙ ap (λ (n : ℕ). go_to A n (r ∷ outer) (memory_of A (buffers_at A from after held))) (sym follows))
 
     pushes_crosses : (from : Place) (r : Repeat) (outer : List Repeat)
         → from.left ≡ next.left → from.at.0 ≡ suc at → back_to r ≡ body → note_of r ≡ note
-        → Pushes body note from bodies to_come bodies_after to_come_after answer
-        → Opened from.depth bodies to_come outer
-        → Opened next.depth bodies to_come repeats
+        → Pushes body note from loops loops_after answer
+        → Opened from.depth loops outer
+        → Opened next.depth loops repeats
         → Sound A setting (buffers_at A from after held)
         → Stays A next before after held held
         → step_at A setting (state_at A (preceding next at) repeats before held) (line ∷ rest)
         ≡ go_to A (suc at) (r ∷ outer) (memory_of A (buffers_at A from after held))
-        → Crosses at next setting line rest repeats before after held bodies_after to_come_after answer
+        → Crosses at next setting line rest repeats before after held loops_after answer
     pushes_crosses from r outer left follows back noted pushes around opened sound stays found = by (dec_lt from.depth limit.depth)
       where
-        by : Dec (from.depth < limit.depth) → Crosses at next setting line rest repeats before after held bodies_after to_come_after answer
+        by : Dec (from.depth < limit.depth) → Crosses at next setting line rest repeats before after held loops_after answer
         by (yes room) = pushes_room from r outer left follows back noted pushes room around sound found
         by (no full) =
-            let deep = opened_length from.depth bodies to_come outer around in
+            let deep = opened_length from.depth loops outer around in
             let full_up = pushes.full (omega arith) in
             let ninth : limit.depth < length (r ∷ outer) = omega arith in
-            sticks_there full_up.0 (subst (λ (s : Step A). Blocked A s) (sym found) ninth) (rw (full_up.1, full_up.2) opened) stays
+            sticks_there full_up.0 (subst (λ (s : Step A). Blocked A s) (sym found) ninth) (rw full_up.1 opened) stays
 
   -- ---- kind 19
 
@@ -276,9 +277,9 @@ module _ {A : Arithmetic} where
       by false e = rw e
 
   -- the step of the loop's row, by what the code found
-  asked_step : (branch : Branch) {most at : ℕ} (next : Place) {bodies to_come : List ℕ} {found : Pending}
-      → Pends most at next.depth bodies to_come found → (setting : Setting A) (rest : List TableLine) (f : Test) (m : ℕ) (repeats : List Repeat) (cells : Cells A) (held : List A.Carrier)
-      → most ≡ suc m → compared A f cells.store ≡ branch_of branch → next.depth ≤ limit.depth → Opened next.depth bodies to_come repeats
+  asked_step : (branch : Branch) {most at : ℕ} (next : Place) {loops : List Loop} {found : Pending}
+      → Pends most at next.depth loops found → (setting : Setting A) (rest : List TableLine) (f : Test) (m : ℕ) (repeats : List Repeat) (cells : Cells A) (held : List A.Carrier)
+      → most ≡ suc m → compared A f cells.store ≡ branch_of branch → next.depth ≤ limit.depth → Opened next.depth loops repeats
       → let state = state_at A (preceding next at) repeats cells held in
       step_at A setting state (repeat (while (whether f) m) ∷ rest)
       ≡ asked A setting state rest most found.left (loops_around at repeats) (branch_of branch)
@@ -287,19 +288,19 @@ module _ {A : Arithmetic} where
       let state = state_at A (preceding next at) repeats cells held in
       rw (test, pending_left state (suc m) repeats, pending_outer state (suc m) repeats, sym is, sym (pends.left repeats shallow opened))
 
-  module _ {branch : Branch} {most : ℕ} {keeps : Bool} {beyond : List ℕ} {at : ℕ} {next : Place} {turns bodies to_come : List ℕ} {found : Pending}
-      (pends : Pends most at next.depth bodies to_come found) where
+  module _ {branch : Branch} {most : ℕ} {keeps : Bool} {beyond : List ℕ} {at : ℕ} {next : Place} {turns : List ℕ} {loops : List Loop} {found : Pending}
+      (pends : Pends most at next.depth loops found) where
     -- into its body
-    pub asks_in : {bodies_after to_come_after : List ℕ} {answer : Result Place Ended} → branch ≡ branch_as.First → 0 < found.left
-        → Pushes at found.note (amid next found) bodies to_come bodies_after to_come_after answer
-        → AsksLoop A branch most keeps beyond at next turns bodies to_come turns bodies_after to_come_after answer
-    asks_in {bodies_after} {to_come_after} {answer} first positive pushes =
+    pub asks_in : {loops_after : List Loop} {answer : Result Place Ended} → branch ≡ branch_as.First → 0 < found.left
+        → Pushes at found.note (amid next found) loops loops_after answer
+        → AsksLoop A branch most keeps beyond at next turns loops turns loops_after answer
+    asks_in {loops_after} {answer} first positive pushes =
         record {
           left = pushes.left;
           asks = λ setting lines rest f m repeats store values copied held is test follows here jumps keeping opened shallow sound.
               let cells = cells_of A store values turns copied in
               let loop : Repeat = record { start = record { index = at }; asks = true; left = found.left } in
-              let inside : Crosses at next setting (repeat (while (whether f) m)) rest repeats cells cells held bodies_after to_come_after answer =
+              let inside : Crosses at next setting (repeat (while (whether f) m)) rest repeats cells cells held loops_after answer =
               pushes_crosses (amid next found) loop (loops_around at repeats) refl follows refl (sym pends.noted) pushes (pends.around repeats shallow opened) opened sound refl
               (asked_step branch next pends setting rest f m repeats cells held is test shallow opened
               ∙ goes_in setting (state_at A (preceding next at) repeats cells held) rest (loops_around at repeats) found.left positive) in
@@ -315,7 +316,7 @@ module _ {A : Arithmetic} where
     -- past it
     pub asks_out : {turns_after : List ℕ} {answer : Result Place Ended} → (branch ≡ branch_as.First → found.left ≡ 0)
         → EndsLoop A (most - found.left) keeps beyond at (amid next found) turns turns_after answer
-        → AsksLoop A branch most keeps beyond at next turns bodies to_come turns_after bodies to_come answer
+        → AsksLoop A branch most keeps beyond at next turns loops turns_after loops answer
     asks_out {turns_after} {answer} over ends =
         record {
           left = ends.left;
@@ -337,7 +338,7 @@ module _ {A : Arithmetic} where
         goes_out setting state rest outer branch_as.Second spent (suc n) is = rw is
 
         by_move : (setting : Setting A) (lines rest : List TableLine) (f : Test) (m : ℕ) (repeats : List Repeat) (store values copied held : List A.Carrier)
-            → drop at lines ≡ repeat (while (whether f) m) ∷ rest → Jumps lines beyond → Opened next.depth bodies to_come repeats → next.depth ≤ limit.depth
+            → drop at lines ≡ repeat (while (whether f) m) ∷ rest → Jumps lines beyond → Opened next.depth loops repeats → next.depth ≤ limit.depth
             → KeptAs A setting (most - found.left) (buffers_at A next (cells_of A store values turns copied) held)
             (buffers_at A (raised next next.values (height_after ends.moved next.turns)) (cells_of A store values turns_after copied) held) ends.moved
             → let state = state_at A (preceding next at) repeats (cells_of A store values turns copied) held in
@@ -345,7 +346,7 @@ module _ {A : Arithmetic} where
             ≡ loop_ends A state rest (loops_around at repeats) (count_kept A setting (most - found.left) state.memory)
             → (moved : Result ℕ Stuck) → ends.moved ≡ moved
             → Crosses at next setting (repeat (while (whether f) m)) rest repeats (cells_of A store values turns copied) (cells_of A store values turns_after copied) held
-            bodies to_come answer
+            loops answer
         by_move setting lines rest f m repeats store values copied held here jumps opened shallow kept leads (Ok height) is =
             let after = cells_of A store values turns_after copied in
             let to = raised (amid next found) next.values height in
@@ -411,9 +412,9 @@ module _ {A : Arithmetic} where
   unfolding step_at
   count_step at next turns top is there setting rest m repeats store values copied held = rw (is, stack_top top turns 0 there, stack_below top turns 0)
 
-  module _ {beyond : List ℕ} {at : ℕ} {next : Place} {turns bodies to_come : List ℕ} where
+  module _ {beyond : List ℕ} {at : ℕ} {next : Place} {turns : List ℕ} {loops : List Loop} where
     pub counts_none : (next.turns ≡ 0) ⊎ (length turns < next.turns)
-        → OnCount A beyond at next turns bodies to_come turns bodies to_come stuck_there
+        → OnCount A beyond at next turns loops turns loops stuck_there
     unfolding step_at
     counts_none nothing =
         record {
@@ -421,7 +422,7 @@ module _ {A : Arithmetic} where
           takes = λ setting lines rest m repeats store values copied held follows here jumps opened shallow sound.
               let empty : next.turns ≡ 0 = is_empty nothing sound.turns.within in
               let cells = cells_of A store values turns copied in
-              let there : Crosses at next setting (repeat (while on_turn m)) rest repeats cells cells held bodies to_come stuck_there =
+              let there : Crosses at next setting (repeat (while on_turn m)) rest repeats cells cells held loops stuck_there =
               sticks_there refl (rw empty tt) opened refl in
               there.says;
         }
@@ -432,14 +433,14 @@ module _ {A : Arithmetic} where
 
     module _ (top : ℕ) (is : next.turns ≡ suc top) (there : top < length turns) where
       pub counts_past : {answer : Result Place Ended} → get_or turns top 0 ≡ 0 → JumpsTo beyond at (lowered next top) answer
-          → OnCount A beyond at next turns bodies to_come (set turns top 0) bodies to_come answer
+          → OnCount A beyond at next turns loops (set turns top 0) loops answer
       counts_past {answer} zero_there jumping =
           record {
             left = jumping.left;
             takes = λ setting lines rest m repeats store values copied held follows here jumps opened shallow sound.
                 let after = cells_of A store values (set turns top 0) copied in
                 let state = state_at A (preceding next at) repeats (cells_of A store values turns copied) held in
-                let past : Crosses at next setting (repeat (while on_turn m)) rest repeats (cells_of A store values turns copied) after held bodies to_come answer =
+                let past : Crosses at next setting (repeat (while on_turn m)) rest repeats (cells_of A store values turns copied) after held loops answer =
                 jumps_among (lowered next top) repeats (seek_close 0 rest) refl (jumps.from_repeat at _ rest here) jumping opened
                 (count_taken next turns top is setting store values copied held sound)
                 (record { at = record { index = at }; repeats = repeats; memory = memory_of A (buffers_at A (lowered next top) after held) }) refl refl
@@ -448,15 +449,15 @@ module _ {A : Arithmetic} where
                 past.says;
           }
 
-      pub counts_full : get_or turns top 0 ≢ 0 → limit.depth ≤ next.depth → OnCount A beyond at next turns bodies to_come turns bodies to_come stuck_there
+      pub counts_full : get_or turns top 0 ≢ 0 → limit.depth ≤ next.depth → OnCount A beyond at next turns loops turns loops stuck_there
       counts_full not_zero full =
           record {
             left = tt;
             takes = λ setting lines rest m repeats store values copied held follows here jumps opened shallow sound.
                 let state = state_at A (preceding next at) repeats (cells_of A store values turns copied) held in
-                let deep = opened_length next.depth bodies to_come repeats opened in
+                let deep = opened_length next.depth loops repeats opened in
                 let cells = cells_of A store values turns copied in
-                let blocked : Crosses at next setting (repeat (while on_turn m)) rest repeats cells cells held bodies to_come stuck_there =
+                let blocked : Crosses at next setting (repeat (while on_turn m)) rest repeats cells cells held loops stuck_there =
                 sticks_there refl
                 (subst (λ (s : Step A). Blocked A s) (sym (count_step at next turns top is there setting rest m repeats store values copied held))
                 (ninth state rest (get_or turns top 0) (stack_of top (set turns top 0)) not_zero (omega arith)))
@@ -469,17 +470,17 @@ module _ {A : Arithmetic} where
           ninth state rest zero below not_zero deep = absurd (not_zero refl)
           ninth state rest (suc n) below not_zero deep = omega arith
 
-      pub counts_in : {bodies_after to_come_after : List ℕ} {answer : Result Place Ended} (n : ℕ) → get_or turns top 0 ≡ suc n → next.depth < limit.depth
-          → Opens (get_or turns top 0) (lowered next top) bodies to_come bodies_after to_come_after answer
-          → OnCount A beyond at next turns bodies to_come (set turns top 0) bodies_after to_come_after answer
-      counts_in {bodies_after} {to_come_after} {answer} n count room opens =
+      pub counts_in : {loops_after : List Loop} {answer : Result Place Ended} (n : ℕ) → get_or turns top 0 ≡ suc n → next.depth < limit.depth
+          → Opens (get_or turns top 0) (lowered next top) loops loops_after answer
+          → OnCount A beyond at next turns loops (set turns top 0) loops_after answer
+      counts_in {loops_after} {answer} n count room opens =
           record {
             left = opens.left;
             takes = λ setting lines rest m repeats store values copied held follows here jumps opened shallow sound.
                 let state = state_at A (preceding next at) repeats (cells_of A store values turns copied) held in
                 let loop : Repeat = record { start = record { index = at }; asks = false; left = n } in
                 let inside : Crosses at next setting (repeat (while on_turn m)) rest repeats (cells_of A store values turns copied)
-                (cells_of A store values (set turns top 0) copied) held bodies_after to_come_after answer =
+                (cells_of A store values (set turns top 0) copied) held loops_after answer =
                 pushes_room (lowered next top) loop repeats refl follows (sym follows) (omega arith) (opens.opens n count) room opened
                 (count_taken next turns top is setting store values copied held sound)
                 (count_step at next turns top is there setting rest m repeats store values copied held
@@ -489,21 +490,21 @@ module _ {A : Arithmetic} where
 
   -- ---- the line that a row's words say
 
-  module _ {beyond : List ℕ} {at : ℕ} {next : Place} {row : Row} {turns bodies to_come : List ℕ} where
-    crosses_as : (line : TableLine) {turns_after bodies_after to_come_after : List ℕ} {answer : Result Place Ended} → block_of row ≡ some line → SaysAll line
+  module _ {beyond : List ℕ} {at : ℕ} {next : Place} {row : Row} {turns : List ℕ} {loops : List Loop} where
+    crosses_as : (line : TableLine) {turns_after : List ℕ} {loops_after : List Loop} {answer : Result Place Ended} → block_of row ≡ some line → SaysAll line
         → CrossedLeft (suc next.left) answer
         → ((setting : Setting A) (lines rest : List TableLine) (repeats : List Repeat) (store values copied held : List A.Carrier)
         → table_row_of line ≡ row
         → next.at.0 ≡ suc at
         → drop at lines ≡ line ∷ rest
         → Jumps lines beyond
-        → Opened next.depth bodies to_come repeats
+        → Opened next.depth loops repeats
         → next.depth ≤ limit.depth
         → Sound A setting (buffers_at A next (cells_of A store values turns copied) held)
         → Crosses at next setting line rest repeats (cells_of A store values turns copied) (cells_of A store values turns_after copied) held
-        bodies_after to_come_after answer)
-        → CrossesBy A row beyond at next turns bodies to_come turns_after bodies_after to_come_after answer
-    crosses_as line {turns_after} {bodies_after} {to_come_after} {answer} said all left crosses =
+        loops_after answer)
+        → CrossesBy A row beyond at next turns loops turns_after loops_after answer
+    crosses_as line {turns_after} {loops_after} {answer} said all left crosses =
         record {
           left = left;
           crosses = λ setting lines rest other repeats store values copied held words not_if not_while follows here jumps none_straight opened shallow sound.
@@ -514,7 +515,7 @@ module _ {A : Arithmetic} where
               let same : line ≡ other = said_all line other all cc in
               (subst
               (λ (l : TableLine). Crosses at next setting l rest repeats (cells_of A store values turns copied)
-              (cells_of A store values turns_after copied) held bodies_after to_come_after answer)
+              (cells_of A store values turns_after copied) held loops_after answer)
               same
               (crosses setting lines rest repeats store values copied held (ap table_row_of same ∙ words) follows
               (here ∙ ap (λ (l : TableLine). l ∷ rest) (sym same))
@@ -522,14 +523,14 @@ module _ {A : Arithmetic} where
         }
 
     pub else_crosses : {answer : Result Place Ended} → row.kind ≡ 8 → JumpsTo beyond at next answer
-        → CrossesBy A row beyond at next turns bodies to_come turns bodies to_come answer
+        → CrossesBy A row beyond at next turns loops turns loops answer
     unfolding block_of step_at
     else_crosses kind to =
         crosses_as else_line (rw kind) tt to.left
         (λ setting lines rest repeats store values copied held words follows here jumps opened shallow sound.
         jumps_there next (seek its_end 0 rest) refl (jumps.from_else at rest here) to opened sound refl)
 
-    pub end_if_crosses : row.kind ≡ 9 → CrossesBy A row beyond at next turns bodies to_come turns bodies to_come (Ok next)
+    pub end_if_crosses : row.kind ≡ 9 → CrossesBy A row beyond at next turns loops turns loops (Ok next)
     unfolding block_of step_at
     end_if_crosses kind =
         crosses_as end_if (rw kind) tt refl
@@ -537,11 +538,11 @@ module _ {A : Arithmetic} where
         goes_to next repeats refl refl opened sound
         (ap (λ (n : ℕ). go_to A n repeats (memory_of A (buffers_at A next (cells_of A store values turns copied) held))) (sym follows)))
 
-    pub repeat_crosses : {bodies_after to_come_after : List ℕ} {answer : Result Place Ended} → row.kind ≡ 10
-        → Opens row.a next bodies to_come bodies_after to_come_after answer
-        → CrossesBy A row beyond at next turns bodies to_come turns bodies_after to_come_after answer
+    pub repeat_crosses : {loops_after : List Loop} {answer : Result Place Ended} → row.kind ≡ 10
+        → Opens row.a next loops loops_after answer
+        → CrossesBy A row beyond at next turns loops turns loops_after answer
     unfolding block_of step_at table_row_of row_of
-    repeat_crosses {bodies_after} {to_come_after} {answer} kind opens =
+    repeat_crosses {loops_after} {answer} kind opens =
         let m = pred row.a in
         crosses_as (repeat (times m)) (rw kind) tt opens.left
         (λ setting lines rest repeats store values copied held words follows here jumps opened shallow sound.
@@ -549,11 +550,11 @@ module _ {A : Arithmetic} where
         let loop : Repeat = record { start = record { index = at }; asks = false; left = m } in
         pushes_crosses next loop repeats refl follows (sym follows) (omega arith) (opens.opens m count) opened opened sound refl refl)
 
-    pub end_repeat_crosses : {bodies_after to_come_after : List ℕ} {answer : Result Place Ended} → row.kind ≡ 11
-        → Closes next bodies to_come bodies_after to_come_after answer
-        → CrossesBy A row beyond at next turns bodies to_come turns bodies_after to_come_after answer
+    pub end_repeat_crosses : {loops_after : List Loop} {answer : Result Place Ended} → row.kind ≡ 11
+        → Closes next loops loops_after answer
+        → CrossesBy A row beyond at next turns loops turns loops_after answer
     unfolding block_of step_at
-    end_repeat_crosses {bodies_after} {to_come_after} {answer} kind closes =
+    end_repeat_crosses {loops_after} {answer} kind closes =
         crosses_as end_repeat (rw kind) tt closes.left
         (λ setting lines rest repeats store values copied held words follows here jumps opened shallow sound.
         by_repeats repeats follows opened shallow sound)
@@ -562,10 +563,10 @@ module _ {A : Arithmetic} where
             (r : Repeat) (outer : List Repeat) (left : ℕ)
             → r.left ≡ left
             → next.at.0 ≡ suc at
-            → Opened next.depth bodies to_come (r ∷ outer)
+            → Opened next.depth loops (r ∷ outer)
             → next.depth ≤ limit.depth
             → Sound A setting (buffers_at A next cells held)
-            → Crosses at next setting end_repeat rest (r ∷ outer) cells cells held bodies_after to_come_after answer
+            → Crosses at next setting end_repeat rest (r ∷ outer) cells cells held loops_after answer
         by_left {setting} {rest} {cells} {held} r outer zero left follows opened shallow sound =
             let out = closes.out shallow r outer opened left in
             goes_to (within next (pred next.depth)) outer out.0 refl out.1 sound
@@ -578,17 +579,17 @@ module _ {A : Arithmetic} where
 
         by_repeats : {setting : Setting A} {rest : List TableLine} {cells : Cells A} {held : List A.Carrier} (repeats : List Repeat)
             → next.at.0 ≡ suc at
-            → Opened next.depth bodies to_come repeats
+            → Opened next.depth loops repeats
             → next.depth ≤ limit.depth
             → Sound A setting (buffers_at A next cells held)
-            → Crosses at next setting end_repeat rest repeats cells cells held bodies_after to_come_after answer
+            → Crosses at next setting end_repeat rest repeats cells cells held loops_after answer
         by_repeats [] follows opened shallow sound = let none_open = closes.none opened in sticks_there none_open.0 tt none_open.1 refl
         by_repeats (r ∷ outer) follows opened shallow sound = by_left r outer r.left refl follows opened shallow sound
 
     pub on_turn_crosses : {picked : Result (Branch × ℕ) Stuck} {turns_after : List ℕ} {answer : Result Place Ended} → row.kind ≡ 15
         → TakesTurn A turns next.turns turns_after picked
         → TurnsTo beyond at next picked answer
-        → CrossesBy A row beyond at next turns bodies to_come turns_after bodies to_come answer
+        → CrossesBy A row beyond at next turns loops turns_after loops answer
     unfolding block_of
     on_turn_crosses {picked} {turns_after} {answer} kind takes to =
         let height = height_branched picked next.turns in
@@ -597,11 +598,11 @@ module _ {A : Arithmetic} where
         (λ setting lines rest repeats store values copied held words follows here jumps opened shallow sound.
         test_crosses on_turn height follows here jumps opened (turn_of picked) (takes.tests setting store values next.values held sound) picks)
 
-    pub on_count_crosses : {turns_after bodies_after to_come_after : List ℕ} {answer : Result Place Ended} → row.kind ≡ 20
-        → OnCount A beyond at next turns bodies to_come turns_after bodies_after to_come_after answer
-        → CrossesBy A row beyond at next turns bodies to_come turns_after bodies_after to_come_after answer
+    pub on_count_crosses : {turns_after : List ℕ} {loops_after : List Loop} {answer : Result Place Ended} → row.kind ≡ 20
+        → OnCount A beyond at next turns loops turns_after loops_after answer
+        → CrossesBy A row beyond at next turns loops turns_after loops_after answer
     unfolding block_of
-    on_count_crosses {turns_after} {bodies_after} {to_come_after} {answer} kind counts =
+    on_count_crosses {turns_after} {loops_after} {answer} kind counts =
         record {
           left = counts.left;
           crosses = λ setting lines rest other repeats store values copied held words not_if not_while follows here jumps none_straight opened shallow sound.
@@ -613,7 +614,7 @@ module _ {A : Arithmetic} where
               let loop = said_count other cc in
               subst
               (λ (l : TableLine). StepsTo A setting l rest at next repeats (cells_of A store values turns copied) (cells_of A store values turns_after copied)
-              held bodies_after to_come_after answer)
+              held loops_after answer)
               (sym loop.1)
               (counts.takes setting lines rest loop.0 repeats store values copied held follows (here ∙ ap (λ (l : TableLine). l ∷ rest) loop.1) jumps opened
               shallow sound);
@@ -621,7 +622,7 @@ module _ {A : Arithmetic} where
 
     -- no line has another kind
     pub never_crosses : row.kind ≢ 8 → row.kind ≢ 9 → row.kind ≢ 10 → row.kind ≢ 11 → row.kind ≢ 15 → row.kind ≢ 20
-        → CrossesBy A row beyond at next turns bodies to_come turns bodies to_come stuck_there
+        → CrossesBy A row beyond at next turns loops turns loops stuck_there
     unfolding block_of
     never_crosses k₈ k₉ k₁₀ k₁₁ k₁₅ k₂₀ =
         record {
@@ -650,17 +651,17 @@ module _ {A : Arithmetic} where
 
   -- the step at the line that stands there
   found_there : (place : Place) {left : ℕ} (lines : List TableLine) {rest : List TableLine} {line : TableLine} (setting : Setting A)
-      (repeats : List Repeat) (before after : Cells A) (held : List A.Carrier) (bodies to_come : List ℕ) (answer : Result Place Ended)
+      (repeats : List Repeat) (before after : Cells A) (held : List A.Carrier) (loops : List Loop) (answer : Result Place Ended)
       → place.left ≡ suc left
       → drop place.at.0 lines ≡ line ∷ rest
-      → Crosses place.at.0 (following place (place.at.0 + 1) left) setting line rest repeats before after held bodies to_come answer
-      → CrossedSays A setting place repeats bodies to_come before after held (step A setting lines (state_at A place repeats before held)) answer
+      → Crosses place.at.0 (following place (place.at.0 + 1) left) setting line rest repeats before after held loops answer
+      → CrossedSays A setting place repeats loops before after held (step A setting lines (state_at A place repeats before held)) answer
   unfolding step
-  found_there place {left} lines {rest} {line} setting repeats before after held bodies to_come answer spends here crosses =
+  found_there place {left} lines {rest} {line} setting repeats before after held loops answer spends here crosses =
       let same_place : preceding (following place (place.at.0 + 1) left) place.at.0 ≡ place = rw (sym spends) in
       rw here
       (subst
-      (λ (p : Place). CrossedSays A setting p repeats bodies to_come before after held (step_at A setting (state_at A p repeats before held) (line ∷ rest)) answer)
+      (λ (p : Place). CrossedSays A setting p repeats loops before after held (step_at A setting (state_at A p repeats before held) (line ∷ rest)) answer)
       same_place
       crosses.says)
 
@@ -685,14 +686,14 @@ module _ {A : Arithmetic} where
       by (some x) branch_as.First e = sym (ap first_in e)
       by (some x) branch_as.Second e = sym (ap first_in e)
 
-  module _ {table : List ℕ} {rows : ℕ} {beyond : List ℕ} {keeps : Bool} {place : Place} {store : List A.Carrier} {turns bodies to_come : List ℕ} where
+  module _ {table : List ℕ} {rows : ℕ} {beyond : List ℕ} {keeps : Bool} {place : Place} {store : List A.Carrier} {turns : List ℕ} {loops : List Loop} where
     pub block_leaves : {how : Ended} {met : Met} → Meets table rows place met → met ≡ met_as.Out how
-        → BlockRow A table rows beyond keeps place store turns bodies to_come turns bodies to_come (Err how)
+        → BlockRow A table rows beyond keeps place store turns loops turns loops (Err how)
     unfolding step step_at
     block_leaves {how} meets is = by_end how (rw is at meets)
       where
         by_end : (how : Ended) → Meets table rows place (met_as.Out how)
-            → BlockRow A table rows beyond keeps place store turns bodies to_come turns bodies to_come (Err how)
+            → BlockRow A table rows beyond keeps place store turns loops turns loops (Err how)
         by_end ended_as.Finished (some_left, over) =
             record {
               left = tt;
@@ -709,11 +710,11 @@ module _ {A : Arithmetic} where
                   (spent, record { opened = opened; stays = refl });
             }
 
-    pub block_crosses : {row : RowWords} {next : Place} {turns_after bodies_after to_come_after : List ℕ} {answer : Result Place Ended} {met : Met} → Meets table rows place met
+    pub block_crosses : {row : RowWords} {next : Place} {turns_after : List ℕ} {loops_after : List Loop} {answer : Result Place Ended} {met : Met} → Meets table rows place met
         → met ≡ met_as.Other row next
-        → CrossesBy A (row_said row) beyond place.at.0 next turns bodies to_come turns_after bodies_after to_come_after answer
-        → BlockRow A table rows beyond keeps place store turns bodies to_come turns_after bodies_after to_come_after answer
-    block_crosses {row} {next} {turns_after} {bodies_after} {to_come_after} {answer} meets is crosses =
+        → CrossesBy A (row_said row) beyond place.at.0 next turns loops turns_after loops_after answer
+        → BlockRow A table rows beyond keeps place store turns loops turns_after loops_after answer
+    block_crosses {row} {next} {turns_after} {loops_after} {answer} meets is crosses =
         let (there, not_if, not_while) = rw is at meets in
         let left = there.follows.left in
         let spends = there.follows.spends in
@@ -724,7 +725,7 @@ module _ {A : Arithmetic} where
               let line = stands_there lines place.at.0 (rw count there.within) in
               let words = words_there table lines line.rest line.line place.at.0 (row_said row) holds there.said line.is in
               found_there place lines setting repeats (cells_of A store values turns copied) (cells_of A store values turns_after copied) held
-              bodies_after to_come_after answer spends line.is
+              loops_after answer spends line.is
               (record {
                 says = done.crosses setting lines line.rest line.line repeats store values copied held words not_if not_while (add-one place.at.0)
                     line.is jumps (none_due (omega arith)) opened shallow sound;
@@ -735,7 +736,7 @@ module _ {A : Arithmetic} where
         → row.kind ≡ 7
         → Compares A row.a row.b store picked
         → BranchesTo beyond place.at.0 next picked answer
-        → BlockRow A table rows beyond keeps place store turns bodies to_come turns bodies to_come answer
+        → BlockRow A table rows beyond keeps place store turns loops turns loops answer
     unfolding block_of
     block_compares {row} {next} {picked} {answer} there kind compares to =
         let left = there.follows.left in
@@ -758,19 +759,19 @@ module _ {A : Arithmetic} where
               let same : if_line f ≡ line.line = said_all _ line.line tt cc in
               let here = line.is ∙ ap (λ (l : TableLine). l ∷ line.rest) (sym same) in
               let cells = cells_of A store values turns copied in
-              found_there place lines setting repeats cells cells held bodies to_come answer spends here
+              found_there place lines setting repeats cells cells held loops answer spends here
               (test_crosses f place.turns (add-one place.at.0) here jumps opened (branch_of picked)
               (compares.tests setting values place.values turns place.turns held sound) picks);
         }
 
-    block_loops : {row : RowWords} {next : Place} {picked : Branch} {turns_after bodies_after to_come_after : List ℕ} {answer : Result Place Ended}
+    block_loops : {row : RowWords} {next : Place} {picked : Branch} {turns_after : List ℕ} {loops_after : List Loop} {answer : Result Place Ended}
         → MeetsRow table rows place (row_said row) next
         → row.kind ≡ while_kind
         → Compares A row.a row.b store picked
-        → AsksLoop A picked row.d keeps beyond place.at.0 next turns bodies to_come turns_after bodies_after to_come_after answer
-        → BlockRow A table rows beyond keeps place store turns bodies to_come turns_after bodies_after to_come_after answer
+        → AsksLoop A picked row.d keeps beyond place.at.0 next turns loops turns_after loops_after answer
+        → BlockRow A table rows beyond keeps place store turns loops turns_after loops_after answer
     unfolding block_of table_row_of row_of_table_while
-    block_loops {row} {next} {picked} {turns_after} {bodies_after} {to_come_after} {answer} there kind compares loop =
+    block_loops {row} {next} {picked} {turns_after} {loops_after} {answer} there kind compares loop =
         let left = there.follows.left in
         let spends = there.follows.spends in
         let done = rw there.follows.is at loop in
@@ -791,7 +792,7 @@ module _ {A : Arithmetic} where
               let here = line.is ∙ ap (λ (l : TableLine). l ∷ line.rest) (sym same) in
               let turns_are : row.d ≡ suc m = sym (ap (λ (r : Row). r.d) (ap table_row_of same ∙ words)) in
               found_there place lines setting repeats (cells_of A store values turns copied) (cells_of A store values turns_after copied) held
-              bodies_after to_come_after answer spends here
+              loops_after answer spends here
               (record {
                 says = done.asks setting lines line.rest f m repeats store values copied held turns_are
                     (compared_is place store turns row.a row.b setting picked values copied held compares sound) (add-one place.at.0) here jumps keeping opened shallow
@@ -799,19 +800,19 @@ module _ {A : Arithmetic} where
               });
         }
 
-    pub block_asks : {row : RowWords} {next : Place} {picked : Branch} {turns_after bodies_after to_come_after : List ℕ} {answer : Result Place Ended} {met : Met}
+    pub block_asks : {row : RowWords} {next : Place} {picked : Branch} {turns_after : List ℕ} {loops_after : List Loop} {answer : Result Place Ended} {met : Met}
         → Meets table rows place met
         → met ≡ met_as.Ask row next
         → Compares A row.a row.b store picked
-        → AsksRow A picked (row_said row) keeps beyond place.at.0 next turns bodies to_come turns_after bodies_after to_come_after answer
-        → BlockRow A table rows beyond keeps place store turns bodies to_come turns_after bodies_after to_come_after answer
-    block_asks {row} {next} {picked} {turns_after} {bodies_after} {to_come_after} {answer} meets is compares row_asks =
+        → AsksRow A picked (row_said row) keeps beyond place.at.0 next turns loops turns_after loops_after answer
+        → BlockRow A table rows beyond keeps place store turns loops turns_after loops_after answer
+    block_asks {row} {next} {picked} {turns_after} {loops_after} {answer} meets is compares row_asks =
         let (there, kind) = rw is at meets in
         by_kind there kind
       where
         by_kind : MeetsRow table rows place (row_said row) next → AsksLess row.kind
-            → BlockRow A table rows beyond keeps place store turns bodies to_come turns_after bodies_after to_come_after answer
+            → BlockRow A table rows beyond keeps place store turns loops turns_after loops_after answer
         by_kind there (inl if_kind) =
-            let (to, same_turns, same_bodies, same_to_come) = row_asks.picks if_kind in
-            rw (same_turns, same_bodies, same_to_come) (block_compares there if_kind compares to)
+            let (to, same_turns, same_loops) = row_asks.picks if_kind in
+            rw (same_turns, same_loops) (block_compares there if_kind compares to)
         by_kind there (inr loop_kind) = block_loops there loop_kind compares (row_asks.asks (λ if_kind. omega arith))

@@ -18,6 +18,7 @@ use Rattle.machine.specs.Inner.Buffers.{Buffers, Cells, cells_of, memory_of, Sou
 use Rattle.machine.specs.Inner.RowsHanded.{Shallow, Indexed, Indexes}
 use Rattle.machine.specs.Inner.RowSteps.{Nested, Opened, Reaches, first_place, left_at, buffers_at, state_at, CopiesOn, Stays, StopsAt, Blocked, GoesTo, StepsStraight, StraightRow, Peeks, PeeksOn, CrossedSays, BlockRow}
 use Rattle.machine.specs.Inner.RunsRows.{first_state, Handed, AfterSteps, LeavesBy, Leaves, RunsRows}
+use Rattle.machine.specs.declared.Loop.{Loop}
 use Rattle.machine.specs.declared.Place.{Place}
 use Rattle.machine.specs.declared.Ahead.{Ahead}
 use Rattle.machine.specs.declared.Ahead.TheVariants as ahead_as
@@ -129,36 +130,35 @@ module _ {A : Arithmetic} (task : Task A) where
   Straight until place before after answer =
       StraightRow A task.table until task.roles task.constants task.seeds place before after answer
 
-  abbrev Block : Place → (before : Cells A) → (bodies to_come turns_after bodies_after to_come_after : List ℕ) → Result Place Ended → Type 0
-  Block place before bodies to_come turns_after bodies_after to_come_after answer =
-      BlockRow A task.table task.rows task.beyond task.keeps place before.store before.turns bodies to_come turns_after bodies_after to_come_after answer
+  abbrev Block : Place → (before : Cells A) → (loops : List Loop) (turns_after : List ℕ) (loops_after : List Loop) → Result Place Ended → Type 0
+  Block place before loops turns_after loops_after answer =
+      BlockRow A task.table task.rows task.beyond task.keeps place before.store before.turns loops turns_after loops_after answer
 
-  abbrev Left : (first after : Cells A) → (bodies to_come : List ℕ) → Ran → Type 0
-  Left first after bodies to_come answer =
-      RunsRows A task.table task.rows task.beyond task.keeps task.roles task.constants task.seeds task.steps first after bodies to_come answer
+  abbrev Left : (first after : Cells A) → (loops : List Loop) → Ran → Type 0
+  Left first after loops answer =
+      RunsRows A task.table task.rows task.beyond task.keeps task.roles task.constants task.seeds task.steps first after loops answer
 
-  abbrev Running : (first : Cells A) → Setting A → List TableLine → Memory A → Place → Cells A → (bodies to_come : List ℕ) → Type 0
-  Running first setting lines start place cells bodies to_come = AfterSteps A setting lines start task.steps first place cells bodies to_come
+  abbrev Running : (first : Cells A) → Setting A → List TableLine → Memory A → Place → Cells A → (loops : List Loop) → Type 0
+  Running first setting lines start place cells loops = AfterSteps A setting lines start task.steps first place cells loops
 
   -- under every setting, lines and start that the runner may have been handed with its first buffers
-  pub record Invariant (first : Cells A) (place : Place) (cells : Cells A) (bodies to_come : List ℕ) : Type 0 where
+  pub record Invariant (first : Cells A) (place : Place) (cells : Cells A) (loops : List Loop) : Type 0 where
     pub lengths : SameLengths first cells
     pub running : (setting : Setting A) (lines : List TableLine) (start : Memory A)
         → HandedOver first setting lines start
-        → Running first setting lines start place cells bodies to_come
+        → Running first setting lines start place cells loops
 
   -- The inner loop: what held where it began holds on. It can't see the run's first buffers, so it speaks of any.
-  pub record Inner (until : ℕ) (began : Place) (cells_then : Cells A) (place : Place) (cells : Cells A) (bodies to_come : List ℕ) : Type 0 where
+  pub record Inner (until : ℕ) (began : Place) (cells_then : Cells A) (place : Place) (cells : Cells A) (loops : List Loop) : Type 0 where
     pub lengths : SameLengths cells_then cells
     pub reaches : Reaches until task.rows place
     pub fewer : place.left ≤ began.left
-    pub still : (first : Cells A) → Invariant first began cells_then bodies to_come → Invariant first place cells bodies to_come
+    pub still : (first : Cells A) → Invariant first began cells_then loops → Invariant first place cells loops
 
-  pub run_starts : (first : Cells A) (bodies to_come : List ℕ) (place : Place) → place ≡ first_place task.steps → limit.depth ≤ length bodies
-      → limit.depth ≤ length to_come
-      → Invariant first place first bodies to_come
+  pub run_starts : (first : Cells A) (loops : List Loop) (place : Place) → place ≡ first_place task.steps → limit.depth ≤ length loops
+      → Invariant first place first loops
   unfolding Nested
-  run_starts first bodies to_come place is room_of_bodies room_of_turns =
+  run_starts first loops place is room =
       rw is
       (record {
         lengths = record { store = refl; values = refl; turns = refl; copied = refl };
@@ -170,14 +170,14 @@ module _ {A : Arithmetic} (task : Task A) where
               repeats = [];
               held = start.copied;
               is = after_none A setting lines (first_state A start) ∙ ap (λ (m : Memory A). goes_on (first_state A m)) (sym whole);
-              opened = record { room_of_bodies = room_of_bodies; room_of_turns = room_of_turns; nested = tt };
+              opened = record { room = room; nested = tt };
               sound = handed.sound;
               copies = inl (refl, refl);
             };
       })
 
-  module _ (first : Cells A) (setting : Setting A) (lines : List TableLine) (start : Memory A) (place : Place) (cells : Cells A) (bodies to_come : List ℕ)
-      (now : Running first setting lines start place cells bodies to_come) where
+  module _ (first : Cells A) (setting : Setting A) (lines : List TableLine) (start : Memory A) (place : Place) (cells : Cells A) (loops : List Loop)
+      (now : Running first setting lines start place cells loops) where
     abbrev state : State A
     state = state_at A place now.repeats cells now.held
 
@@ -189,12 +189,12 @@ module _ {A : Arithmetic} (task : Task A) where
         by_copies (inl (none, as_first)) = inl (is ∙ none, kept ∙ as_first)
         by_copies (inr copied) = inr (is ∙ copied ∙ sym kept)
 
-    running_goes : (next : Place) (repeats : List Repeat) (held : List A.Carrier) (after : Cells A) (bodies_after to_come_after : List ℕ)
+    running_goes : (next : Place) (repeats : List Repeat) (held : List A.Carrier) (after : Cells A) (loops_after : List Loop)
         → GoesTo A setting place next repeats after held (step A setting lines state)
-        → Opened next.depth bodies_after to_come_after repeats
+        → Opened next.depth loops_after repeats
         → CopiesOn A now.held cells held after
-        → Running first setting lines start next after bodies_after to_come_after
-    running_goes next repeats held after bodies_after to_come_after goes opened copies =
+        → Running first setting lines start next after loops_after
+    running_goes next repeats held after loops_after goes opened copies =
         record {
           taken = now.taken + 1;
           spent = omega (arith, now.spent, goes.fewer);
@@ -208,13 +208,13 @@ module _ {A : Arithmetic} (task : Task A) where
 
     -- ---- where the run is left, the row at hand has changed nothing
 
-    module _ (held : List A.Carrier) (after : Cells A) (bodies_after to_come_after : List ℕ) (stays : Stays A place cells after now.held held)
-        (opened : Opened place.depth bodies_after to_come_after now.repeats)
+    module _ (held : List A.Carrier) (after : Cells A) (loops_after : List Loop) (stays : Stays A place cells after now.held held)
+        (opened : Opened place.depth loops_after now.repeats)
         (copies : CopiesOn A now.held cells held after) where
       abbrev state_of : Buffers A → State A
       state_of b = record { at = record { index = place.at.0 }; repeats = now.repeats; memory = memory_of A b }
 
-      abbrev running_stays : Running first setting lines start place after bodies_after to_come_after
+      abbrev running_stays : Running first setting lines start place after loops_after
       running_stays =
           record {
             taken = now.taken;
@@ -232,32 +232,32 @@ module _ {A : Arithmetic} (task : Task A) where
 
       leaves_by : (how : Ended)
           → LeavesBy A place (memory_of A (buffers_at A place after held)) (step A setting lines (state_of (buffers_at A place after held))) how
-          → Leaves A setting lines start task.steps first after bodies_after to_come_after (left_at place how)
+          → Leaves A setting lines start task.steps first after loops_after (left_at place how)
       leaves_by how why = record { stands = running_stays; why = why }
 
       running_stops : (row : RowNumber) → row.0 ≡ place.at.0 → 0 < place.left → StopsAt A place.at.0 (step A setting lines state)
-          → Leaves A setting lines start task.steps first after bodies_after to_come_after (left_at place (ended_as.Stopped row))
+          → Leaves A setting lines start task.steps first after loops_after (left_at place (ended_as.Stopped row))
       running_stops row at some_left stop =
           leaves_by (ended_as.Stopped row)
           (some_left, at, record { stop = stop.stop; is = found_again ∙ stop.is })
 
       running_sticks : Shallow A setting lines (first_state A start) → 0 < place.left → Blocked A (step A setting lines state)
-          → Leaves A setting lines start task.steps first after bodies_after to_come_after (left_at place ended_as.Stuck)
+          → Leaves A setting lines start task.steps first after loops_after (left_at place ended_as.Stuck)
       running_sticks shallow some_left blocked =
           leaves_by ended_as.Stuck
           (some_left, found_again ∙ blocked_sticks A setting lines now.taken (first_state A start) state shallow now.is blocked)
 
-      running_spent : place.left ≡ 0 → Leaves A setting lines start task.steps first after bodies_after to_come_after (left_at place ended_as.Unfinished)
+      running_spent : place.left ≡ 0 → Leaves A setting lines start task.steps first after loops_after (left_at place ended_as.Unfinished)
       running_spent spent = leaves_by ended_as.Unfinished spent
 
       running_ends : 0 < place.left → step A setting lines state ≡ ended (memory_of A (buffers_at A place after held))
-          → Leaves A setting lines start task.steps first after bodies_after to_come_after (left_at place ended_as.Finished)
+          → Leaves A setting lines start task.steps first after loops_after (left_at place ended_as.Finished)
       running_ends some_left is = leaves_by ended_as.Finished (some_left, found_again ∙ is)
 
   -- ---- the inner loop's row
 
-  module _ {first cells after : Cells A} {until : ℕ} {place : Place} {bodies to_come : List ℕ} (reaches : Reaches until task.rows place)
-      (now : Invariant first place cells bodies to_come) where
+  module _ {first cells after : Cells A} {until : ℕ} {place : Place} {loops : List Loop} (reaches : Reaches until task.rows place)
+      (now : Invariant first place cells loops) where
     stepped : (setting : Setting A) (lines : List TableLine) (start : Memory A) → (handed : HandedOver first setting lines start)
         → (answer : Acted)
         → Straight until place cells after answer
@@ -270,14 +270,14 @@ module _ {A : Arithmetic} (task : Task A) where
         here.sound
 
     straight_on : (next : Place) (ahead : Ahead) → Straight until place cells after (acted.On next ahead) → SameLengths cells after
-        → Invariant first next after bodies to_come
+        → Invariant first next after loops
     straight_on next ahead straight kept =
         record {
           lengths = lengths_on now.lengths kept;
           running = λ setting lines start handed.
               let here = now.running setting lines start handed in
               let steps_on = stepped setting lines start handed (acted.On next ahead) straight in
-              running_goes first setting lines start place cells bodies to_come here next here.repeats steps_on.held after bodies to_come steps_on.says.1
+              running_goes first setting lines start place cells loops here next here.repeats steps_on.held after loops steps_on.says.1
               (rw steps_on.says.0 here.opened)
               steps_on.copies;
         }
@@ -287,19 +287,19 @@ module _ {A : Arithmetic} (task : Task A) where
     module _ (straight : Straight until place cells after acted.Block) where
       module _ (setting : Setting A) (lines : List TableLine) (start : Memory A)
           (handed : HandedOver first setting lines start) where
-        rested : Running first setting lines start place after bodies to_come
+        rested : Running first setting lines start place after loops
         rested =
-            subst (λ (x : Cells A). Running first setting lines start place x bodies to_come) (sym (stepped setting lines start handed acted.Block straight).says.1)
+            subst (λ (x : Cells A). Running first setting lines start place x loops) (sym (stepped setting lines start handed acted.Block straight).says.1)
             (now.running setting lines start handed)
 
-        crossed_says : (turns_after bodies_after to_come_after : List ℕ) (answer : Result Place Ended)
-            → Block place after bodies to_come turns_after bodies_after to_come_after answer
-            → CrossedSays A setting place rested.repeats bodies_after to_come_after after
+        crossed_says : (turns_after : List ℕ) (loops_after : List Loop) (answer : Result Place Ended)
+            → Block place after loops turns_after loops_after answer
+            → CrossedSays A setting place rested.repeats loops_after after
             (cells_of A after.store after.values turns_after after.copied) rested.held
             (step A setting lines (state_at A place rested.repeats after rested.held)) answer
-        crossed_says turns_after bodies_after to_come_after answer block =
+        crossed_says turns_after loops_after answer block =
             let few = handed.shallow rested.taken _ rested.is in
-            let deep = opened_length place.depth bodies to_come rested.repeats rested.opened in
+            let deep = opened_length place.depth loops rested.repeats rested.opened in
             block.steps setting lines rested.repeats after.values after.copied rested.held handed.holds handed.rows handed.jumps
             (stepped setting lines start handed acted.Block straight).says.0
             handed.keeping
@@ -307,55 +307,55 @@ module _ {A : Arithmetic} (task : Task A) where
             (rw (sym deep) few)
             rested.sound
 
-      module _ (turns_after bodies_after to_come_after : List ℕ) where
+      module _ (turns_after : List ℕ) (loops_after : List Loop) where
         abbrev left_over : Cells A
         left_over = cells_of A after.store after.values turns_after after.copied
 
         block_on : (next : Place)
-            → Block place after bodies to_come turns_after bodies_after to_come_after (Ok next)
+            → Block place after loops turns_after loops_after (Ok next)
             → SameLengths cells left_over
-            → Invariant first next left_over bodies_after to_come_after
+            → Invariant first next left_over loops_after
         block_on next block kept =
             record {
               lengths = lengths_on now.lengths kept;
               running = λ setting lines start handed.
-                  let says = crossed_says setting lines start handed turns_after bodies_after to_come_after (Ok next) block in
+                  let says = crossed_says setting lines start handed turns_after loops_after (Ok next) block in
                   let here = rested setting lines start handed in
-                  running_goes first setting lines start place after bodies to_come here next says.repeats here.held left_over bodies_after to_come_after says.goes
+                  running_goes first setting lines start place after loops here next says.repeats here.held left_over loops_after says.goes
                   says.opened
                   (inl (refl, refl));
             }
 
-        block_out : (how : Ended) → Block place after bodies to_come turns_after bodies_after to_come_after (Err how)
-            → Left first left_over bodies_after to_come_after (left_at place how)
+        block_out : (how : Ended) → Block place after loops turns_after loops_after (Err how)
+            → Left first left_over loops_after (left_at place how)
         block_out ended_as.Finished block setting lines start handed =
-            let (some_left, is, rests) = crossed_says setting lines start handed turns_after bodies_after to_come_after (Err ended_as.Finished) block in
+            let (some_left, is, rests) = crossed_says setting lines start handed turns_after loops_after (Err ended_as.Finished) block in
             let here = rested setting lines start handed in
-            running_ends first setting lines start place after bodies to_come here here.held left_over bodies_after to_come_after rests.stays rests.opened
+            running_ends first setting lines start place after loops here here.held left_over loops_after rests.stays rests.opened
             (inl (refl, refl)) some_left is
         block_out (ended_as.Stopped row) block setting lines start handed =
-            absurd (crossed_says setting lines start handed turns_after bodies_after to_come_after (Err (ended_as.Stopped row)) block)
+            absurd (crossed_says setting lines start handed turns_after loops_after (Err (ended_as.Stopped row)) block)
         block_out ended_as.Stuck block setting lines start handed =
-            let (some_left, blocked, rests) = crossed_says setting lines start handed turns_after bodies_after to_come_after (Err ended_as.Stuck) block in
+            let (some_left, blocked, rests) = crossed_says setting lines start handed turns_after loops_after (Err ended_as.Stuck) block in
             let here = rested setting lines start handed in
-            running_sticks first setting lines start place after bodies to_come here here.held left_over bodies_after to_come_after rests.stays rests.opened
+            running_sticks first setting lines start place after loops here here.held left_over loops_after rests.stays rests.opened
             (inl (refl, refl)) handed.shallow some_left blocked
         block_out ended_as.Unfinished block setting lines start handed =
-            let (spent, rests) = crossed_says setting lines start handed turns_after bodies_after to_come_after (Err ended_as.Unfinished) block in
+            let (spent, rests) = crossed_says setting lines start handed turns_after loops_after (Err ended_as.Unfinished) block in
             let here = rested setting lines start handed in
-            running_spent first setting lines start place after bodies to_come here here.held left_over bodies_after to_come_after rests.stays rests.opened
+            running_spent first setting lines start place after loops here here.held left_over loops_after rests.stays rests.opened
             (inl (refl, refl)) spent
 
   -- ---- what each answer of the code comes to, at the place where the inner loop is
 
-  module _ {cells cells_then after : Cells A} {until : ℕ} {place began : Place} {bodies to_come : List ℕ} {answer : Acted}
-      (inner : Inner until began cells_then place cells bodies to_come)
+  module _ {cells cells_then after : Cells A} {until : ℕ} {place began : Place} {loops : List Loop} {answer : Acted}
+      (inner : Inner until began cells_then place cells loops)
       (straight : Straight until place cells after answer) where
     module _ {next : Place} {ahead : Ahead} (is : answer ≡ acted.On next ahead) where
       pub straight_fewer : next.left < place.left
       straight_fewer = omega (arith, (rw is at straight).left)
 
-      pub inner_goes : SameLengths cells after → Inner until began cells_then next after bodies to_come
+      pub inner_goes : SameLengths cells after → Inner until began cells_then next after loops
       inner_goes kept =
           let goes = rw is at straight in
           record {
@@ -365,67 +365,67 @@ module _ {A : Arithmetic} (task : Task A) where
             still = λ first before. straight_on inner.reaches (inner.still first before) next ahead goes kept;
           }
 
-    module _ {first : Cells A} (run : Invariant first began cells_then bodies to_come) where
+    module _ {first : Cells A} (run : Invariant first began cells_then loops) where
       pub straight_stops : {ran : Ran} {row : RowNumber} → answer ≡ acted.Stopped → row.0 ≡ place.at.0 → ran ≡ left_at place (ended_as.Stopped row)
-          → Left first after bodies to_come ran
+          → Left first after loops ran
       straight_stops {row = row} is at answered setting lines start handed =
           let now = inner.still first run in
           let here = now.running setting lines start handed in
           let stepping = stepped inner.reaches now setting lines start handed acted.Stopped (rw is at straight) in
           let (some_left, stop, stays) = stepping.says in
           rw answered
-          (running_stops first setting lines start place cells bodies to_come here stepping.held after bodies to_come stays here.opened
+          (running_stops first setting lines start place cells loops here stepping.held after loops stays here.opened
           stepping.copies row at some_left stop)
 
-      pub straight_sticks : {ran : Ran} → answer ≡ acted.Stuck → ran ≡ left_at place ended_as.Stuck → Left first after bodies to_come ran
+      pub straight_sticks : {ran : Ran} → answer ≡ acted.Stuck → ran ≡ left_at place ended_as.Stuck → Left first after loops ran
       straight_sticks is answered setting lines start handed =
           let now = inner.still first run in
           let here = now.running setting lines start handed in
           let stepping = stepped inner.reaches now setting lines start handed acted.Stuck (rw is at straight) in
           let (some_left, blocked, stays) = stepping.says in
           rw answered
-          (running_sticks first setting lines start place cells bodies to_come here stepping.held after bodies to_come stays here.opened
+          (running_sticks first setting lines start place cells loops here stepping.held after loops stays here.opened
           stepping.copies handed.shallow some_left blocked)
 
-      module _ {turns_after bodies_after to_come_after : List ℕ} {crossing : Result Place Ended}
-          (block : Block place after bodies to_come turns_after bodies_after to_come_after crossing) where
+      module _ {turns_after : List ℕ} {loops_after : List Loop} {crossing : Result Place Ended}
+          (block : Block place after loops turns_after loops_after crossing) where
         pub block_goes : {next : Place} → answer ≡ acted.Block → crossing ≡ Ok next
             → SameLengths cells (cells_of A after.store after.values turns_after after.copied)
-            → Invariant first next (cells_of A after.store after.values turns_after after.copied) bodies_after to_come_after
+            → Invariant first next (cells_of A after.store after.values turns_after after.copied) loops_after
         block_goes {next} none is kept =
-            block_on inner.reaches (inner.still first run) (rw none at straight) turns_after bodies_after to_come_after next (rw is at block) kept
+            block_on inner.reaches (inner.still first run) (rw none at straight) turns_after loops_after next (rw is at block) kept
 
         pub block_ends : {ran : Ran} {how : Ended} → answer ≡ acted.Block → crossing ≡ Err how → ran ≡ left_at place how
-            → Left first (cells_of A after.store after.values turns_after after.copied) bodies_after to_come_after ran
+            → Left first (cells_of A after.store after.values turns_after after.copied) loops_after ran
         block_ends {how = how} none is answered =
-            subst (λ (r : Ran). Left first (cells_of A after.store after.values turns_after after.copied) bodies_after to_come_after r) (sym answered)
-            (block_out inner.reaches (inner.still first run) (rw none at straight) turns_after bodies_after to_come_after how (rw is at block))
+            subst (λ (r : Ran). Left first (cells_of A after.store after.values turns_after after.copied) loops_after r) (sym answered)
+            (block_out inner.reaches (inner.still first run) (rw none at straight) turns_after loops_after how (rw is at block))
 
   -- ---- what peeking comes to at the place after a row: the inner loop goes on from where it answers
 
   module _ {store store_after : List A.Carrier} {until : ℕ} {place answer : Place}
       (peek : Peeks A task.table until place store store_after answer) where
-    inner_peeks : {values copied : List A.Carrier} {turns : List ℕ} {began : Place} {cells_then : Cells A} {bodies to_come : List ℕ}
-        → Inner until began cells_then place (cells_of A store values turns copied) bodies to_come
+    inner_peeks : {values copied : List A.Carrier} {turns : List ℕ} {began : Place} {cells_then : Cells A} {loops : List Loop}
+        → Inner until began cells_then place (cells_of A store values turns copied) loops
         → length store_after ≡ length store
-        → Inner until began cells_then answer (cells_of A store_after values turns copied) bodies to_come
-    inner_peeks {values} {copied} {turns} {began} {cells_then} {bodies} {to_come} inner kept =
+        → Inner until began cells_then answer (cells_of A store_after values turns copied) loops
+    inner_peeks {values} {copied} {turns} {began} {cells_then} {loops} inner kept =
         by_row (peek.peeks task.roles task.constants task.seeds values turns copied)
       where
         by_row : ((answer ≡ place) × (store_after ≡ store))
             ⊎ Straight until place (cells_of A store values turns copied) (cells_of A store_after values turns copied) (acted.On answer ahead_as.Any)
-            → Inner until began cells_then answer (cells_of A store_after values turns copied) bodies to_come
+            → Inner until began cells_then answer (cells_of A store_after values turns copied) loops
         by_row (inl (is, same)) =
-            subst (λ (p : Place). Inner until began cells_then p (cells_of A store_after values turns copied) bodies to_come) (sym is)
-            (subst (λ (s : List A.Carrier). Inner until began cells_then place (cells_of A s values turns copied) bodies to_come) (sym same) inner)
+            subst (λ (p : Place). Inner until began cells_then p (cells_of A store_after values turns copied) loops) (sym is)
+            (subst (λ (s : List A.Carrier). Inner until began cells_then place (cells_of A s values turns copied) loops) (sym same) inner)
         by_row (inr straight) = inner_goes inner straight refl (record { store = kept; values = refl; turns = refl; copied = refl })
 
   -- and peeking there once more
 
   module _ {store store_after : List A.Carrier} {until : ℕ} {place answer : Place}
       (peeks : PeeksOn A task.table until place store store_after answer) where
-    pub inner_peeks_on : {values copied : List A.Carrier} {turns : List ℕ} {began : Place} {cells_then : Cells A} {bodies to_come : List ℕ}
-        → Inner until began cells_then place (cells_of A store values turns copied) bodies to_come
+    pub inner_peeks_on : {values copied : List A.Carrier} {turns : List ℕ} {began : Place} {cells_then : Cells A} {loops : List Loop}
+        → Inner until began cells_then place (cells_of A store values turns copied) loops
         → length store_after ≡ length store
-        → Inner until began cells_then answer (cells_of A store_after values turns copied) bodies to_come
+        → Inner until began cells_then answer (cells_of A store_after values turns copied) loops
     inner_peeks_on inner kept = inner_peeks peeks.second (inner_peeks peeks.first inner peeks.long) (kept ∙ sym peeks.long)

@@ -14,6 +14,7 @@ use Rattle.machine.specs.Machine.{Repeat, State, Step, goes_on, ended, stops, st
 use Rattle.machine.specs.Inner.Buffers.{Buffers, Cells}
 use Rattle.machine.specs.Inner.RowSteps.{buffers_at, state_at, CopiesOn}
 use Rattle.machine.specs.Inner.RunsRows.{first_state, LeavesBy, Leaves}
+use Rattle.machine.specs.declared.Loop.{Loop}
 use Rattle.machine.specs.declared.Place.{Place}
 use Rattle.machine.specs.declared.Ended.{Ended}
 use Rattle.machine.specs.declared.Ended.TheVariants as ended_as
@@ -29,7 +30,7 @@ place_rebuilt p q at depth values turns left =
     rebuilt
 
 module _ (A : Arithmetic) where
-  -- what is settled of two results: all but the cells of the open repeats' arrays that no open repeat has
+  -- what is settled of two results: all but the cells of the open repeats' array that no open repeat has
   pub record Alike (after after' : Cells A) (opened opened' : List Repeat) (answer answer' : Ran) : Type 0 where
     pub place : answer.place ≡ answer'.place
     pub reason : answer.ended ≡ answer'.ended
@@ -98,12 +99,12 @@ module _ (A : Arithmetic) where
 
   module _ (setting : Setting A) (lines : List TableLine) (start : Memory A) (steps : ℕ) (first : Cells A) where
     -- neither of two results has gone further than the other
-    no_further : (after after' : Cells A) (bodies to_come bodies' to_come' : List ℕ) (answer answer' : Ran)
-        (l : Leaves A setting lines start steps first after bodies to_come answer)
-        (l' : Leaves A setting lines start steps first after' bodies' to_come' answer')
+    no_further : (after after' : Cells A) (loops loops' : List Loop) (answer answer' : Ran)
+        (l : Leaves A setting lines start steps first after loops answer)
+        (l' : Leaves A setting lines start steps first after' loops' answer')
         → l.stands.taken < l'.stands.taken
         → ⊥
-    no_further after after' bodies to_come bodies' to_come' answer answer' l l' fewer =
+    no_further after after' loops loops' answer answer' l l' fewer =
         let n = l.stands.taken in
         let k = l'.stands.taken - suc n in
         let many : l'.stands.taken ≡ n + suc k = omega arith in
@@ -126,14 +127,14 @@ module _ (A : Arithmetic) where
         absurd (apart (ap length (sym is' ∙ sym same ∙ is) ∙ long))
     copied_alike held held' after after' same apart long long' (inr is) (inr is') = sym is ∙ same ∙ is'
 
-    pub run_pinned : (after after' : Cells A) (bodies to_come bodies' to_come' : List ℕ) (answer answer' : Ran)
-        (l : Leaves A setting lines start steps first after bodies to_come answer)
-        (l' : Leaves A setting lines start steps first after' bodies' to_come' answer')
+    pub run_pinned : (after after' : Cells A) (loops loops' : List Loop) (answer answer' : Ran)
+        (l : Leaves A setting lines start steps first after loops answer)
+        (l' : Leaves A setting lines start steps first after' loops' answer')
         → (length start.copied ≡ length first.copied → ⊥)
         → length after.copied ≡ length first.copied
         → length after'.copied ≡ length first.copied
         → Alike after after' l.stands.repeats l'.stands.repeats answer answer'
-    run_pinned after after' bodies to_come bodies' to_come' answer answer' l l' apart long long' =
+    run_pinned after after' loops loops' answer answer' l l' apart long long' =
         by_order (dec_lt l.stands.taken l'.stands.taken) (dec_lt l'.stands.taken l.stands.taken)
       where
         now : State A
@@ -155,8 +156,8 @@ module _ (A : Arithmetic) where
             let repeats = ap (λ (s : State A). s.repeats) same in
             let buffers = buffers_pinned A setting (buffers_at A answer.place after l.stands.held) (buffers_at A answer'.place after' l'.stands.held)
             l.stands.sound l'.stands.sound (ap (λ (s : State A). s.memory) same) in
-            let depth = sym (opened_length answer.place.depth bodies to_come l.stands.repeats l.stands.opened) ∙ ap length repeats
-            ∙ opened_length answer'.place.depth bodies' to_come' l'.stands.repeats l'.stands.opened in
+            let depth = sym (opened_length answer.place.depth loops l.stands.repeats l.stands.opened) ∙ ap length repeats
+            ∙ opened_length answer'.place.depth loops' l'.stands.repeats l'.stands.opened in
             let left : answer.place.left ≡ answer'.place.left = omega (arith, l.stands.spent, l'.stands.spent) in
             record {
               place =
@@ -179,6 +180,6 @@ module _ (A : Arithmetic) where
 
         by_order : Dec (l.stands.taken < l'.stands.taken) → Dec (l'.stands.taken < l.stands.taken)
             → Alike after after' l.stands.repeats l'.stands.repeats answer answer'
-        by_order (yes fewer) d = absurd (no_further after after' bodies to_come bodies' to_come' answer answer' l l' fewer)
-        by_order (no n) (yes fewer) = absurd (no_further after' after bodies' to_come' bodies to_come answer' answer l' l fewer)
+        by_order (yes fewer) d = absurd (no_further after after' loops loops' answer answer' l l' fewer)
+        by_order (no n) (yes fewer) = absurd (no_further after' after loops' loops answer' answer l' l fewer)
         by_order (no n) (no m) = let taken : l.stands.taken ≡ l'.stands.taken = omega arith in alike taken (states taken)

@@ -5,7 +5,7 @@ ghost use Rattle.machine.specs.Inner.Buffers.{InBoth};
 ghost use Rattle.machine.specs.Inner.RowSteps.{JumpsTo, BranchesTo, TurnsTo, Pushes, Opens, Closes, Pends, EndsLoop, AsksLoop, AsksRow, OnCount, CrossesBy};
 
 use super::turns::{count_there, keep_count, test_turn};
-use super::{Branch, Ended, Pending, Place, Stuck};
+use super::{Branch, Ended, Loop, Pending, Place, Stuck};
 use sheet::{MAX_DEPTH, RowNumber, RowWords, kinds, wide};
 
 // From an "if" past its "else", from an "else" past its "end if", or from a loop's first row past its last.
@@ -43,49 +43,38 @@ fn turn_to(
     branch_to(branch, beyond, at, next.raised(next.values, height))
 }
 
-// One loop more: the row that its next turn begins with, and twice the turns still to come, with 1 more where its row is asked before each.
+// One loop more.
 fn push_loop(
     body: usize,
     note: usize,
     next: Place,
-    bodies: &mut [usize; MAX_DEPTH],
-    to_come: &mut [usize; MAX_DEPTH],
+    loops: &mut [Loop; MAX_DEPTH],
 ) -> Result<Place, Ended>
-    ensures { Pushes body note next bodies.old to_come.old bodies.new to_come.new result }
+    ensures { Pushes body note next loops.old loops.new result }
 {
     let depth = next.depth;
     if MAX_DEPTH <= depth {
         return Err(Ended::Stuck);
     }
-    bodies[depth] = body;
-    to_come[depth] = note;
+    loops[depth] = Loop { body, note };
     Ok(next.within(depth + 1))
 }
 
 // Kind 10, and kind 20 once its count is taken.
-fn open_repeat(
-    count: u16,
-    next: Place,
-    bodies: &mut [usize; MAX_DEPTH],
-    to_come: &mut [usize; MAX_DEPTH],
-) -> Result<Place, Ended>
-    ensures { Opens count next bodies.old to_come.old bodies.new to_come.new result }
+fn open_repeat(count: u16, next: Place, loops: &mut [Loop; MAX_DEPTH]) -> Result<Place, Ended>
+    ensures { Opens count next loops.old loops.new result }
 {
     if count == 0 {
         return Err(Ended::Stuck);
     }
     let body = next.at;
     let turns = wide(count) - 1;
-    push_loop(body.0, 2 * turns, next, bodies, to_come)
+    push_loop(body.0, 2 * turns, next, loops)
 }
 
 // Kind 11, whatever opens the loop.
-fn close_turn(
-    next: Place,
-    bodies: &[usize; MAX_DEPTH],
-    to_come: &mut [usize; MAX_DEPTH],
-) -> Result<Place, Ended>
-    ensures { Closes next bodies.now to_come.old bodies.now to_come.new result }
+fn close_turn(next: Place, loops: &mut [Loop; MAX_DEPTH]) -> Result<Place, Ended>
+    ensures { Closes next loops.old loops.new result }
 {
     let depth = next.depth;
     if depth == 0 {
@@ -95,24 +84,17 @@ fn close_turn(
     if MAX_DEPTH <= top {
         return Err(Ended::Stuck);
     }
-    let note = to_come[top];
+    let Loop { body, note } = loops[top];
     if note < 2 {
         return Ok(next.within(top));
     }
-    to_come[top] = note - 2;
-    let body = bodies[top];
+    loops[top].note = note - 2;
     Ok(next.moved(RowNumber(body)))
 }
 
 // A loop with a test is under way if it is the innermost open one: its row is asked again, and no other loop's next turn begins there.
-fn pending(
-    most: u16,
-    at: RowNumber,
-    depth: usize,
-    bodies: &[usize; MAX_DEPTH],
-    to_come: &[usize; MAX_DEPTH],
-) -> Pending
-    ensures { Pends most at.0 depth bodies.now to_come.now result }
+fn pending(most: u16, at: RowNumber, depth: usize, loops: &[Loop; MAX_DEPTH]) -> Pending
+    ensures { Pends most at.0 depth loops.now result }
 {
     let all = wide(most);
     let first = Pending {
@@ -127,9 +109,9 @@ fn pending(
     if MAX_DEPTH <= top {
         return first;
     }
-    let note = to_come[top];
+    let Loop { body, note } = loops[top];
     let asks = note % 2 == 1;
-    if asks & (bodies[top] == at.0) {
+    if asks & (body == at.0) {
         return Pending {
             left: note / 2,
             note,
@@ -173,13 +155,11 @@ fn ask_loop(
     at: RowNumber,
     next: Place,
     turns: &mut [u16],
-    bodies: &mut [usize; MAX_DEPTH],
-    to_come: &mut [usize; MAX_DEPTH],
+    loops: &mut [Loop; MAX_DEPTH],
 ) -> Result<Place, Ended>
-    ensures { InBoth (λ A. AsksLoop A branch most keeps beyond.now at.0 next turns.old bodies.old
-        to_come.old turns.new bodies.new to_come.new result) }
+    ensures { InBoth (λ A. AsksLoop A branch most keeps beyond.now at.0 next turns.old loops.old turns.new loops.new result) }
 {
-    let now = pending(most, at, next.depth, bodies, to_come);
+    let now = pending(most, at, next.depth, loops);
     let left = now.left;
     let around = next.within(now.depth);
     let done = turns_done(most, left);
@@ -187,7 +167,7 @@ fn ask_loop(
         return end_loop(done, keeps, beyond, at, around, turns);
     }
     match branch {
-        Branch::First => push_loop(at.0, now.note, around, bodies, to_come),
+        Branch::First => push_loop(at.0, now.note, around, loops),
         Branch::Second => end_loop(done, keeps, beyond, at, around, turns),
     }
 }
@@ -201,19 +181,15 @@ pub fn ask_row(
     at: RowNumber,
     next: Place,
     turns: &mut [u16],
-    bodies: &mut [usize; MAX_DEPTH],
-    to_come: &mut [usize; MAX_DEPTH],
+    loops: &mut [Loop; MAX_DEPTH],
 ) -> Result<Place, Ended>
-    ensures { InBoth (λ A. AsksRow A branch (row_said row) keeps beyond.now at.0 next turns.old bodies.old
-        to_come.old turns.new bodies.new to_come.new result) }
+    ensures { InBoth (λ A. AsksRow A branch (row_said row) keeps beyond.now at.0 next turns.old loops.old turns.new loops.new result) }
 {
     let most = row.d;
     if row.kind == kinds::IF {
         return branch_to(branch, beyond, at, next);
     }
-    ask_loop(
-        branch, most, keeps, beyond, at, next, turns, bodies, to_come,
-    )
+    ask_loop(branch, most, keeps, beyond, at, next, turns, loops)
 }
 
 // Kind 20. A ninth loop leaves all as it stands, so the count is looked at before it is taken; the place that is taken back is cleared.
@@ -222,11 +198,9 @@ fn on_count(
     at: RowNumber,
     next: Place,
     turns: &mut [u16],
-    bodies: &mut [usize; MAX_DEPTH],
-    to_come: &mut [usize; MAX_DEPTH],
+    loops: &mut [Loop; MAX_DEPTH],
 ) -> Result<Place, Ended>
-    ensures { InBoth (λ A. OnCount A beyond.now at.0 next turns.old bodies.old
-        to_come.old turns.new bodies.new to_come.new result) }
+    ensures { InBoth (λ A. OnCount A beyond.now at.0 next turns.old loops.old turns.new loops.new result) }
 {
     let (count, top) = count_there(turns, next.turns)?;
     if count == 0 {
@@ -237,7 +211,7 @@ fn on_count(
         return Err(Ended::Stuck);
     }
     turns[top] = 0;
-    open_repeat(count, next.raised(next.values, top), bodies, to_come)
+    open_repeat(count, next.raised(next.values, top), loops)
 }
 
 // Kinds 8 to 11, 15 and 20.
@@ -247,11 +221,9 @@ pub fn cross(
     at: RowNumber,
     next: Place,
     turns: &mut [u16],
-    bodies: &mut [usize; MAX_DEPTH],
-    to_come: &mut [usize; MAX_DEPTH],
+    loops: &mut [Loop; MAX_DEPTH],
 ) -> Result<Place, Ended>
-    ensures { InBoth (λ A. CrossesBy A (row_said row) beyond.now at.0 next turns.old bodies.old
-        to_come.old turns.new bodies.new to_come.new result) }
+    ensures { InBoth (λ A. CrossesBy A (row_said row) beyond.now at.0 next turns.old loops.old turns.new loops.new result) }
 {
     let kind = row.kind;
     if kind == kinds::ELSE {
@@ -261,16 +233,16 @@ pub fn cross(
         return Ok(next);
     }
     if kind == kinds::REPEAT {
-        return open_repeat(row.a, next, bodies, to_come);
+        return open_repeat(row.a, next, loops);
     }
     if kind == kinds::END_REPEAT {
-        return close_turn(next, bodies, to_come);
+        return close_turn(next, loops);
     }
     if kind == table::kinds::ON_TURN {
         return turn_to(test_turn(turns, next.turns), beyond, at, next);
     }
     if kind == table::kinds::ON_COUNT {
-        return on_count(beyond, at, next, turns, bodies, to_come);
+        return on_count(beyond, at, next, turns, loops);
     }
     Err(Ended::Stuck)
 }

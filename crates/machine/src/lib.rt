@@ -42,6 +42,17 @@ pub enum Met {
     Other(RowWords, Place),
 }
 
+// A loop under way: the row that its next turn begins with, and what is noted of it, twice the turns still to come, with 1 more where its row is asked
+// before each.
+#[derive(Clone, Copy)]
+pub struct Loop {
+    pub body: usize,
+    pub note: usize,
+}
+
+// What fills the array of open loops at first.
+pub const NO_LOOP: Loop = Loop { body: 0, note: 0 };
+
 // A loop with a test at its own row: the turns that it may still do, what is noted of it in another turn, and how many loops are open around it.
 #[derive(Clone, Copy)]
 pub struct Pending {

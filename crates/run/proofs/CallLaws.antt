@@ -16,6 +16,7 @@ use Rattle.machine.specs.Actions.{Memory, Setting}
 use Rattle.machine.specs.Machine.{Step, ended, steps_of}
 use Rattle.machine.specs.Inner.Buffers.{Cells, cells_of, Stack, Sound}
 use Rattle.machine.specs.Inner.RunsRows.{first_state, Handed, RunsRows}
+use Rattle.machine.specs.declared.Loop.{Loop}
 use Rattle.machine.specs.declared.Ran.{Ran}
 use Rattle.machine.specs.declared.Ended.{Ended}
 use Rattle.machine.specs.declared.Ended.TheVariants as ended_as
@@ -84,16 +85,16 @@ module _ (A : Arithmetic) where
 
   -- from the runner between cleared stacks
   pub runs_table : {table : List ℕ} {rows : ℕ} {beyond : List ℕ} {keeps : Bool} {roles constants : List ℕ} {seeds store values copied : List A.Carrier} {turns : List ℕ}
-      {emptied : List A.Carrier} {emptied_turns : List ℕ} (after : Cells A) {bodies to_come : List ℕ} (ran : Ran)
+      {emptied : List A.Carrier} {emptied_turns : List ℕ} (after : Cells A) {loops : List Loop} (ran : Ran)
       {values_after : List A.Carrier} {turns_after : List ℕ}
       → StacksCleared A values turns emptied emptied_turns
-      → RunsRows A table rows beyond keeps roles constants seeds enough_steps (cells_of A store emptied emptied_turns copied) after bodies to_come ran
+      → RunsRows A table rows beyond keeps roles constants seeds enough_steps (cells_of A store emptied emptied_turns copied) after loops ran
       → length after.values ≡ length emptied
       → length after.turns ≡ length emptied_turns
       → StacksCleared A after.values after.turns values_after turns_after
       → RunsTable A table rows beyond keeps roles constants seeds (cells_of A store values turns copied)
       (cells_of A after.store values_after turns_after after.copied) ran.ended
-  runs_table {store = store} {values} {copied} {turns} after {bodies} {to_come} ran {values_after} {turns_after} empty runs kept kept_turns empty_again =
+  runs_table {store = store} {values} {copied} {turns} after {loops} ran {values_after} {turns_after} empty runs kept kept_turns empty_again =
       let many = kept ∙ ap length empty.values_are ∙ length-replicate (length values) A.zero in
       let many_turns = kept_turns ∙ ap length empty.turns_are ∙ length-replicate (length turns) 0 in
       record {
@@ -101,7 +102,7 @@ module _ (A : Arithmetic) where
         turns_cleared = empty_again.turns_are ∙ ap (λ n. replicate n 0) many_turns;
         ends = λ setting lines start handed.
             same_cells start _ ran.ended
-            (ends_like A setting lines start enough_steps _ after bodies to_come ran
+            (ends_like A setting lines start enough_steps _ after loops ran
             (runs setting lines start (rw (empty.values_are, empty.turns_are) handed)));
       }
     where

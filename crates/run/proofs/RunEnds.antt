@@ -11,6 +11,7 @@ use Rattle.machine.specs.Machine.{State, Step, step, if_it_goes_on, state_after}
 use Rattle.machine.specs.Inner.Buffers.{Cells, memory_of}
 use Rattle.machine.specs.Inner.RowSteps.{buffers_at, state_at, CopiesOn}
 use Rattle.machine.specs.Inner.RunsRows.{first_state, LeavesBy, Leaves}
+use Rattle.machine.specs.declared.Loop.{Loop}
 use Rattle.machine.specs.declared.Ran.{Ran}
 use Rattle.machine.specs.declared.Ended.{Ended}
 use Rattle.machine.specs.declared.Ended.TheVariants as ended_as
@@ -34,10 +35,10 @@ module _ (A : Arithmetic) where
     copies_somewhere held (inl (is, kept)) = inl is
     copies_somewhere held (inr is) = inr is
 
-    pub ends_like : (bodies to_come : List ℕ) (answer : Ran) → Leaves A setting lines start steps first after bodies to_come answer
+    pub ends_like : (loops : List Loop) (answer : Ran) → Leaves A setting lines start steps first after loops answer
         → EndsLike A start after answer.ended ending
     unfolding state_after
-    ends_like bodies to_come answer leaves = by_end answer.ended leaves.why
+    ends_like loops answer leaves = by_end answer.ended leaves.why
       where
         now : State A
         now = state_at A answer.place leaves.stands.repeats after leaves.stands.held

@@ -15,7 +15,7 @@ ghost use Rattle.run.specs.Inner.TableRuns.{RunsTable};
 ghost use Rattle.run.specs.Inner.CallAnswers.{StacksCleared, RunRoom, Ready, SheetRoom, TableInPlace, AdjointRanTo};
 
 use super::{Counted, Rooms, buffers, refusals};
-use machine::Ended;
+use machine::{Ended, NO_LOOP};
 use number::Number;
 use sheet::{MAX_DEPTH, MAX_ROWS, MAX_VARIABLES};
 use table::{MAX_TABLE_ROWS, Plan, Reply};
@@ -65,8 +65,7 @@ pub fn run_table<N: Number>(
         (cells_of (arithmetic_on N.operations) store.new values.new turns.new copied.new) result }
 {
     clear_stacks(values, turns);
-    let mut bodies = [0usize; MAX_DEPTH];
-    let mut to_come = [0usize; MAX_DEPTH];
+    let mut loops = [NO_LOOP; MAX_DEPTH];
     let ran = runner::run_rows(
         table,
         rows,
@@ -79,8 +78,7 @@ pub fn run_table<N: Number>(
         values,
         turns,
         copied,
-        &mut bodies,
-        &mut to_come,
+        &mut loops,
         buffers::STEPS,
     );
     clear_stacks(values, turns);

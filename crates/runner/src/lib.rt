@@ -17,7 +17,7 @@ mod straight;
 use ahead::peek;
 use machine::blocks::{ask_row, cross};
 use machine::rows::{block_at, reach};
-use machine::{Acted, Ended, Met, Place, Ran};
+use machine::{Acted, Ended, Loop, Met, Place, Ran};
 use number::Number;
 use rows::test;
 use sheet::{MAX_DEPTH, Variable};
@@ -31,22 +31,19 @@ fn block_row<N: Number>(
     keeps: bool,
     store: &[N],
     turns: &mut [u16],
-    bodies: &mut [usize; MAX_DEPTH],
-    to_come: &mut [usize; MAX_DEPTH],
+    loops: &mut [Loop; MAX_DEPTH],
     place: Place,
 ) -> Result<Place, Ended>
     requires { Indexes table.now rows (length store.now) }
     ensures { BlockRow (arithmetic_on N.operations) table.now rows beyond.now keeps place store.now
-        turns.old bodies.old to_come.old turns.new bodies.new to_come.new result }
+        turns.old loops.old turns.new loops.new result }
 {
     match block_at(table, rows, place) {
         Met::Out(ended) => Err(ended),
-        Met::Other(row, next) => cross(row, beyond, place.at, next, turns, bodies, to_come),
+        Met::Other(row, next) => cross(row, beyond, place.at, next, turns, loops),
         Met::Ask(row, next) => {
             let branch = test(store, Variable(row.a as usize), Variable(row.b as usize));
-            ask_row(
-                branch, row, keeps, beyond, place.at, next, turns, bodies, to_come,
-            )
+            ask_row(branch, row, keeps, beyond, place.at, next, turns, loops)
         }
     }
 }
@@ -65,17 +62,15 @@ pub fn run_rows<N: Number>(
     values: &mut [N],
     turns: &mut [u16],
     copied: &mut [N],
-    bodies: &mut [usize; MAX_DEPTH],
-    to_come: &mut [usize; MAX_DEPTH],
+    loops: &mut [Loop; MAX_DEPTH],
     steps: usize,
 ) -> Ran
     requires indexed { Indexed table.now rows (length store.old) (length constants.now) }
-    requires bodies_fit { limit.depth ≤ length bodies.old }
-    requires to_come_fit { limit.depth ≤ length to_come.old }
+    requires loops_fit { limit.depth ≤ length loops.old }
     ensures { RunsRows (arithmetic_on N.operations) table.now rows beyond.now keeps roles.now constants.now seeds.now steps
         (cells_of (arithmetic_on N.operations) store.old values.old turns.old copied.old)
         (cells_of (arithmetic_on N.operations) store.new values.new turns.new copied.new)
-        bodies.new to_come.new result }
+        loops.new result }
 {
     let mut place = Place::first(steps);
     'run: loop {
@@ -90,9 +85,7 @@ pub fn run_rows<N: Number>(
                 Acted::Stuck => break 'run place.left_by(Ended::Stuck),
             }
         }
-        match block_row(
-            table, rows, beyond, keeps, store, turns, bodies, to_come, place,
-        ) {
+        match block_row(table, rows, beyond, keeps, store, turns, loops, place) {
             Ok(next) => place = next,
             Err(ended) => break 'run place.left_by(ended),
         }

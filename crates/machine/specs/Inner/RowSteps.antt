@@ -23,6 +23,7 @@ use Rattle.machine.specs.declared.Met.TheVariants as met_as
 use Rattle.machine.specs.declared.Place.{Place}
 use Rattle.machine.specs.declared.Branch.{Branch}
 use Rattle.machine.specs.declared.Branch.TheVariants as branch_as
+use Rattle.machine.specs.declared.Loop.{Loop}
 use Rattle.machine.specs.declared.Pending.{Pending}
 use Rattle.machine.specs.declared.Ahead.{Ahead}
 use Rattle.machine.specs.declared.Ahead.TheVariants as ahead_as
@@ -36,19 +37,22 @@ use Rattle.machine.specs.declared.Ran.{Ran}
 abbrev pub note_of : Repeat → ℕ
 note_of r = 2 * r.left + cond r.asks 1 0
 
--- the open loops, nearest first: where the next turn of each begins, and the turns of it still to come
-unfoldable pub Nested : (depth : ℕ) → (bodies to_come : List ℕ) → List Repeat → Type 0
-Nested zero bodies to_come [] = Unit {0}
-Nested zero bodies to_come (r ∷ outer) = ⊥
-Nested (suc n) bodies to_come [] = ⊥
-Nested (suc n) bodies to_come (r ∷ outer) =
-    (get_or bodies n 0 ≡ back_to r) × (get_or to_come n 0 ≡ note_of r) × Nested n bodies to_come outer
+-- what a place of the open loops' array that isn't there is read as
+abbrev pub no_loop : Loop
+no_loop = record { body = 0; note = 0 }
 
--- in arrays with room for as many as a sheet may nest
-pub record Opened (depth : ℕ) (bodies to_come : List ℕ) (repeats : List Repeat) : Type 0 where
-  pub room_of_bodies : limit.depth ≤ length bodies
-  pub room_of_turns : limit.depth ≤ length to_come
-  pub nested : Nested depth bodies to_come repeats
+-- the open loops, nearest first: where the next turn of each begins, and the turns of it still to come
+unfoldable pub Nested : (depth : ℕ) → (loops : List Loop) → List Repeat → Type 0
+Nested zero loops [] = Unit {0}
+Nested zero loops (r ∷ outer) = ⊥
+Nested (suc n) loops [] = ⊥
+Nested (suc n) loops (r ∷ outer) =
+    ((get_or loops n no_loop).body ≡ back_to r) × ((get_or loops n no_loop).note ≡ note_of r) × Nested n loops outer
+
+-- in an array with room for as many as a sheet may nest
+pub record Opened (depth : ℕ) (loops : List Loop) (repeats : List Repeat) : Type 0 where
+  pub room : limit.depth ≤ length loops
+  pub nested : Nested depth loops repeats
 
 -- ---- what the answers of the code stand for
 
@@ -182,32 +186,32 @@ TurnsTo beyond at next (Ok (branch, height)) answer = BranchesTo beyond at (rais
 TurnsTo beyond at next (Err s) answer = answer ≡ stuck_there
 
 -- one loop more, whose next turn begins at a row, with what is noted of it
-pub record Pushes (body note : ℕ) (next : Place) (bodies to_come bodies_after to_come_after : List ℕ) (answer : Result Place Ended) : Type 0 where
+pub record Pushes (body note : ℕ) (next : Place) (loops loops_after : List Loop) (answer : Result Place Ended) : Type 0 where
   pub left : CrossedLeft (suc next.left) answer
-  pub full : limit.depth ≤ next.depth → (answer ≡ stuck_there) × (bodies_after ≡ bodies) × (to_come_after ≡ to_come)
+  pub full : limit.depth ≤ next.depth → (answer ≡ stuck_there) × (loops_after ≡ loops)
   pub room : next.depth < limit.depth → answer ≡ Ok (within next (suc next.depth))
   pub opened : next.depth < limit.depth → (r : Repeat) (repeats : List Repeat) → back_to r ≡ body → note_of r ≡ note
-      → Opened next.depth bodies to_come repeats
-      → Opened (suc next.depth) bodies_after to_come_after (r ∷ repeats)
+      → Opened next.depth loops repeats
+      → Opened (suc next.depth) loops_after (r ∷ repeats)
 
 -- one of which `count` turns are to run; its body starts at the next row
-pub record Opens (count : ℕ) (next : Place) (bodies to_come bodies_after to_come_after : List ℕ) (answer : Result Place Ended) : Type 0 where
+pub record Opens (count : ℕ) (next : Place) (loops loops_after : List Loop) (answer : Result Place Ended) : Type 0 where
   pub left : CrossedLeft (suc next.left) answer
-  pub opens : (m : ℕ) → count ≡ suc m → Pushes next.at.0 (2 * m) next bodies to_come bodies_after to_come_after answer
+  pub opens : (m : ℕ) → count ≡ suc m → Pushes next.at.0 (2 * m) next loops loops_after answer
 
 -- the end of a turn: out of the loop, or on to its next turn
-pub record Closes (next : Place) (bodies to_come bodies_after to_come_after : List ℕ) (answer : Result Place Ended) : Type 0 where
+pub record Closes (next : Place) (loops loops_after : List Loop) (answer : Result Place Ended) : Type 0 where
   pub left : CrossedLeft (suc next.left) answer
-  pub none : Opened next.depth bodies to_come [] → (answer ≡ stuck_there) × Opened next.depth bodies_after to_come_after []
+  pub none : Opened next.depth loops [] → (answer ≡ stuck_there) × Opened next.depth loops_after []
   pub out : next.depth ≤ limit.depth → (r : Repeat) (outer : List Repeat)
-      → Opened next.depth bodies to_come (r ∷ outer)
+      → Opened next.depth loops (r ∷ outer)
       → r.left ≡ 0
-      → (answer ≡ Ok (within next (pred next.depth))) × Opened (pred next.depth) bodies_after to_come_after outer
+      → (answer ≡ Ok (within next (pred next.depth))) × Opened (pred next.depth) loops_after outer
   pub back : next.depth ≤ limit.depth → (r : Repeat) (n : ℕ) (outer : List Repeat)
-      → Opened next.depth bodies to_come (r ∷ outer)
+      → Opened next.depth loops (r ∷ outer)
       → r.left ≡ suc n
       → (answer ≡ Ok (moved next (back_to r)))
-      × Opened next.depth bodies_after to_come_after (record { start = r.start; asks = r.asks; left = n } ∷ outer)
+      × Opened next.depth loops_after (record { start = r.start; asks = r.asks; left = n } ∷ outer)
 
 -- ---- a loop with a test, at its own row
 
@@ -223,10 +227,10 @@ abbrev pub loops_around : (at : ℕ) → List Repeat → List Repeat
 loops_around at [] = []
 loops_around at (r ∷ outer) = cond (is_under_way at r) outer (r ∷ outer)
 
-pub record Pends (most at depth : ℕ) (bodies to_come : List ℕ) (found : Pending) : Type 0 where
+pub record Pends (most at depth : ℕ) (loops : List Loop) (found : Pending) : Type 0 where
   pub noted : found.note ≡ 2 * found.left + 1
-  pub left : (repeats : List Repeat) → depth ≤ limit.depth → Opened depth bodies to_come repeats → found.left ≡ turns_left at most repeats
-  pub around : (repeats : List Repeat) → depth ≤ limit.depth → Opened depth bodies to_come repeats → Opened found.depth bodies to_come (loops_around at repeats)
+  pub left : (repeats : List Repeat) → depth ≤ limit.depth → Opened depth loops repeats → found.left ≡ turns_left at most repeats
+  pub around : (repeats : List Repeat) → depth ≤ limit.depth → Opened depth loops repeats → Opened found.depth loops (loops_around at repeats)
   pub shallow : found.depth ≤ depth
 
 -- ---- the turn stack
@@ -370,32 +374,32 @@ module _ (A : Arithmetic) where
     pub second : Peeks table until between midway store_after answer
 
   -- a row of a block goes on with the repeats that are then open
-  pub record CrossesTo (setting : Setting A) (place next : Place) (bodies to_come : List ℕ) (after : Cells A) (held : List A.Carrier) (found : Step A)
+  pub record CrossesTo (setting : Setting A) (place next : Place) (loops : List Loop) (after : Cells A) (held : List A.Carrier) (found : Step A)
       : Type 0 where
     pub repeats : List Repeat
-    pub opened : Opened next.depth bodies to_come repeats
+    pub opened : Opened next.depth loops repeats
     pub goes : GoesTo setting place next repeats after held found
 
   -- where the run is left the same repeats are open
-  pub record Rests (place : Place) (repeats : List Repeat) (bodies to_come : List ℕ) (before after : Cells A) (held : List A.Carrier) : Type 0 where
-    pub opened : Opened place.depth bodies to_come repeats
+  pub record Rests (place : Place) (repeats : List Repeat) (loops : List Loop) (before after : Cells A) (held : List A.Carrier) : Type 0 where
+    pub opened : Opened place.depth loops repeats
     pub stays : Stays place before after held held
 
-  abbrev pub CrossedSays : Setting A → Place → List Repeat → (bodies to_come : List ℕ) → (before after : Cells A) → (held : List A.Carrier)
+  abbrev pub CrossedSays : Setting A → Place → List Repeat → (loops : List Loop) → (before after : Cells A) → (held : List A.Carrier)
       → Step A → Result Place Ended → Type 0
-  CrossedSays setting place repeats bodies to_come before after held found (Ok next) =
-      CrossesTo setting place next bodies to_come after held found
-  CrossedSays setting place repeats bodies to_come before after held found (Err ended_as.Finished) =
-      (0 < place.left) × (found ≡ ended (memory_of A (buffers_at place after held))) × Rests place repeats bodies to_come before after held
-  CrossedSays setting place repeats bodies to_come before after held found (Err (ended_as.Stopped row)) = ⊥
-  CrossedSays setting place repeats bodies to_come before after held found (Err ended_as.Stuck) =
-      (0 < place.left) × Blocked found × Rests place repeats bodies to_come before after held
-  CrossedSays setting place repeats bodies to_come before after held found (Err ended_as.Unfinished) =
-      (place.left ≡ 0) × Rests place repeats bodies to_come before after held
+  CrossedSays setting place repeats loops before after held found (Ok next) =
+      CrossesTo setting place next loops after held found
+  CrossedSays setting place repeats loops before after held found (Err ended_as.Finished) =
+      (0 < place.left) × (found ≡ ended (memory_of A (buffers_at place after held))) × Rests place repeats loops before after held
+  CrossedSays setting place repeats loops before after held found (Err (ended_as.Stopped row)) = ⊥
+  CrossedSays setting place repeats loops before after held found (Err ended_as.Stuck) =
+      (0 < place.left) × Blocked found × Rests place repeats loops before after held
+  CrossedSays setting place repeats loops before after held found (Err ended_as.Unfinished) =
+      (place.left ≡ 0) × Rests place repeats loops before after held
 
   -- The rows of blocks change the turn stack and the open repeats alone.
   pub record BlockRow (table : List ℕ) (rows : ℕ) (beyond : List ℕ) (keeps : Bool) (place : Place) (store : List A.Carrier)
-      (turns bodies to_come turns_after bodies_after to_come_after : List ℕ) (answer : Result Place Ended) : Type 0 where
+      (turns : List ℕ) (loops : List Loop) (turns_after : List ℕ) (loops_after : List Loop) (answer : Result Place Ended) : Type 0 where
     pub left : CrossedLeft place.left answer
     pub steps : (setting : Setting A) (lines : List TableLine) (repeats : List Repeat) (values copied held : List A.Carrier)
         → Holds table lines
@@ -403,14 +407,14 @@ module _ (A : Arithmetic) where
         → Jumps lines beyond
         → NoneDue place lines
         → setting.keeps_counts ≡ keeps
-        → Opened place.depth bodies to_come repeats
+        → Opened place.depth loops repeats
         → place.depth ≤ limit.depth
         → Sound A setting (buffers_at place (cells_of A store values turns copied) held)
-        → CrossedSays setting place repeats bodies_after to_come_after (cells_of A store values turns copied) (cells_of A store values turns_after copied) held
+        → CrossedSays setting place repeats loops_after (cells_of A store values turns copied) (cells_of A store values turns_after copied) held
         (step A setting lines (state_at place repeats (cells_of A store values turns copied) held)) answer
 
   -- the same of the line that a row's words say, but for the comparison; `next` is the place of the row after it
-  pub record CrossesBy (row : Row) (beyond : List ℕ) (at : ℕ) (next : Place) (turns bodies to_come turns_after bodies_after to_come_after : List ℕ)
+  pub record CrossesBy (row : Row) (beyond : List ℕ) (at : ℕ) (next : Place) (turns : List ℕ) (loops : List Loop) (turns_after : List ℕ) (loops_after : List Loop)
       (answer : Result Place Ended) : Type 0 where
     pub left : CrossedLeft (suc next.left) answer
     pub crosses : (setting : Setting A) (lines rest : List TableLine) (line : TableLine) (repeats : List Repeat) (store values copied held : List A.Carrier)
@@ -421,10 +425,10 @@ module _ (A : Arithmetic) where
         → drop at lines ≡ line ∷ rest
         → Jumps lines beyond
         → NoneStraight at lines
-        → Opened next.depth bodies to_come repeats
+        → Opened next.depth loops repeats
         → next.depth ≤ limit.depth
         → Sound A setting (buffers_at next (cells_of A store values turns copied) held)
-        → CrossedSays setting (preceding next at) repeats bodies_after to_come_after (cells_of A store values turns copied)
+        → CrossedSays setting (preceding next at) repeats loops_after (cells_of A store values turns copied)
         (cells_of A store values turns_after copied) held
         (step_at A setting (state_at (preceding next at) repeats (cells_of A store values turns copied) held) (line ∷ rest)) answer
 
@@ -432,9 +436,9 @@ module _ (A : Arithmetic) where
 
   -- one step at a line that stands at a row, from what the code has done there
   abbrev pub StepsTo : Setting A → (line : TableLine) (rest : List TableLine) → (at : ℕ) → (next : Place) → List Repeat → (before after : Cells A)
-      → (held : List A.Carrier) → (bodies to_come : List ℕ) → Result Place Ended → Type 0
-  StepsTo setting line rest at next repeats before after held bodies to_come answer =
-      CrossedSays setting (preceding next at) repeats bodies to_come before after held
+      → (held : List A.Carrier) → (loops : List Loop) → Result Place Ended → Type 0
+  StepsTo setting line rest at next repeats before after held loops answer =
+      CrossedSays setting (preceding next at) repeats loops before after held
       (step_at A setting (state_at (preceding next at) repeats before held) (line ∷ rest)) answer
 
   -- the end of a loop with a test after so many turns, among the loops around it
@@ -447,7 +451,7 @@ module _ (A : Arithmetic) where
 
   -- kind 19, from the branch that its comparison picks
   pub record AsksLoop (branch : Branch) (most : ℕ) (keeps : Bool) (beyond : List ℕ) (at : ℕ) (next : Place)
-      (turns bodies to_come turns_after bodies_after to_come_after : List ℕ) (answer : Result Place Ended) : Type 0 where
+      (turns : List ℕ) (loops : List Loop) (turns_after : List ℕ) (loops_after : List Loop) (answer : Result Place Ended) : Type 0 where
     pub left : CrossedLeft (suc next.left) answer
     pub asks : (setting : Setting A) (lines rest : List TableLine) (f : Test) (m : ℕ) (repeats : List Repeat) (store values copied held : List A.Carrier)
         → most ≡ suc m
@@ -456,27 +460,27 @@ module _ (A : Arithmetic) where
         → drop at lines ≡ repeat (while (whether f) m) ∷ rest
         → Jumps lines beyond
         → setting.keeps_counts ≡ keeps
-        → Opened next.depth bodies to_come repeats
+        → Opened next.depth loops repeats
         → next.depth ≤ limit.depth
         → Sound A setting (buffers_at next (cells_of A store values turns copied) held)
         → StepsTo setting (repeat (while (whether f) m)) rest at next repeats (cells_of A store values turns copied) (cells_of A store values turns_after copied)
-        held bodies_after to_come_after answer
+        held loops_after answer
 
   -- a row that asks, whichever it is; an "if" leaves the loops and the turns alone
   pub record AsksRow (branch : Branch) (row : Row) (keeps : Bool) (beyond : List ℕ) (at : ℕ) (next : Place)
-      (turns bodies to_come turns_after bodies_after to_come_after : List ℕ) (answer : Result Place Ended) : Type 0 where
-    pub picks : row.kind ≡ 7 → BranchesTo beyond at next branch answer × (turns_after ≡ turns) × (bodies_after ≡ bodies) × (to_come_after ≡ to_come)
-    pub asks : row.kind ≢ 7 → AsksLoop branch row.d keeps beyond at next turns bodies to_come turns_after bodies_after to_come_after answer
+      (turns : List ℕ) (loops : List Loop) (turns_after : List ℕ) (loops_after : List Loop) (answer : Result Place Ended) : Type 0 where
+    pub picks : row.kind ≡ 7 → BranchesTo beyond at next branch answer × (turns_after ≡ turns) × (loops_after ≡ loops)
+    pub asks : row.kind ≢ 7 → AsksLoop branch row.d keeps beyond at next turns loops turns_after loops_after answer
 
   -- kind 20, whatever number of turns its loop does at most
-  pub record OnCount (beyond : List ℕ) (at : ℕ) (next : Place) (turns bodies to_come turns_after bodies_after to_come_after : List ℕ) (answer : Result Place Ended) : Type 0 where
+  pub record OnCount (beyond : List ℕ) (at : ℕ) (next : Place) (turns : List ℕ) (loops : List Loop) (turns_after : List ℕ) (loops_after : List Loop) (answer : Result Place Ended) : Type 0 where
     pub left : CrossedLeft (suc next.left) answer
     pub takes : (setting : Setting A) (lines rest : List TableLine) (m : ℕ) (repeats : List Repeat) (store values copied held : List A.Carrier)
         → next.at.0 ≡ suc at
         → drop at lines ≡ repeat (while on_turn m) ∷ rest
         → Jumps lines beyond
-        → Opened next.depth bodies to_come repeats
+        → Opened next.depth loops repeats
         → next.depth ≤ limit.depth
         → Sound A setting (buffers_at next (cells_of A store values turns copied) held)
         → StepsTo setting (repeat (while on_turn m)) rest at next repeats (cells_of A store values turns copied) (cells_of A store values turns_after copied)
-        held bodies_after to_come_after answer
+        held loops_after answer

@@ -8,6 +8,7 @@ use Rattle.machine.specs.Machine.{Repeat, State, Step, goes_on, ended, sticks, s
 use Rattle.machine.specs.Inner.Buffers.{Cells, memory_of, Sound, RoundSizes}
 use Rattle.machine.specs.Inner.RowsHanded.{Holds, Jumps, Suits, Shallow}
 use Rattle.machine.specs.Inner.RowSteps.{Opened, buffers_at, state_at, CopiesOn, StopsAt}
+use Rattle.machine.specs.declared.Loop.{Loop}
 use Rattle.machine.specs.declared.Place.{Place}
 use Rattle.machine.specs.declared.Ran.{Ran}
 use Rattle.machine.specs.declared.Ended.{Ended}
@@ -36,13 +37,13 @@ module _ (A : Arithmetic) where
   -- A place, the buffers and the open repeats are the machine's state after as many steps as are no longer left. Until row 17 the copies' buffer
   -- is as it was at first.
   pub record AfterSteps (setting : Setting A) (lines : List TableLine) (start : Memory A) (steps : ℕ) (first : Cells A) (place : Place)
-      (cells : Cells A) (bodies to_come : List ℕ) : Type 0 where
+      (cells : Cells A) (loops : List Loop) : Type 0 where
     pub taken : ℕ
     pub spent : taken + place.left ≡ steps
     pub repeats : List Repeat
     pub held : List A.Carrier
     pub is : state_after A taken setting lines (first_state start) ≡ goes_on (state_at A place repeats cells held)
-    pub opened : Opened place.depth bodies to_come repeats
+    pub opened : Opened place.depth loops repeats
     pub sound : Sound A setting (buffers_at A place cells held)
     pub copies : CopiesOn A start.copied first held cells
 
@@ -53,16 +54,16 @@ module _ (A : Arithmetic) where
   LeavesBy place memory next ended_as.Stuck = (0 < place.left) × (next ≡ sticks)
   LeavesBy place memory next ended_as.Unfinished = place.left ≡ 0
 
-  pub record Leaves (setting : Setting A) (lines : List TableLine) (start : Memory A) (steps : ℕ) (first after : Cells A) (bodies to_come : List ℕ)
+  pub record Leaves (setting : Setting A) (lines : List TableLine) (start : Memory A) (steps : ℕ) (first after : Cells A) (loops : List Loop)
       (answer : Ran) : Type 0 where
-    pub stands : AfterSteps setting lines start steps first answer.place after bodies to_come
+    pub stands : AfterSteps setting lines start steps first answer.place after loops
     pub why : LeavesBy answer.place (memory_of A (buffers_at A answer.place after stands.held))
         (step A setting lines (state_at A answer.place stands.repeats after stands.held)) answer.ended
 
   -- the runner's contract
   abbrev pub RunsRows : (table : List ℕ) → (rows : ℕ) → (beyond : List ℕ) → (keeps : Bool) → (roles constants : List ℕ) → (seeds : List A.Carrier) → (steps : ℕ)
-      → (before after : Cells A) → (bodies to_come : List ℕ) → Ran → Type 0
-  RunsRows table rows beyond keeps roles constants seeds steps before after bodies to_come answer =
+      → (before after : Cells A) → (loops : List Loop) → Ran → Type 0
+  RunsRows table rows beyond keeps roles constants seeds steps before after loops answer =
       (setting : Setting A) (lines : List TableLine) (start : Memory A)
       → Handed table rows beyond keeps roles constants seeds before setting lines start
-      → Leaves setting lines start steps before after bodies to_come answer
+      → Leaves setting lines start steps before after loops answer

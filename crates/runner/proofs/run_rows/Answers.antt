@@ -6,7 +6,7 @@ use Rattle.machine.proofs.RunLaws.{still_indexes, first_indexed, run_starts, str
 use Rattle.runner.proofs.run_rows.Goals as goal
 
 pub run-init : goal.run-init
-run-init g c = run_starts _ _ _ _ _ c.first-place.ensures c.requires.bodies_fit c.requires.to_come_fit
+run-init g c = run_starts _ _ _ _ c.first-place.ensures c.requires.loops_fit
 
 pub peek-place-requires-clause-indexed : goal.peek-place-requires-clause-indexed
 peek-place-requires-clause-indexed g c =

@@ -12,8 +12,7 @@ invariant-run g l =
     (cells_of A l.initial.store l.initial.values l.initial.turns l.initial.copied)
     l.place
     (cells_of A l.store l.values l.turns l.copied)
-    l.bodies
-    l.to_come
+    l.loops
 
 abbrev pub decreases-run : goal.decreases-run
 decreases-run g l = l.place.left
@@ -28,8 +27,7 @@ invariant-loop-next g l =
     (cells_of A l.initial.store l.initial.values l.initial.turns l.initial.copied)
     l.place
     (cells_of A l.store l.values l.turns l.copied)
-    l.bodies
-    l.to_come
+    l.loops
 
 abbrev pub decreases-loop-next : goal.decreases-loop-next
 decreases-loop-next g l = l.place.left

@@ -5,7 +5,7 @@ use Rattle.machine.proofs.blocks.ask_row.Goals as goal
 
 pub returns-then-row-eq-IF : goal.returns-then-row-eq-IF
 returns-then-row-eq-IF c =
-    in_both (λ A. record { picks = λ _. (c.branch_to.ensures, refl, refl, refl); asks = λ other. absurd (other c.if-row-eq-IF.true) })
+    in_both (λ A. record { picks = λ _. (c.branch_to.ensures, refl, refl); asks = λ other. absurd (other c.if-row-eq-IF.true) })
 
 pub returns : goal.returns
 returns c =

@@ -13,11 +13,11 @@ pub returns-then-top-ge-MAX_DEPTH : goal.returns-then-top-ge-MAX_DEPTH
 returns-then-top-ge-MAX_DEPTH c =
     rw c.wide-all.ensures.0 (pends_beyond (omega arith) (omega (arith, c.if-top-ge-MAX_DEPTH.true, c.if-depth-eq0.false)))
 
-pub returns-then-asks-bodies : goal.returns-then-asks-bodies
-returns-then-asks-bodies c =
-    pends_again (ap (λ n. 2 * n + 1) c.wide-all.ensures.0) (c.args.depth - 1) (omega (arith, c.if-depth-eq0.false)) c.if-asks-bodies.true
+pub returns-then-asks-body : goal.returns-then-asks-body
+returns-then-asks-body c =
+    pends_again (ap (λ n. 2 * n + 1) c.wide-all.ensures.0) (c.args.depth - 1) (omega (arith, c.if-depth-eq0.false)) c.if-asks-body.true
 
 pub returns : goal.returns
 returns c =
     rw c.wide-all.ensures.0
-    (pends_first (omega arith) (c.args.depth - 1) (omega (arith, c.if-depth-eq0.false)) c.if-asks-bodies.false)
+    (pends_first (omega arith) (c.args.depth - 1) (omega (arith, c.if-depth-eq0.false)) c.if-asks-body.false)

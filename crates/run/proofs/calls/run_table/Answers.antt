@@ -6,7 +6,7 @@ use borrow.Author.Rules.{rules}
 use Rattle.run.proofs.calls.run_table.Goals as goal
 
 pub run_rows-ran-requires : goal.run_rows-ran-requires
-run_rows-ran-requires g c = record { indexed = c.requires; bodies_fit = search rules; to_come_fit = search rules }
+run_rows-ran-requires g c = record { indexed = c.requires; loops_fit = search rules }
 
 pub shape_of-store : goal.shape_of-store
 shape_of-store g c = c.run_rows-ran.auto.store
