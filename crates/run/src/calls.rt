@@ -1,5 +1,5 @@
 // The call that runs a sheet, in either arithmetic: one code for both, and each by its name.
-ghost use Rattle.std.specs.Prelude.{◌≡◌, List, ℕ, length};
+ghost use Rattle.std.specs.Prelude.{◌≡◌, List, ℕ, length, true};
 ghost use Rattle.number.specs.Arithmetic.{arithmetic_on};
 ghost use Rattle.number.specs.Doubles.{doubles};
 ghost use Rattle.number.specs.Residues.{residues};
@@ -17,6 +17,7 @@ ghost use Rattle.run.specs.Inner.CallAnswers.{StacksCleared, RunRoom, Ready, She
 use super::{Counted, Rooms, buffers, refusals};
 use machine::{Ended, NO_LOOP};
 use number::Number;
+use runner::{Given, Program};
 use sheet::{MAX_DEPTH, MAX_ROWS, MAX_VARIABLES};
 use table::{MAX_TABLE_ROWS, Plan, Reply};
 
@@ -47,33 +48,24 @@ pub fn write_result<N: Number>(
 
 // A table's run between empty stacks, from what its store holds: how it ended. What a run starts from and what its result is are the caller's.
 pub fn run_table<N: Number>(
-    roles: &[u16],
-    constants: &[u16],
-    table: &[u16],
-    rows: usize,
-    beyond: &[u16; MAX_TABLE_ROWS],
-    keeps: bool,
-    seeds: &[N],
+    program: Program,
+    given: Given<N>,
     store: &mut [N],
     values: &mut [N],
     turns: &mut [u16],
     copied: &mut [N],
 ) -> Ended
-    requires { Indexed table.now rows (length store.old) (length constants.now) }
-    ensures { RunsTable (arithmetic_on N.operations) table.now rows beyond.now keeps roles.now constants.now seeds.now
+    requires { Indexed program.table.now program.rows (length store.old) (length given.constants.now) }
+    ensures { RunsTable (arithmetic_on N.operations) program.entry.table.now program.entry.rows program.entry.beyond.now program.entry.keeps
+        given.entry.roles.now given.entry.constants.now given.entry.seeds.now
         (cells_of (arithmetic_on N.operations) store.old values.old turns.old copied.old)
         (cells_of (arithmetic_on N.operations) store.new values.new turns.new copied.new) result }
 {
     clear_stacks(values, turns);
     let mut loops = [NO_LOOP; MAX_DEPTH];
     let ran = runner::run_rows(
-        table,
-        rows,
-        beyond,
-        keeps,
-        roles,
-        constants,
-        seeds,
+        program,
+        given,
         store,
         values,
         turns,
@@ -87,30 +79,25 @@ pub fn run_table<N: Number>(
 
 // The run of an adjoint table, from the start values to the result, in a store of zeros and with room for the copies.
 fn run_in<N: Number>(
-    roles: &[u16],
-    constants: &[u16],
-    table: &[u16],
-    rows: usize,
-    beyond: &[u16; MAX_TABLE_ROWS],
+    program: Program,
+    given: Given<N>,
     values: &mut [N],
     turns: &mut [u16],
     starts: &[N],
-    seeds: &[N],
     store: &mut [N],
     copied: &mut [N],
     res: &mut [N],
 ) -> Reply
-    requires indexed { Indexed table.now rows (length store.old) (length constants.now) }
-    requires room { RunRoom (arithmetic_on N.operations) roles.now starts.now seeds.now store.old copied.old res.old }
-    ensures { (sheet : Sheet) (buffer : List ℕ)
-        → Ready (table_of sheet) sheet roles.now constants.now table.now rows beyond.now
-        → AdjointRanTo (arithmetic_on N.operations) sheet buffer starts.now seeds.now values.old turns.old res.old
+    requires indexed { Indexed program.table.now program.rows (length store.old) (length given.constants.now) }
+    requires room { RunRoom (arithmetic_on N.operations) given.roles.now starts.now given.seeds.now store.old copied.old res.old }
+    ensures { (sheet : Sheet) (buffer : List ℕ) → program.entry.keeps ≡ true
+        → Ready (table_of sheet) sheet given.entry.roles.now given.entry.constants.now program.entry.table.now program.entry.rows program.entry.beyond.now
+        → AdjointRanTo (arithmetic_on N.operations) sheet buffer starts.now given.entry.seeds.now values.old turns.old res.old
         result values.new turns.new res.new }
 {
     buffers::copy(starts, store);
-    let end = run_table(
-        roles, constants, table, rows, beyond, true, seeds, store, values, turns, copied,
-    );
+    let end = run_table(program, given, store, values, turns, copied);
+    let roles = given.roles;
     let variables = roles.len();
     write_result(
         end,
@@ -142,7 +129,6 @@ fn run_written<N: Number>(
         result values.new turns.new res.new }
 {
     let shape = plan.shape;
-    let rows = plan.rows;
     let variables = shape.variables;
     let roles_end = 1 + variables;
     let first_constant = shape.first_constant;
@@ -150,16 +136,23 @@ fn run_written<N: Number>(
     let size = 2 * variables + 2;
     let store: &mut [N] = &mut [N::zero(); buffers::STORE];
     let copied: &mut [N] = &mut [N::zero(); MAX_VARIABLES];
-    run_in(
-        &words[1..roles_end],
-        &words[first_constant..constants_end],
+    let program = Program {
         table,
-        rows,
+        rows: plan.rows,
         beyond,
+        keeps: true,
+    };
+    let given = Given {
+        roles: &words[1..roles_end],
+        constants: &words[first_constant..constants_end],
+        seeds,
+    };
+    run_in(
+        program,
+        given,
         values,
         turns,
         starts,
-        seeds,
         &mut store[..size],
         &mut copied[..variables],
         res,

@@ -23,6 +23,23 @@ use rows::test;
 use sheet::{MAX_DEPTH, Variable};
 use straight::straight_row;
 
+// What is run: a table's rows, where each "if", each "else" and each "repeat" among them goes on to, and whether the turns of loops are counted.
+#[derive(Clone, Copy)]
+pub struct Program<'a> {
+    pub table: &'a [u16],
+    pub rows: usize,
+    pub beyond: &'a [u16],
+    pub keeps: bool,
+}
+
+// What a program is run with: its sheet's roles and constants, and a seed for each variable.
+#[derive(Clone, Copy)]
+pub struct Given<'a, N> {
+    pub roles: &'a [u16],
+    pub constants: &'a [u16],
+    pub seeds: &'a [N],
+}
+
 // The row of a block at a place, or the end.
 fn block_row<N: Number>(
     table: &[u16],
@@ -51,13 +68,8 @@ fn block_row<N: Number>(
 // A run of a table's rows, of so many steps at most. A result that isn't finite, a row that can't be done or that no step is left for leaves both
 // loops at once. After each straight row it peeks at the next.
 pub fn run_rows<N: Number>(
-    table: &[u16],
-    rows: usize,
-    beyond: &[u16],
-    keeps: bool,
-    roles: &[u16],
-    constants: &[u16],
-    seeds: &[N],
+    program: Program,
+    given: Given<N>,
     store: &mut [N],
     values: &mut [N],
     turns: &mut [u16],
@@ -65,13 +77,22 @@ pub fn run_rows<N: Number>(
     loops: &mut [Loop; MAX_DEPTH],
     steps: usize,
 ) -> Ran
-    requires indexed { Indexed table.now rows (length store.old) (length constants.now) }
+    requires indexed { Indexed program.table.now program.rows (length store.old) (length given.constants.now) }
     requires loops_fit { limit.depth ≤ length loops.old }
-    ensures { RunsRows (arithmetic_on N.operations) table.now rows beyond.now keeps roles.now constants.now seeds.now steps
+    ensures { RunsRows (arithmetic_on N.operations) program.entry.table.now program.entry.rows program.entry.beyond.now program.entry.keeps
+        given.entry.roles.now given.entry.constants.now given.entry.seeds.now steps
         (cells_of (arithmetic_on N.operations) store.old values.old turns.old copied.old)
         (cells_of (arithmetic_on N.operations) store.new values.new turns.new copied.new)
         loops.new result }
 {
+    // Taken apart once, for the rows' functions are handed slices (`straight_row`).
+    let table = program.table;
+    let rows = program.rows;
+    let beyond = program.beyond;
+    let keeps = program.keeps;
+    let roles = given.roles;
+    let constants = given.constants;
+    let seeds = given.seeds;
     let mut place = Place::first(steps);
     'run: loop {
         let until = reach(rows, place);

@@ -70,6 +70,7 @@ fn act<N: Number>(
 
 // The straight row at a place, if one stands there before `until`, which is as far as steps are left. Its words are read one by one: as a struct that
 // another function answers they would be packed into one number, and taken apart again.
+// Handed on as slices: in the sets a struct of slices handed on at each row, as tried, cost 3 to 11 % more instructions.
 pub fn straight_row<N: Number>(
     table: &[u16],
     until: usize,
