@@ -47,6 +47,12 @@ line_counted end_if known = refl
 line_counted (repeat m) known = refl
 line_counted end_repeat known = refl
 
+none_active : (multiplies divides first second : Bool) → over_assignment multiplies divides false first second ≡ 2
+none_active true true first second = refl
+none_active true false first second = refl
+none_active false true first second = refl
+none_active false false first second = refl
+
 module _ {r : Row} {p : Part} (s : SaysPart r p) (known : Activity) {assigning : Bool} (e : assigning ≡ assigns p) where
   row_counted : line_count known (line_of_row r)
       ≡ cond assigning (over_assignment (eqb r.kind 5) (eqb r.kind quotient_kind) known.active known.varied_a known.varied_b) 1
@@ -62,14 +68,15 @@ module _ {r : Row} {p : Part} (s : SaysPart r p) (known : Activity) {assigning :
     of_kind : {kind : ℕ} → r.kind ≡ kind → over_assignment (eqb kind 5) (eqb kind quotient_kind) active first second ≡ line_count known (line_of_row r)
     of_kind is = assigned_row (ap (λ k. eqb k 5) is) (ap (λ k. eqb k quotient_kind) is)
 
-    pub quotient_row : r.kind ≡ quotient_kind → active ≡ true → quotient_count first second + 1 ≡ line_count known (line_of_row r)
-    quotient_row is on = rw on at (of_kind {kind = quotient_kind} is)
+    pub inactive_row : active ≡ false → 2 ≡ line_count known (line_of_row r)
+    inactive_row off = sym (none_active (eqb r.kind 5) (eqb r.kind quotient_kind) first second) ∙ rw off at (assigned_row refl refl)
 
-    pub inactive_row : r.kind ≡ quotient_kind → active ≡ false → 2 ≡ line_count known (line_of_row r)
-    inactive_row is off = rw off at (of_kind {kind = quotient_kind} is)
+    module _ (on : active ≡ true) where
+      pub quotient_row : r.kind ≡ quotient_kind → quotient_count first second + 1 ≡ line_count known (line_of_row r)
+      quotient_row is = rw on at (of_kind {kind = quotient_kind} is)
 
-    pub product_row : r.kind ≡ 5 → {both : Bool} → ((active && first) && second) ≡ both → cond both 4 2 ≡ line_count known (line_of_row r)
-    product_row is terms = rw terms at (of_kind {kind = 5} is)
+      pub product_row : r.kind ≡ 5 → {both : Bool} → (first && second) ≡ both → cond both 4 2 ≡ line_count known (line_of_row r)
+      product_row is terms = rw (on, terms) at (of_kind {kind = 5} is)
 
     pub other_row : (r.kind ≡ 5 → ⊥) → (r.kind ≡ quotient_kind → ⊥) → 2 ≡ line_count known (line_of_row r)
     other_row not_5 not_18 = assigned_row (ne_eqb r.kind 5 not_5) (ne_eqb r.kind quotient_kind not_18)

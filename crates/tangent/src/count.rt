@@ -31,9 +31,12 @@ pub fn rows_over(row: RowWords, part: Part, mark: u8) -> usize
     if !kinds::assigns(part) {
         return 1;
     }
+    if !active {
+        return 1 + 1;
+    }
     let rates = match row.kind {
-        kinds::QUOTIENT if active => quotient_count(first, second),
-        kinds::PRODUCT if active & first & second => 3,
+        kinds::QUOTIENT => quotient_count(first, second),
+        kinds::PRODUCT if first & second => 3,
         _ => 1,
     };
     rates + 1

@@ -1,6 +1,5 @@
 -- `tangent::write_tangent` meets its contract, by the case of the plan and by the buffer's room.
 use mathlib.Core.Path.{sym, ◌∙◌}
-use borrow.Author.Tests.{leb-true}
 use Rattle.sheet.specs.Refusals.{number_of}
 use Rattle.table.specs.Inner.Plans.{PlanMadeFor}
 use Rattle.table.proofs.CallLaws.{when_refused, when_made}
@@ -25,11 +24,6 @@ unfolding number_of
 returns-then-not-has_room c =
     let made = plan_made (goal.at.returns-then-not-has_room c).In-Ok in
     rw (c.refused.ensures.0, c.refused.ensures.1) (write_by_lem _ _ (written_small _ _ _ _ made (sym c.has_room.ensures ∙ c.if-not-has_room.true)))
-
-pub write_planned-requires : goal.write_planned-requires
-write_planned-requires c =
-    let fits = sym c.has_room.ensures ∙ c.if-not-has_room.false in
-    record { planned = record { came = _; goes = _; made = plan_made (goal.at.write_planned-requires c).In-Ok }; table_fits = leb-true _ _ fits }
 
 pub returns : goal.returns
 returns c =

@@ -1,5 +1,5 @@
 -- `tangent::sweep::rows_before` meets its contract.
-use mathlib.Core.Path.{◌≡◌, refl, sym, subst, ap, ◌∙◌}
+use mathlib.Core.Path.{refl, sym, subst}
 use native.Mathlib.Omega.{arith}
 use Rattle.sheet.specs.Answers.{row_said}
 use Rattle.sheet.specs.Inner.RowLines.{SaysLine}
@@ -34,8 +34,3 @@ rows_over-rows-requires c = said (goal.at.rows_over-rows-requires c).After-wide-
 pub loop-p-preserved : goal.loop-p-preserved
 loop-p-preserved c =
     record { few = omega (arith, c.rows_over-rows.ensures.1); is = one_passed _ _ _ _ c.loop-p.invariant.is c.row_of-said.ensures c.rows_over-rows.ensures.0 }
-
-pub returns : goal.returns
-returns c =
-    let all : c.loop-p.p ≡ c.args.row.0 = omega arith in
-    (c.loop-p.invariant.is ∙ ap (table_rows_before c.args.words.now c.args.shape.first_row c.args.marks.now) all, omega (arith, c.requires.readable.few))

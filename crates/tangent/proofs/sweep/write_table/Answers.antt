@@ -1,8 +1,8 @@
 -- `tangent::sweep::write_table` meets its contract.
 use Prim.Native.Nat.{◌+◌, ◌-◌}
-use mathlib.Core.Path.{◌≡◌, ap, sym, subst, ◌∙◌}
+use mathlib.Core.Path.{◌≡◌, ap, sym, subst}
 use mathlib.Core.List.{◌++◌}
-use lib.ListN.{get_or, length-set}
+use lib.ListN.{get_or}
 use native.Mathlib.Omega.{arith}
 use Rattle.sheet.specs.Answers.{row_said}
 use Rattle.sheet.specs.Inner.RowLines.{line_of_row, SaysLine}
@@ -10,7 +10,7 @@ use Rattle.sheet.proofs.PartsRead.{form_in, part_there}
 use Rattle.sheet.proofs.RowsByKind.{row_kind}
 use Rattle.table.specs.Inner.MarkedRows.{SaysPart, SmallWords}
 use Rattle.table.proofs.LineRows.{says_part}
-use Rattle.writer.proofs.WritingLaws.{underway_start, underway_room, underway_next, underway_end, underway_length, room_first, room_kept}
+use Rattle.writer.proofs.WritingLaws.{underway_start, underway_room, underway_next, underway_end, room_first, room_kept}
 use Rattle.writer.proofs.JumpLaws.{jumping_start, row_ends, jumping_next, jumping_end}
 use Rattle.writer.proofs.PassOver.{along_next, along_none}
 use Rattle.tangent.specs.Inner.TangentRowsWritten.{tangent_of_line, tangent_rows_along}
@@ -69,9 +69,6 @@ loop-p-preserved c =
       written = underway_next _ held.written (left here) rows;
       noted = jumping_next held.noted _ (left here) rows (line_ends (said here) _ _ c.forward.ensures) c.note-top.ensures;
     }
-
-pub shape_of-table : goal.shape_of-table
-shape_of-table c = underway_length c.loop-p.invariant.written ∙ simp length-set
 
 pub returns : goal.returns
 returns c =
