@@ -1,4 +1,5 @@
 -- `tangent::calls::run_written` meets its contract.
+use mathlib.Core.Path.{refl}
 use native.Mathlib.Omega.{arith}
 use Rattle.number.specs.Arithmetic.{arithmetic_on}
 use Rattle.run.proofs.SectionLaws.{run_room, part_indexed, ready_to_run}
@@ -18,4 +19,4 @@ run_in-requires g c =
     }
 
 pub returns : goal.returns
-returns g c = λ sheet buffer place. c.run_in.ensures sheet buffer (ready_to_run _ _ place)
+returns g c = λ sheet buffer place. c.run_in.ensures sheet buffer refl (ready_to_run _ _ place)
