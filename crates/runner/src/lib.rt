@@ -23,7 +23,7 @@ use rows::test;
 use sheet::{MAX_DEPTH, Variable};
 use straight::straight_row;
 
-// What is run: a table's rows, where each "if", each "else" and each "repeat" among them goes on to, and whether the turns of loops are counted.
+// What is run: a table's rows, where each "if", "else" and "repeat" among them goes on to, and whether a loop with a test puts its count away.
 #[derive(Clone, Copy)]
 pub struct Program<'a> {
     pub table: &'a [u16],

@@ -1,5 +1,5 @@
 // The call that runs a sheet's tangent table, in either arithmetic: one code for both, and each by its name.
-ghost use Rattle.std.specs.Prelude.{◌≡◌, List, ℕ, ◌*◌, ◌≤◌, length};
+ghost use Rattle.std.specs.Prelude.{◌≡◌, List, ℕ, ◌*◌, ◌≤◌, length, false};
 ghost use Rattle.number.specs.Arithmetic.{arithmetic_on};
 ghost use Rattle.number.specs.Doubles.{doubles};
 ghost use Rattle.number.specs.Residues.{residues};
@@ -16,6 +16,7 @@ ghost use Rattle.tangent.specs.Inner.TangentAnswers.{rates_from, TangentRanTo};
 use machine::Ended;
 use number::Number;
 use run::{Counted, Rooms, buffers, calls, refusals};
+use runner::{Given, Program};
 use sheet::{MAX_ROWS, MAX_VARIABLES};
 use table::{MAX_TABLE_ROWS, Plan, Reply};
 
@@ -37,36 +38,28 @@ fn write_rates<N: Number>(end: Ended, roles: &[u16], store: &[N], res: &mut [N])
 }
 
 // The run of a tangent table, from the start values and rates to the result, in a store of zeros. The table has no stacks and no row 17, so both
-// stacks are empty, no count is kept and nothing is copied.
+// stacks are empty, no count is kept and nothing is copied. The rates stand where an adjoint's seeds do.
 fn run_in<N: Number>(
-    roles: &[u16],
-    constants: &[u16],
-    table: &[u16],
-    rows: usize,
-    beyond: &[u16; MAX_TABLE_ROWS],
+    program: Program,
+    given: Given<N>,
     starts: &[N],
-    rates: &[N],
     store: &mut [N],
     copied: &mut [N],
     res: &mut [N],
 ) -> Reply
-    requires indexed { Indexed table.now rows (length store.old) (length constants.now) }
-    requires room { RunRoom (arithmetic_on N.operations) roles.now starts.now rates.now store.old copied.old res.old }
-    ensures { (sheet : Sheet) (buffer : List ℕ)
-        → Ready (tangent_of sheet) sheet roles.now constants.now table.now rows beyond.now
-        → TangentRanTo (arithmetic_on N.operations) sheet buffer starts.now rates.now res.old result res.new }
+    requires indexed { Indexed program.table.now program.rows (length store.old) (length given.constants.now) }
+    requires room { RunRoom (arithmetic_on N.operations) given.roles.now starts.now given.seeds.now store.old copied.old res.old }
+    ensures { (sheet : Sheet) (buffer : List ℕ) → program.entry.keeps ≡ false
+        → Ready (tangent_of sheet) sheet given.entry.roles.now given.entry.constants.now program.entry.table.now program.entry.rows program.entry.beyond.now
+        → TangentRanTo (arithmetic_on N.operations) sheet buffer starts.now given.entry.seeds.now res.old result res.new }
 {
-    buffers::lay(starts, Counted::Independents, roles, rates, store);
+    let roles = given.roles;
+    buffers::lay(starts, Counted::Independents, roles, given.seeds, store);
     let mut no_values = [N::zero(); 1];
     let mut no_turns = [0u16; 1];
     let end = calls::run_table(
-        roles,
-        constants,
-        table,
-        rows,
-        beyond,
-        false,
-        rates,
+        program,
+        given,
         store,
         &mut no_values[..0],
         &mut no_turns[..0],
@@ -92,7 +85,6 @@ fn run_written<N: Number>(
         → TangentRanTo (arithmetic_on N.operations) sheet buffer starts.now rates.now res.old result res.new }
 {
     let shape = plan.shape;
-    let rows = plan.rows;
     let variables = shape.variables;
     let roles_end = 1 + variables;
     let first_constant = shape.first_constant;
@@ -100,14 +92,21 @@ fn run_written<N: Number>(
     let size = 2 * variables + 2;
     let store: &mut [N] = &mut [N::zero(); buffers::STORE];
     let copied: &mut [N] = &mut [N::zero(); MAX_VARIABLES];
-    run_in(
-        &words[1..roles_end],
-        &words[first_constant..constants_end],
+    let program = Program {
         table,
-        rows,
+        rows: plan.rows,
         beyond,
+        keeps: false,
+    };
+    let given = Given {
+        roles: &words[1..roles_end],
+        constants: &words[first_constant..constants_end],
+        seeds: rates,
+    };
+    run_in(
+        program,
+        given,
         starts,
-        rates,
         &mut store[..size],
         &mut copied[..variables],
         res,

@@ -27,4 +27,4 @@ shape_of-store g c =
 pub returns : goal.returns
 returns g c =
     λ sheet buffer counts ready.
-    adjoint_comes_to (arithmetic_on g.N.Number.operations) ready c.requires.room _ _ buffer _ c.copy.ensures (rw (← counts) c.run_table-end.ensures) c.write_result.ensures c.answer_end.ensures
+    adjoint_comes_to (arithmetic_on g.N.Number.operations) ready c.requires.room _ _ buffer _ c.copy.ensures (rw counts at c.run_table-end.ensures) c.write_result.ensures c.answer_end.ensures

@@ -5,5 +5,5 @@ use Rattle.tangent.proofs.calls.run_in.Goals as goal
 
 pub returns : goal.returns
 returns g c =
-    λ sheet buffer ready.
-    tangent_comes_to (arithmetic_on g.N.Number.operations) ready c.requires.room buffer _ c.lay.ensures c.run_table-end.ensures c.write_rates.ensures c.answer_end.ensures
+    λ sheet buffer counts ready.
+    tangent_comes_to (arithmetic_on g.N.Number.operations) ready c.requires.room buffer _ c.lay.ensures (rw counts at c.run_table-end.ensures) c.write_rates.ensures c.answer_end.ensures
