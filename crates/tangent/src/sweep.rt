@@ -3,8 +3,8 @@ ghost use Rattle.std.specs.Prelude.{◌≡◌, set, ◌*◌, ◌≤◌};
 ghost use Rattle.sheet.specs.Bounds.{limit};
 ghost use Rattle.table.specs.RowBounds.{most_table_rows};
 ghost use Rattle.table.specs.Inner.MarkedRows.{RowsReadable};
-ghost use Rattle.writer.specs.Inner.RowsWritten.{RowRoom};
-ghost use Rattle.writer.specs.Inner.JumpsNoted.{Numbered};
+ghost use Rattle.writer.specs.Inner.RowsWritten.{RowRoom, HasRoom};
+ghost use Rattle.writer.specs.Inner.JumpsNoted.{noting, Numbered, PutNoted};
 ghost use Rattle.tangent.specs.Inner.TangentPlans.{most_line_count, table_rows_before};
 ghost use Rattle.tangent.specs.Inner.TangentRowsWritten.{tangent_all, WordsSmall, AllNoted};
 
@@ -12,6 +12,7 @@ use super::{count, rows};
 use sheet::{RowNumber, Shape};
 use table::{MAX_TABLE_ROWS, Plan};
 use writer::jumps;
+use writer::rows::TableOut;
 
 // How many rows the tangent table has before those of a sheet's row: the number of that row's first one.
 pub fn rows_before(words: &[u16], shape: Shape, marks: &[u8], row: RowNumber) -> usize
@@ -29,7 +30,34 @@ pub fn rows_before(words: &[u16], shape: Shape, marks: &[u8], row: RowNumber) ->
     rows
 }
 
-// The row count, and each row's rows in the sheet's order.
+// Each row's rows in the sheet's order. Answers the innermost open branch's or loop's row.
+fn write_rows(
+    words: &[u16],
+    shape: Shape,
+    marks: &[u8],
+    out: &mut TableOut,
+    beyond: &mut [u16; MAX_TABLE_ROWS],
+) -> u16
+    requires room { HasRoom out.old (tangent_all words.now shape marks.now) }
+    requires numbered { Numbered out.old.place (tangent_all words.now shape marks.now) }
+    requires readable { RowsReadable words.now shape marks.now }
+    requires small { WordsSmall words.now shape }
+    requires variables { out.old.variables ≡ shape.variables }
+    ensures { PutNoted out.old (tangent_all words.now shape marks.now) out.new (noting 0 beyond.old) (noting result beyond.new) }
+{
+    let forms = sheet::kinds::forms();
+    let mut top = 0;
+    for p in 0..shape.rows {
+        let row = sheet::row_of(words, shape.first_row, RowNumber(p));
+        let kind = sheet::wide(row.kind);
+        let part = forms[kind].3;
+        rows::tangent_row(out, row, part, marks[p]);
+        top = jumps::note(jumps::forward(part), out.place, top, beyond);
+    }
+    top
+}
+
+// The whole table: the row count and the rows.
 pub fn write_table(
     words: &[u16],
     plan: Plan,
@@ -45,17 +73,11 @@ pub fn write_table(
     ensures { AllNoted (set table.old 0 plan.rows) (tangent_all words.now plan.shape marks.now)
         table.new beyond.old beyond.new }
 {
-    let shape = plan.shape;
-    let variables = shape.variables as u16;
-    let forms = sheet::kinds::forms();
     table[0] = plan.rows as u16;
-    let mut next: usize = 1;
-    let mut top: u16 = 0;
-    for p in 0..shape.rows {
-        let row = sheet::row_of(words, shape.first_row, RowNumber(p));
-        let kind = sheet::wide(row.kind);
-        let part = forms[kind].3;
-        next = rows::tangent_row(table, next, variables, row, part, marks[p]);
-        top = jumps::note(jumps::forward(part), next, top, beyond);
-    }
+    let mut out = TableOut {
+        table,
+        place: 1,
+        variables: plan.shape.variables as u16,
+    };
+    write_rows(words, plan.shape, marks, &mut out, beyond);
 }

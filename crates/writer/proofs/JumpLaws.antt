@@ -18,10 +18,11 @@ use Rattle.table.specs.Adjoint.{forward_row, derivative_rows, backward_of}
 use Rattle.table.specs.Inner.MarkedRows.{row_with, rows_in, known_by, saved_by, any_row, SaysPart, forward_of_line, backward_of_line}
 use Rattle.writer.specs.declared.jumps.Branching.{Branching}
 use Rattle.writer.specs.declared.jumps.Branching.TheVariants as branching
-use Rattle.writer.specs.Inner.RowsWritten.{Wrote}
-use Rattle.writer.specs.Inner.JumpsNoted.{Noting, noting, noted_by, branching_of, noted_over, forward_branching, backward_branching, rows_before, RowEnds, Numbered, WroteNoted}
+use Rattle.writer.specs.declared.rows.TableOut.{TableOut}
+use Rattle.writer.specs.Inner.RowsWritten.{Wrote, Put}
+use Rattle.writer.specs.Inner.JumpsNoted.{Noting, noting, noted_by, branching_of, noted_over, forward_branching, backward_branching, rows_before, RowEnds, Numbered, PutNoted}
 use Rattle.table.proofs.TableBounds.{row_flat, backward_row, forward_row_lem}
-use Rattle.writer.proofs.WritingLaws.{wrote_then}
+use Rattle.writer.proofs.WritingLaws.{put_then}
 use Rattle.writer.proofs.TableTree.{rows_of_one}
 
 -- ---- one row, by the cases that the code tells apart
@@ -216,17 +217,18 @@ jumping_end {q = q} {s = s} j e = ap (λ rs. noted_over rs (rows_before q) s) (s
 
 -- ---- the parts one after another
 
-pub noted_then : {l l' l'' : List ℕ} {p q r : ℕ} {rs rs' : List Row} {s s' s'' : Noting} → Numbered p (rs ++ rs')
-    → WroteNoted l p rs l' q s s' → WroteNoted l' q rs' l'' r s' s'' → WroteNoted l p (rs ++ rs') l'' r s s''
-noted_then {p = p} {q = q} {rs = rs} {rs' = rs'} {s = s} numbered w w' =
+pub noted_then : {before between after : TableOut} {rs rs' : List Row} {s s' s'' : Noting} → Numbered before.place (rs ++ rs')
+    → PutNoted before rs between s s' → PutNoted between rs' after s' s'' → PutNoted before (rs ++ rs') after s s''
+noted_then {before} {between} {rs = rs} {rs' = rs'} {s = s} numbered p p' =
     record {
-      wrote = wrote_then w.wrote w'.wrote;
+      put = put_then p.put p'.put;
       noted =
-          w'.noted ∙ ap (noted_over rs' (rows_before q)) w.noted ∙ ap (λ n. noted_over rs' n (noted_over rs (rows_before p) s)) (rows_after rs' numbered w.wrote)
-          ∙ sym (noted_both rs rs' (rows_before p) s);
+          p'.noted ∙ ap (noted_over rs' (rows_before between.place)) p.noted
+          ∙ ap (λ n. noted_over rs' n (noted_over rs (rows_before before.place) s)) (rows_after rs' numbered p.put.wrote)
+          ∙ sym (noted_both rs rs' (rows_before before.place) s);
     }
 
 -- row 17 is nothing to the blocks
-pub turn_noted : {l l' : List ℕ} {q r : ℕ} (s : Noting) → Wrote l q (row_with 17 0 0 0 ∷ []) l' r → WroteNoted l q (row_with 17 0 0 0 ∷ []) l' r s s
+pub turn_noted : {before after : TableOut} (s : Noting) → Put before (row_with 17 0 0 0 ∷ []) after → PutNoted before (row_with 17 0 0 0 ∷ []) after s s
 unfolding noted_over
-turn_noted s w = record { wrote = w; noted = refl }
+turn_noted s p = record { put = p; noted = refl }

@@ -8,7 +8,8 @@ use native.Mathlib.Omega.{arith}
 use Rattle.sheet.specs.Rows.{Row}
 use Rattle.table.specs.TableRows.{words_of}
 use Rattle.table.proofs.TableLength.{words_counted}
-use Rattle.writer.specs.Inner.RowsWritten.{RowRoom, Wrote}
+use Rattle.writer.specs.declared.rows.TableOut.{TableOut}
+use Rattle.writer.specs.Inner.RowsWritten.{RowRoom, HasRoom, Wrote, Put}
 
 pub row_stores : (l : List ℕ) (p k d a b : ℕ) → set (set (set (set l p k) (p + 1) d) (p + 2) a) (p + 3) b ≡ sets l p (k ∷ d ∷ a ∷ b ∷ [])
 row_stores l p k d a b =
@@ -46,36 +47,53 @@ wrote_then {l} {l'} {l''} {p} {q} {r} {rs} {rs'} w w' =
 pub room_first : {l : List ℕ} {p : ℕ} (rs rs' : List Row) → RowRoom l p (rs ++ rs') → RowRoom l p rs
 room_first rs rs' h = record { fits = omega (arith, length-append rs rs') }
 
-pub room_after : {l l' : List ℕ} {p q : ℕ} {rs : List Row} (rs' : List Row) → Wrote l p rs l' q → RowRoom l p (rs ++ rs') → RowRoom l' q rs'
-room_after {rs = rs} rs' w h = record { fits = omega (arith, wrote_length w, w.place_after, length-append rs rs') }
+pub room_after : {before after : TableOut} {rs : List Row} (rs' : List Row) → Put before rs after → HasRoom before (rs ++ rs') → HasRoom after rs'
+room_after {rs = rs} rs' p h =
+    let w = p.wrote in
+    record { fits = omega (arith, wrote_length w, w.place_after, length-append rs rs') }
+
+pub put_none : (out : TableOut) → Put out [] out
+put_none out = record { wrote = wrote_none out.table.now out.place; same_table = refl; same_variables = refl }
+
+pub put_then : {before between after : TableOut} {rs rs' : List Row} → Put before rs between → Put between rs' after → Put before (rs ++ rs') after
+put_then p p' =
+    record {
+      wrote = wrote_then p.wrote p'.wrote;
+      same_table = p'.same_table ∙ p.same_table;
+      same_variables = p'.same_variables ∙ p.same_variables;
+    }
+
+-- rows that are said of as many variables
+pub put_as : {before after : TableOut} (rows_for : (variables : ℕ) → List Row) {v v' : ℕ} → v ≡ v' → Put before (rows_for v) after → Put before (rows_for v') after
+put_as {before} {after} rows_for same p = subst (λ v. Put before (rows_for v) after) same p
 
 pub room_kept : {l : List ℕ} {p : ℕ} {rs : List Row} (at word : ℕ) → RowRoom l p rs → RowRoom (set l at word) p rs
 room_kept {l} at word h = record { fits = omega (arith, h.fits, length-set l at word) }
 
--- ---- a loop that writes rows: what it has written and what is left make up the whole
-pub record Underway (before : List ℕ) (place : ℕ) (all rest : List Row) (after : List ℕ) (reached : ℕ) : Type 0 where
+-- ---- a loop that writes rows: what it has put and what is left make up the whole
+pub record Underway (before : TableOut) (all rest : List Row) (after : TableOut) : Type 0 where
   pub passed : List Row
-  pub wrote : Wrote before place passed after reached
+  pub put : Put before passed after
   pub whole : passed ++ rest ≡ all
 
-pub underway_start : (l : List ℕ) (p : ℕ) {all rest : List Row} → rest ≡ all → Underway l p all rest l p
-underway_start l p e = record { passed = []; wrote = wrote_none l p; whole = e }
+pub underway_start : (out : TableOut) {all rest : List Row} → rest ≡ all → Underway out all rest out
+underway_start out e = record { passed = []; put = put_none out; whole = e }
 
-pub underway_room : {l l' : List ℕ} {p q : ℕ} {all rest : List Row} → Underway l p all rest l' q → RowRoom l p all → RowRoom l' q rest
-underway_room {l} {l'} {p} {q} {all} {rest} u room = room_after rest u.wrote (rw u.whole room)
+pub underway_room : {before after : TableOut} {all rest : List Row} → Underway before all rest after → HasRoom before all → HasRoom after rest
+underway_room {rest = rest} u room = room_after rest u.put (rw u.whole room)
 
-pub underway_next : {l l' l'' : List ℕ} {p q r : ℕ} {all rest : List Row} {rs : List Row} (rest' : List Row)
-    → Underway l p all rest l' q → rest ≡ rs ++ rest' → Wrote l' q rs l'' r → Underway l p all rest' l'' r
-underway_next {rs = rs} rest' u e w =
+pub underway_next : {before between after : TableOut} {all rest : List Row} {rs : List Row} (rest' : List Row)
+    → Underway before all rest between → rest ≡ rs ++ rest' → Put between rs after → Underway before all rest' after
+underway_next {rs = rs} rest' u e p =
     record {
       passed = u.passed ++ rs;
-      wrote = wrote_then u.wrote w;
+      put = put_then u.put p;
       whole = append_assoc u.passed rs rest' ∙ ap (λ l. u.passed ++ l) (sym e) ∙ u.whole;
     }
 
-pub underway_end : {l l' : List ℕ} {p q : ℕ} {all rest : List Row} → Underway l p all rest l' q → rest ≡ [] → Wrote l p all l' q
-underway_end {l} {l'} {p} {q} {all} {rest} u e =
-    subst (λ rs. Wrote l p rs l' q) (sym (append-nil u.passed) ∙ ap (λ l. u.passed ++ l) (sym e) ∙ u.whole) u.wrote
+pub underway_end : {before after : TableOut} {all rest : List Row} → Underway before all rest after → rest ≡ [] → Put before all after
+underway_end {before} {after} {all} {rest} u e =
+    subst (λ rs. Put before rs after) (sym (append-nil u.passed) ∙ ap (λ l. u.passed ++ l) (sym e) ∙ u.whole) u.put
 
-pub underway_length : {l l' : List ℕ} {p q : ℕ} {all rest : List Row} → Underway l p all rest l' q → length l' ≡ length l
-underway_length u = wrote_length u.wrote
+pub underway_length : {before after : TableOut} {all rest : List Row} → Underway before all rest after → length after.table.now ≡ length before.table.now
+underway_length u = wrote_length u.put.wrote

@@ -4,11 +4,12 @@ ghost use Rattle.sheet.specs.Bounds.{limit};
 ghost use Rattle.sheet.specs.Sheets.{row_at};
 ghost use Rattle.sheet.specs.Answers.{row_said};
 ghost use Rattle.table.specs.RowBounds.{most_table_rows};
-ghost use Rattle.writer.specs.Inner.RowsWritten.{RowRoom, leads_on, step_back, turns_said_by, turns_back, Walkable, backward_all, whole_rows};
+ghost use Rattle.writer.specs.Inner.RowsWritten.{RowRoom, HasRoom, leads_on, step_back, turns_said_by, turns_back, Walkable, backward_all, whole_rows};
 ghost use Rattle.writer.specs.Inner.TableHanded.{handed_by, forward_of, Readable};
-ghost use Rattle.writer.specs.Inner.JumpsNoted.{noting, Numbered, WroteNoted};
+ghost use Rattle.writer.specs.Inner.JumpsNoted.{noting, Numbered, WroteNoted, PutNoted};
 
-use super::{jumps, partners, rows};
+use super::rows::TableOut;
+use super::{jumps, partners};
 use sheet::kinds::Part;
 use sheet::{RowNumber, RowWords, Shape};
 use table::{MAX_TABLE_ROWS, kinds};
@@ -58,7 +59,7 @@ impl Handed<'_> {
     }
 }
 
-// Where the writer is: the place after the last row, and the innermost open branch's or loop's row.
+// Where the writer has come to: the place after the last row, and the innermost open branch's or loop's row.
 #[derive(Clone, Copy)]
 pub struct SweptTo {
     pub place: usize,
@@ -68,27 +69,26 @@ pub struct SweptTo {
 // The forward part: each row's rows in the sheet's order.
 fn forward_part(
     given: Handed,
-    table: &mut [u16],
-    from: SweptTo,
+    out: &mut TableOut,
+    from: u16,
     beyond: &mut [u16; MAX_TABLE_ROWS],
-) -> SweptTo
-    requires room { RowRoom table.old from.place (forward_of given) }
-    requires numbered { Numbered from.place (forward_of given) }
+) -> u16
+    requires room { HasRoom out.old (forward_of given) }
+    requires numbered { Numbered out.old.place (forward_of given) }
     requires readable { Readable given }
-    ensures { WroteNoted table.old from.place (forward_of given.entry)
-        table.new result.place (noting from.top beyond.old) (noting result.top beyond.new) }
+    ensures { PutNoted out.old (forward_of given.entry) out.new (noting from beyond.old) (noting result beyond.new) }
 {
     let shape = given.shape;
     let forms = sheet::kinds::forms();
-    let SweptTo { mut place, mut top } = from;
+    let mut top = from;
     for p in 0..shape.rows {
         let row = given.row(RowNumber(p));
         let kind = sheet::wide(row.kind);
         let part = forms[kind].3;
-        place = rows::forward_row(table, place, row, part, given.marks[p]);
-        top = jumps::note(jumps::forward(part), place, top, beyond);
+        out.forward_row(row, part, given.marks[p]);
+        top = jumps::note(jumps::forward(part), out.place, top, beyond);
     }
-    SweptTo { place, top }
+    top
 }
 
 // The turns that the backward part says of a loop: one with a test takes its count back, and says none.
@@ -105,21 +105,20 @@ fn turns_said(opened: RowWords) -> u16
 // The backward part: each row's rows once, from the last row on, each "if" with its branches in their places and reversed inside.
 fn backward_part(
     given: Handed,
-    table: &mut [u16],
-    from: SweptTo,
+    out: &mut TableOut,
+    from: u16,
     beyond: &mut [u16; MAX_TABLE_ROWS],
-) -> SweptTo
-    requires room { RowRoom table.old from.place (backward_all (handed_by given)) }
-    requires numbered { Numbered from.place (backward_all (handed_by given)) }
+) -> u16
+    requires room { HasRoom out.old (backward_all (handed_by given)) }
+    requires numbered { Numbered out.old.place (backward_all (handed_by given)) }
     requires readable { Readable given }
     requires walkable { Walkable (handed_by given) }
-    ensures { WroteNoted table.old from.place (backward_all (handed_by given.entry))
-        table.new result.place (noting from.top beyond.old) (noting result.top beyond.new) }
+    requires variables { out.old.variables ≡ given.shape.variables }
+    ensures { PutNoted out.old (backward_all (handed_by given.entry)) out.new (noting from beyond.old) (noting result beyond.new) }
 {
     let shape = given.shape;
-    let variables = shape.variables as u16;
     let forms = sheet::kinds::forms();
-    let SweptTo { mut place, mut top } = from;
+    let mut top = from;
     let mut until = shape.rows;
     for _ in 0..shape.rows {
         let q = until - 1;
@@ -127,14 +126,28 @@ fn backward_part(
         let kind = sheet::wide(row.kind);
         let part = forms[kind].3;
         let turns = given.turns_back(RowNumber(q), part);
-        place = rows::backward_row(table, place, variables, row, part, given.marks[q], turns);
-        top = jumps::note(jumps::backward(part), place, top, beyond);
+        out.backward_row(row, part, given.marks[q], turns);
+        top = jumps::note(jumps::backward(part), out.place, top, beyond);
         until = given.step_back(RowNumber(q), part);
     }
-    SweptTo { place, top }
+    top
 }
 
-// The whole table: the row count, the forward part, row 17 and the backward part.
+// The table's rows: the forward part, row 17 and the backward part. Answers as each part does.
+fn both_parts(given: Handed, out: &mut TableOut, beyond: &mut [u16; MAX_TABLE_ROWS]) -> u16
+    requires room { HasRoom out.old (whole_rows (handed_by given)) }
+    requires numbered { Numbered out.old.place (whole_rows (handed_by given)) }
+    requires readable { Readable given }
+    requires walkable { Walkable (handed_by given) }
+    requires variables { out.old.variables ≡ given.shape.variables }
+    ensures { PutNoted out.old (whole_rows (handed_by given.entry)) out.new (noting 0 beyond.old) (noting result beyond.new) }
+{
+    let top = forward_part(given, out, 0, beyond);
+    out.put(kinds::TURN_ROUND, 0, 0, 0);
+    backward_part(given, out, top, beyond)
+}
+
+// The whole table: the row count and the rows.
 pub fn write_table(
     given: Handed,
     table_rows: usize,
@@ -150,9 +163,14 @@ pub fn write_table(
         table.new result.place (noting 0 beyond.old) (noting result.top beyond.new) }
 {
     table[0] = table_rows as u16;
-    let first = SweptTo { place: 1, top: 0 };
-    let turned = forward_part(given, table, first, beyond);
-    let place = rows::put(table, turned.place, kinds::TURN_ROUND, 0, 0, 0);
-    let back = SweptTo { place, ..turned };
-    backward_part(given, table, back, beyond)
+    let mut out = TableOut {
+        table,
+        place: 1,
+        variables: given.shape.variables as u16,
+    };
+    let top = both_parts(given, &mut out, beyond);
+    SweptTo {
+        place: out.place,
+        top,
+    }
 }

@@ -10,7 +10,8 @@ use Rattle.table.specs.Calls.{overwritten}
 use Rattle.table.specs.Inner.MarkedRows.{rows_in}
 use Rattle.writer.specs.declared.jumps.Branching.{Branching}
 use Rattle.writer.specs.declared.jumps.Branching.TheVariants as branching
-use Rattle.writer.specs.Inner.RowsWritten.{Wrote}
+use Rattle.writer.specs.declared.rows.TableOut.{TableOut}
+use Rattle.writer.specs.Inner.RowsWritten.{Wrote, Put}
 
 -- The row that opened the innermost open branch or loop, or split its block, and what is noted at each row. While what it opened is open, a row
 -- has the one that was innermost around it; then what it goes on to.
@@ -79,6 +80,10 @@ pub record Numbered (place : ℕ) (rs : List Row) : Type 0 where
 pub record WroteNoted (before : List ℕ) (place : ℕ) (rs : List Row) (after : List ℕ) (reached : ℕ) (s s' : Noting) : Type 0 where
   pub wrote : Wrote before place rs after reached
   pub noted : s' ≡ noted_over rs (rows_before place) s
+
+pub record PutNoted (before : TableOut) (rs : List Row) (after : TableOut) (s s' : Noting) : Type 0 where
+  pub put : Put before rs after
+  pub noted : s' ≡ noted_over rs (rows_before before.place) s
 
 -- the jumps of a whole table, over whatever was there
 abbrev pub JumpsNoted : Table → (before after : List ℕ) → Type 0

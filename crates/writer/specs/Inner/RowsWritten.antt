@@ -12,6 +12,7 @@ use Rattle.sheet.specs.declared.Shape.{Shape}
 use Rattle.sheet.specs.declared.kinds.Part.{Part}
 use Rattle.sheet.specs.declared.kinds.Part.TheVariants as part
 use Rattle.table.specs.TableRows.{words_of}
+use Rattle.writer.specs.declared.rows.TableOut.{TableOut}
 use Rattle.table.specs.Inner.MarkedRows.{row_with, forward_of_line, backward_of_line, SmallWords}
 
 -- ---- rows in a buffer
@@ -24,6 +25,15 @@ pub record RowRoom (buffer : List ℕ) (place : ℕ) (rs : List Row) : Type 0 wh
 pub record Wrote (before : List ℕ) (place : ℕ) (rs : List Row) (after : List ℕ) (reached : ℕ) : Type 0 where
   pub words : after ≡ sets before place (words_of rs)
   pub place_after : reached ≡ place + limit.row_words * length rs
+
+-- both said of the table and the place that rows go to
+abbrev pub HasRoom : TableOut → List Row → Type 0
+HasRoom out rs = RowRoom out.table.now out.place rs
+
+pub record Put (before : TableOut) (rs : List Row) (after : TableOut) : Type 0 where
+  pub wrote : Wrote before.table.now before.place rs after.table.now after.place
+  pub same_table : after.table.ghost_name ≡ before.table.ghost_name
+  pub same_variables : after.variables ≡ before.variables
 
 -- ---- in one pass over the sheet's rows, in order
 

@@ -9,7 +9,7 @@ active_rates-requires c =
     let x = c.args in
     let active = sym c.bit.ensures ∙ c.if-bit.true in
     record {
-      room = rw (when_active x.variables (row_said x.row) x.mark active) at c.requires.room;
+      room = rw (when_active x.out.now.variables (row_said x.row) x.mark active) at c.requires.room;
       small = c.requires.small;
       assigns = c.requires.assigns;
     }
@@ -18,16 +18,16 @@ pub returns-then-bit : goal.returns-then-bit
 returns-then-bit c =
     let x = c.args in
     let active = sym c.bit.ensures ∙ c.if-bit.true in
-    rw (when_active x.variables (row_said x.row) x.mark active) c.active_rates.ensures
+    rw (when_active x.out.now.variables (row_said x.row) x.mark active) c.active_rates.ensures
 
-pub put-cleared-requires : goal.put-cleared-requires
-put-cleared-requires c =
+pub put-requires : goal.put-requires
+put-requires c =
     let x = c.args in
     let inactive = sym c.bit.ensures ∙ c.if-bit.false in
-    rw (when_inactive x.variables (row_said x.row) x.mark inactive) at c.requires.room
+    rw (when_inactive x.out.now.variables (row_said x.row) x.mark inactive) at c.requires.room
 
 pub returns : goal.returns
 returns c =
     let x = c.args in
     let inactive = sym c.bit.ensures ∙ c.if-bit.false in
-    rw (when_inactive x.variables (row_said x.row) x.mark inactive) c.put-cleared.ensures
+    rw (when_inactive x.out.now.variables (row_said x.row) x.mark inactive) c.put.ensures

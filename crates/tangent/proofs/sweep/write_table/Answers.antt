@@ -1,82 +1,14 @@
 -- `tangent::sweep::write_table` meets its contract.
-use Prim.Native.Nat.{◌+◌, ◌-◌}
-use mathlib.Core.Path.{◌≡◌, ap, sym, subst}
-use mathlib.Core.List.{◌++◌}
-use lib.ListN.{get_or}
-use native.Mathlib.Omega.{arith}
-use Rattle.sheet.specs.Answers.{row_said}
-use Rattle.sheet.specs.Inner.RowLines.{line_of_row, SaysLine}
-use Rattle.sheet.proofs.PartsRead.{form_in, part_there}
-use Rattle.sheet.proofs.RowsByKind.{row_kind}
-use Rattle.table.specs.Inner.MarkedRows.{SaysPart, SmallWords}
-use Rattle.table.proofs.LineRows.{says_part}
-use Rattle.writer.proofs.WritingLaws.{underway_start, underway_room, underway_next, underway_end, room_first, room_kept}
-use Rattle.writer.proofs.JumpLaws.{jumping_start, row_ends, jumping_next, jumping_end}
-use Rattle.writer.proofs.PassOver.{along_next, along_none}
-use Rattle.tangent.specs.Inner.TangentRowsWritten.{tangent_of_line, tangent_rows_along}
-use Rattle.tangent.proofs.TangentLines.{line_ends}
-use Rattle.tangent.proofs.sweep.write_table.Goals.{After-wide-kind}
+use Rattle.std.proofs.Common.{rules}
+use lib.ListN.{length-set}
+use Rattle.writer.proofs.WritingLaws.{room_kept}
 use Rattle.tangent.proofs.sweep.write_table.Goals as goal
 
-module _ (c : After-wide-kind) where
-  -- the row that was read says a line
-  says : SaysLine (row_said c.row_of-row.result)
-  says = subst SaysLine (sym c.row_of-row.ensures) (c.requires.readable.says _ c.loop-p-test.true)
+pub write_rows-requires-clause-room : goal.write_rows-requires-clause-room
+write_rows-requires-clause-room c = room_kept 0 _ c.requires.room
 
-  -- and this is what its line is to the blocks
-  said : SaysPart (row_said c.row_of-row.result) (form_in c.forms-forms.result c.wide-kind.result).3
-  said = says_part _ _ says (part_there c.forms-forms.ensures c.wide-kind.ensures.0 (row_kind says))
-
-  -- the row's rows before those of the rest
-  left : let x = c.args in let shape = x.plan.shape in let p = c.loop-p.p in let rest = tangent_rows_along x.words.now shape x.marks.now in
-      rest p (shape.rows - p)
-      ≡ tangent_of_line shape.variables (get_or x.marks.now p 0) (line_of_row (row_said c.row_of-row.result)) ++ rest (p + 1) (shape.rows - (p + 1))
-  left =
-      let x = c.args in
-      let shape = x.plan.shape in
-      along_next (tangent_of_line shape.variables) x.words.now shape.first_row x.marks.now _ shape.rows c.loop-p-test.true c.row_of-row.ensures
-
-pub loop-p-init : goal.loop-p-init
-loop-p-init c =
-    let x = c.args in
-    let whole : x.plan.shape.rows - 0 ≡ x.plan.shape.rows = omega arith in
-    let all = ap (tangent_rows_along x.words.now x.plan.shape x.marks.now 0) whole in
-    record { written = underway_start _ _ all; noted = jumping_start _ all c.requires.numbered }
-
-pub bounds-forms-kind : goal.bounds-forms-kind
-bounds-forms-kind c = omega (arith, c.wide-kind.ensures.0, row_kind (says (goal.at.bounds-forms-kind c).After-wide-kind))
-
-pub tangent_row-next-requires : goal.tangent_row-next-requires
-tangent_row-next-requires c =
-    let here = (goal.at.tangent_row-next-requires c).After-wide-kind in
-    record {
-      room = room_first _ _ (rw (left here) at (underway_room c.loop-p.invariant.written (room_kept 0 _ c.requires.room)));
-      part_said = said here;
-      small = subst (SmallWords c.args.plan.shape.variables) (sym c.row_of-row.ensures) (c.requires.small.small _ c.loop-p-test.true);
-    }
-
-pub note-top-requires : goal.note-top-requires
-note-top-requires c =
-    let here = (goal.at.note-top-requires c).After-wide-kind in
-    row_ends c.loop-p.invariant.noted _ (left here) c.tangent_row-next.ensures (line_ends (said here) _ _ c.forward.ensures)
-
-pub loop-p-preserved : goal.loop-p-preserved
-loop-p-preserved c =
-    let here = (goal.at.loop-p-preserved c).After-wide-kind in
-    let held = c.loop-p.invariant in
-    let rows = c.tangent_row-next.ensures in
-    record {
-      written = underway_next _ held.written (left here) rows;
-      noted = jumping_next held.noted _ (left here) rows (line_ends (said here) _ _ c.forward.ensures) c.note-top.ensures;
-    }
+pub shape_of-table : goal.shape_of-table
+shape_of-table c = search (rules, length-set)
 
 pub returns : goal.returns
-returns c =
-    let x = c.args in
-    let shape = x.plan.shape in
-    let none = along_none (tangent_of_line shape.variables) x.words.now shape.first_row x.marks.now _ shape.rows c.loop-p-test.false in
-    record {
-      reached = _;
-      top = _;
-      did = record { wrote = underway_end c.loop-p.invariant.written none; noted = jumping_end c.loop-p.invariant.noted none };
-    }
+returns c = record { reached = c.write_rows.new.out.place; top = c.write_rows.result; did = search rules }

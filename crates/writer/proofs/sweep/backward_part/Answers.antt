@@ -2,9 +2,10 @@
 use Prim.Native.Nat.{ℕ, ◌+◌, ◌-◌, ◌<◌}
 use mathlib.Core.Path.{◌≡◌, refl, sym, ap, subst, ◌∙◌}
 use mathlib.Core.Bool.{true}
-use mathlib.Core.List.{◌++◌}
+use mathlib.Core.List.{List, ◌++◌}
 use lib.ListN.{get_or}
 use native.Mathlib.Omega.{arith}
+use Rattle.sheet.specs.Rows.{Row}
 use Rattle.sheet.specs.Answers.{row_said}
 use Rattle.sheet.specs.declared.kinds.Part.{Part}
 use Rattle.sheet.specs.Inner.RowLines.{line_of_row, SaysLine}
@@ -15,7 +16,7 @@ use Rattle.table.specs.Inner.MarkedRows.{SaysPart, SmallWords, backward_of_line}
 use Rattle.table.proofs.LineRows.{says_part}
 use Rattle.writer.specs.Inner.RowsWritten.{leads_on, Handed, backward_rows, step_back, turns_back, Visited}
 use Rattle.writer.specs.Inner.TableHanded.{handed_by}
-use Rattle.writer.proofs.WritingLaws.{underway_start, underway_room, underway_next, underway_end, underway_length, room_first}
+use Rattle.writer.proofs.WritingLaws.{put_as, underway_start, underway_room, underway_next, underway_end, room_first}
 use Rattle.writer.proofs.JumpLaws.{jumping_start, backward_ends, row_ends, jumping_next, jumping_end}
 use Rattle.writer.proofs.BackwardOver.{backward_next, backward_none, visit_now, walk_on}
 use Rattle.writer.proofs.sweep.backward_part.Goals.{In-loop, After-wide-kind}
@@ -68,12 +69,16 @@ module _ (c : After-wide-kind) where
       let fewer : given.rows - (c.loop.counter + 1) ≡ given.rows - c.loop.counter - 1 = omega arith in
       rw fewer (backward_next given _ _ some c.row-row.ensures said.is turns goes)
 
+  -- the row's rows, said of so many variables
+  abbrev rows_for : (turns variables : ℕ) → List Row
+  rows_for turns variables = backward_of_line variables (get_or given.marks q 0) turns (line_of_row (row_said c.row-row.result))
+
 pub loop-init : goal.loop-init
 loop-init c =
     let given = handed_by c.args.given in
     let whole : given.rows - 0 ≡ given.rows = omega arith in
     let all = ap (λ n. backward_rows given n given.rows) whole in
-    record { walks = rw whole c.requires.walkable.walks; written = underway_start _ _ all; noted = jumping_start _ all c.requires.numbered }
+    record { walks = rw whole c.requires.walkable.walks; written = underway_start _ all; noted = jumping_start _ all c.requires.numbered }
 
 pub overflow_sub-q : goal.overflow_sub-q
 overflow_sub-q c = omega (arith, visit (goal.at.overflow_sub-q c).In-loop)
@@ -92,19 +97,21 @@ turns_back-turns-requires c =
 pub bounds-given-q : goal.bounds-given-q
 bounds-given-q c = omega (arith, there (goal.at.bounds-given-q c).After-wide-kind, c.requires.readable.marked)
 
-pub backward_row-place-requires : goal.backward_row-place-requires
-backward_row-place-requires c =
-    let at_row = (goal.at.backward_row-place-requires c).After-wide-kind in
+pub backward_row-requires : goal.backward_row-requires
+backward_row-requires c =
+    let at_row = (goal.at.backward_row-requires c).After-wide-kind in
+    let same = c.loop.invariant.written.put.same_variables ∙ c.requires.variables in
     record {
-      room = room_first _ _ (rw (left at_row c.turns_back-turns.ensures refl) at (underway_room c.loop.invariant.written c.requires.room));
+      room = rw same (room_first _ _ (rw (left at_row c.turns_back-turns.ensures refl) at (underway_room c.loop.invariant.written c.requires.room)));
       part_said = said at_row;
-      small = small at_row;
+      small = rw same (small at_row);
     }
 
 pub note-top-requires : goal.note-top-requires
 note-top-requires c =
     let at_row = (goal.at.note-top-requires c).After-wide-kind in
-    row_ends c.loop.invariant.noted _ (left at_row c.turns_back-turns.ensures refl) c.backward_row-place.ensures
+    let same = c.loop.invariant.written.put.same_variables ∙ c.requires.variables in
+    row_ends c.loop.invariant.noted _ (left at_row c.turns_back-turns.ensures refl) (put_as (rows_for at_row c.turns_back-turns.result) same c.backward_row.ensures).wrote
     (backward_ends (said at_row) _ _ _ c.backward.ensures)
 
 pub step_back-until-requires : goal.step_back-until-requires
@@ -120,7 +127,7 @@ pub loop-preserved : goal.loop-preserved
 loop-preserved c =
     let at_row = (goal.at.loop-preserved c).After-wide-kind in
     let held = c.loop.invariant in
-    let rows = c.backward_row-place.ensures in
+    let rows = put_as (rows_for at_row c.turns_back-turns.result) (held.written.put.same_variables ∙ c.requires.variables) c.backward_row.ensures in
     let goes = c.step_back-until.ensures in
     let rest = left at_row c.turns_back-turns.ensures goes in
     let rows_in = c.args.given.shape.rows in
@@ -128,14 +135,11 @@ loop-preserved c =
     record {
       walks = rw fewer (walk_on (given at_row) _ _ (some at_row) c.row-row.ensures (said at_row).is goes held.walks);
       written = underway_next _ held.written rest rows;
-      noted = jumping_next held.noted _ rest rows (backward_ends (said at_row) _ _ _ c.backward.ensures) c.note-top.ensures;
+      noted = jumping_next held.noted _ rest rows.wrote (backward_ends (said at_row) _ _ _ c.backward.ensures) c.note-top.ensures;
     }
-
-pub shape_of-table : goal.shape_of-table
-shape_of-table c = underway_length c.loop.invariant.written
 
 pub returns : goal.returns
 returns c =
     let given = handed_by c.args.given in
     let none = backward_none given _ _ (omega arith) in
-    record { wrote = underway_end c.loop.invariant.written none; noted = jumping_end c.loop.invariant.noted none }
+    record { put = underway_end c.loop.invariant.written none; noted = jumping_end c.loop.invariant.noted none }

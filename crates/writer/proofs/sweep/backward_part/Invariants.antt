@@ -13,9 +13,8 @@ invariant-loop l =
     let given = handed_by l.given in
     let left = given.rows - l.counter in
     let rest = backward_rows given left l.until in
-    let start = l.fn.from in
     record {
       walks : Walks given left l.until;
-      written : Underway l.initial.table start.place (backward_all given) rest l.table l.place;
-      noted : Jumping (backward_all given) start.place (noting start.top l.initial.beyond) rest l.place (noting l.top l.beyond);
+      written : Underway l.initial.out (backward_all given) rest l.out;
+      noted : Jumping (backward_all given) l.initial.out.place (noting l.from l.initial.beyond) rest l.out.place (noting l.top l.beyond);
     }

@@ -11,7 +11,7 @@ use Rattle.sheet.proofs.RowsByKind.{row_kind}
 use Rattle.table.specs.Inner.MarkedRows.{SaysPart, forward_of_line}
 use Rattle.table.proofs.LineRows.{says_part}
 use Rattle.writer.specs.Inner.RowsWritten.{forward_rows}
-use Rattle.writer.proofs.WritingLaws.{underway_start, underway_room, underway_next, underway_end, underway_length, room_first}
+use Rattle.writer.proofs.WritingLaws.{underway_start, underway_room, underway_next, underway_end, room_first}
 use Rattle.writer.proofs.JumpLaws.{jumping_start, forward_ends, row_ends, jumping_next, jumping_end}
 use Rattle.writer.proofs.PassOver.{along_next, along_none}
 use Rattle.writer.proofs.sweep.forward_part.Goals.{After-wide-kind}
@@ -38,36 +38,33 @@ loop-p-init c =
     let x = c.args.given in
     let whole : x.shape.rows - 0 ≡ x.shape.rows = omega arith in
     let all = ap (forward_rows x.words.now x.shape.first_row x.marks.now 0) whole in
-    record { written = underway_start _ _ all; noted = jumping_start _ all c.requires.numbered }
+    record { written = underway_start _ all; noted = jumping_start _ all c.requires.numbered }
 
 pub bounds-forms-kind : goal.bounds-forms-kind
 bounds-forms-kind c = omega (arith, c.wide-kind.ensures.0, row_kind (says (goal.at.bounds-forms-kind c).After-wide-kind))
 
-pub forward_row-place-requires : goal.forward_row-place-requires
-forward_row-place-requires c =
-    let here = (goal.at.forward_row-place-requires c).After-wide-kind in
+pub forward_row-requires : goal.forward_row-requires
+forward_row-requires c =
+    let here = (goal.at.forward_row-requires c).After-wide-kind in
     record { room = room_first _ _ (rw (left here) at (underway_room c.loop-p.invariant.written c.requires.room)); part_said = said here }
 
 pub note-top-requires : goal.note-top-requires
 note-top-requires c =
     let here = (goal.at.note-top-requires c).After-wide-kind in
-    row_ends c.loop-p.invariant.noted _ (left here) c.forward_row-place.ensures (forward_ends (said here) _ c.forward.ensures)
+    row_ends c.loop-p.invariant.noted _ (left here) c.forward_row.ensures.wrote (forward_ends (said here) _ c.forward.ensures)
 
 pub loop-p-preserved : goal.loop-p-preserved
 loop-p-preserved c =
     let here = (goal.at.loop-p-preserved c).After-wide-kind in
     let held = c.loop-p.invariant in
-    let rows = c.forward_row-place.ensures in
+    let rows = c.forward_row.ensures in
     record {
       written = underway_next _ held.written (left here) rows;
-      noted = jumping_next held.noted _ (left here) rows (forward_ends (said here) _ c.forward.ensures) c.note-top.ensures;
+      noted = jumping_next held.noted _ (left here) rows.wrote (forward_ends (said here) _ c.forward.ensures) c.note-top.ensures;
     }
-
-pub shape_of-table : goal.shape_of-table
-shape_of-table c = underway_length c.loop-p.invariant.written
 
 pub returns : goal.returns
 returns c =
     let x = c.args.given in
     let none = along_none forward_of_line x.words.now x.shape.first_row x.marks.now _ x.shape.rows c.loop-p-test.false in
-    record { wrote = underway_end c.loop-p.invariant.written none; noted = jumping_end c.loop-p.invariant.noted none }
+    record { put = underway_end c.loop-p.invariant.written none; noted = jumping_end c.loop-p.invariant.noted none }

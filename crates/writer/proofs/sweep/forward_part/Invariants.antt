@@ -12,8 +12,7 @@ invariant-loop-p l =
     let given = l.given in
     let all = forward_of given in
     let rest = forward_rows given.words.now given.shape.first_row given.marks.now l.p (given.shape.rows - l.p) in
-    let start = l.fn.from in
     record {
-      written : Underway l.initial.table start.place all rest l.table l.place;
-      noted : Jumping all start.place (noting start.top l.initial.beyond) rest l.place (noting l.top l.beyond);
+      written : Underway l.initial.out all rest l.out;
+      noted : Jumping all l.initial.out.place (noting l.from l.initial.beyond) rest l.out.place (noting l.top l.beyond);
     }
