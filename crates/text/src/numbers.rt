@@ -1,4 +1,8 @@
 // The numbers of a line as the calls take them: lengths, words and residues in decimal, doubles by their bits in hexadecimal.
+ghost use Rattle.std.specs.Prelude.{from_bits, to_bits, ◌≡◌, ℕ};
+ghost use Rattle.std.specs.Float.Ieee.{binary64};
+ghost use Rattle.text.specs.Pattern.{double_stamp, residue_stamp, word_stamp};
+
 use super::fields::BadLine;
 use std::num::TryFromIntError;
 use std::{fmt, num};
@@ -12,11 +16,18 @@ pub trait Number: Copy {
 
 // A number that a lent buffer holds.
 pub trait Cell: Number {
+    // The number of a stamp, and a number's bits.
+    ghost stamp_of: { ℕ → Self };
+
+    ghost bits_of: { Self → ℕ };
+
     // What a buffer holds at a place with this stamp before a call.
-    fn stamped(stamp: u16) -> Self;
+    fn stamped(stamp: u16) -> Self
+        ensures { result ≡ stamp_of stamp };
 
     // The number as 64 bits: of a double its own.
-    fn bits(self) -> u64;
+    fn bits(self) -> u64
+        ensures { result ≡ bits_of self };
 
     // As a field reads it.
     fn write<W: fmt::Write>(self, out: &mut W) -> fmt::Result {
@@ -82,6 +93,10 @@ impl Number for u16 {
 }
 
 impl Cell for u16 {
+    ghost stamp_of = { word_stamp };
+
+    ghost bits_of = { λ x. x };
+
     fn stamped(stamp: u16) -> u16 {
         stamp
     }
@@ -103,6 +118,10 @@ impl Number for u32 {
 const RESIDUES: u32 = 0x8000_0000;
 
 impl Cell for u32 {
+    ghost stamp_of = { residue_stamp };
+
+    ghost bits_of = { λ x. x };
+
     fn stamped(stamp: u16) -> u32 {
         RESIDUES | u32::from(stamp)
     }
@@ -127,6 +146,10 @@ impl Number for f64 {
 const DOUBLES: u64 = 0x4000_0000_0000_0000;
 
 impl Cell for f64 {
+    ghost stamp_of = { double_stamp };
+
+    ghost bits_of = { to_bits binary64 };
+
     fn stamped(stamp: u16) -> f64 {
         num::f64_from_bits_with_nan(DOUBLES | u64::from(stamp))
     }
