@@ -1,6 +1,8 @@
 // The numbers of a line as the calls take them: lengths, words and residues in decimal, doubles by their bits in hexadecimal.
-ghost use Rattle.std.specs.Prelude.{from_bits, to_bits, ◌≡◌, ℕ};
+ghost use Rattle.std.specs.Prelude.{List, Option, to_bits, ◌≡◌, ℕ};
+ghost use Rattle.std.specs.Result.{result_ok};
 ghost use Rattle.std.specs.Float.Ieee.{binary64};
+ghost use Rattle.text.specs.Numbers.{digit as digit_worth, decimal as decimal_of, double_said, length_said, number_from, residue_said, word_said};
 ghost use Rattle.text.specs.Pattern.{double_stamp, residue_stamp, word_stamp};
 
 use super::fields::BadLine;
@@ -9,9 +11,13 @@ use std::{fmt, num};
 
 // A number as a field writes it.
 pub trait Number: Copy {
+    // The number that a field's bytes say, if they say one.
+    ghost said: { List ℕ → Option Self };
+
     const ZERO: Self;
 
-    fn read(field: &[u8]) -> Result<Self, BadLine>;
+    fn read(field: &[u8]) -> Result<Self, BadLine>
+        ensures { result_ok result ≡ said field.now };
 }
 
 // A number that a lent buffer holds.
@@ -49,7 +55,9 @@ const HEXADECIMAL: u64 = 16;
 const BITS_DIGITS: usize = 16;
 
 // By hand, as std's `to_digit` and `from_str_radix` take capital letters too, and a plus sign, and no line may have either.
-fn digit(byte: u8, base: u64) -> Result<u64, BadLine> {
+fn digit(byte: u8, base: u64) -> Result<u64, BadLine>
+    ensures { result_ok result ≡ digit_worth base byte }
+{
     match byte {
         b'0'..=b'9' => Ok(u64::from(byte - b'0')),
         b'a'..=b'f' if base == HEXADECIMAL => Ok(DECIMAL + u64::from(byte - b'a')),
@@ -58,7 +66,9 @@ fn digit(byte: u8, base: u64) -> Result<u64, BadLine> {
 }
 
 // A number beyond 64 bits counts as the largest one.
-fn number_in(base: u64, field: &[u8]) -> Result<u64, BadLine> {
+fn number_in(base: u64, field: &[u8]) -> Result<u64, BadLine>
+    ensures { result_ok result ≡ number_from base 0 field.now }
+{
     let mut number: u64 = 0;
     for byte in field {
         number = number
@@ -68,7 +78,9 @@ fn number_in(base: u64, field: &[u8]) -> Result<u64, BadLine> {
     Ok(number)
 }
 
-fn decimal(field: &[u8]) -> Result<u64, BadLine> {
+fn decimal(field: &[u8]) -> Result<u64, BadLine>
+    ensures { result_ok result ≡ decimal_of field.now }
+{
     if field.is_empty() {
         return Err(BadLine);
     }
@@ -77,6 +89,8 @@ fn decimal(field: &[u8]) -> Result<u64, BadLine> {
 
 // The three in decimal have an impl each: one for all that have `TryFrom<u64>` would need a bound for the zero too, and is no shorter.
 impl Number for usize {
+    ghost said = { length_said };
+
     const ZERO: usize = 0;
 
     fn read(field: &[u8]) -> Result<usize, BadLine> {
@@ -85,6 +99,8 @@ impl Number for usize {
 }
 
 impl Number for u16 {
+    ghost said = { word_said };
+
     const ZERO: u16 = 0;
 
     fn read(field: &[u8]) -> Result<u16, BadLine> {
@@ -107,6 +123,8 @@ impl Cell for u16 {
 }
 
 impl Number for u32 {
+    ghost said = { residue_said };
+
     const ZERO: u32 = 0;
 
     fn read(field: &[u8]) -> Result<u32, BadLine> {
@@ -132,6 +150,8 @@ impl Cell for u32 {
 }
 
 impl Number for f64 {
+    ghost said = { double_said };
+
     const ZERO: f64 = 0.0;
 
     fn read(field: &[u8]) -> Result<f64, BadLine> {
