@@ -1,5 +1,5 @@
 -- `text::pattern::fill` writes every place. The invariant: the places passed hold the pattern.
-use Rattle.std.proofs.Common.{◌≡◌, ℕ, ◌<◌, length, get_or}
+use Rattle.std.proofs.Common.{◌≡◌, ℕ, ◌<◌, get_or}
 use Rattle.text.specs.Pattern.{stamp}
 use Rattle.text.proofs.pattern.fill.Given as goal
 
