@@ -1,2 +1,3 @@
 -- Lemmas of the crate's proofs.
 pub mod FieldsAt
+pub mod Groups

@@ -1,7 +1,8 @@
 // The fields of a line, and the groups of numbers that slashes part them into.
 ghost use Rattle.std.specs.Iterator.{YieldsFirstRef, item_count};
-ghost use Rattle.std.specs.Prelude.{◌↔◌, ◌≡◌, IfOk, IsOk};
-ghost use Rattle.text.specs.Lines.{Taken, fields, fields_left};
+ghost use Rattle.std.specs.Prelude.{length, option_map, ◌↔◌, ◌≡◌, IfOk, IsOk};
+ghost use Rattle.std.specs.Result.{result_ok};
+ghost use Rattle.text.specs.Lines.{Taken, fields, fields_left, group as group_of, is_slash, starts_empty, without_empty, written_group};
 
 use super::numbers::Number;
 use std::error::Error;
@@ -61,6 +62,13 @@ impl<'a> Iterator for Fields<'a> {
     }
 }
 
+// A slash alone.
+fn ends_group(field: &[u8]) -> bool
+    ensures { result ≡ is_slash field.now }
+{
+    matches!(field, b"/")
+}
+
 impl<'a> Fields<'a> {
     pub fn of(line: &'a [u8]) -> Result<Fields<'a>, BadLine>
         ensures bound { IsOk result ↔ Taken line.now }
@@ -77,15 +85,23 @@ impl<'a> Fields<'a> {
         &mut self,
         end: End,
         into: &'n mut [T],
-    ) -> Result<&'n [T], BadLine> {
+    ) -> Result<&'n [T], BadLine>
+        ensures { option_map (λ xs. (xs.now, fields_left self.new)) (result_ok result)
+            ≡ group_of T.said end (length into.old) (fields_left self.old) }
+    {
         let mut count = 0;
         let mut found = End::Line;
-        for field in &mut *self {
-            if matches!(field, b"/") {
+        // Not a `for`: of the fields that one over `&mut *self` leaves, a proof learns nothing.
+        while let Some(field) = self.next() {
+            if ends_group(field) {
                 found = End::Slash;
                 break;
             }
-            *into.get_mut(count).ok_or(BadLine)? = T::read(field)?;
+            if count == into.len() {
+                return Err(BadLine);
+            }
+            // By index: of a place that `get_mut(..).ok_or(..)?` lends, a proof learns nothing of what is written there.
+            into[count] = T::read(field)?;
             count += 1;
         }
         if found == end {
@@ -96,7 +112,10 @@ impl<'a> Fields<'a> {
     }
 
     // Whether the next field is an empty one, which then is passed.
-    fn passes_empty(&mut self) -> bool {
+    fn passes_empty(&mut self) -> bool
+        ensures first { result ≡ starts_empty (fields_left self.old) }
+        ensures left { fields_left self.new ≡ without_empty (fields_left self.old) }
+    {
         let mut after = *self;
         let empty = matches!(after.next(), Some([]));
         if empty {
@@ -106,11 +125,10 @@ impl<'a> Fields<'a> {
     }
 
     // A group that has no number is written as nothing, or as one empty field: behind that there is room for none.
-    pub fn group<'n, T: Number>(
-        &mut self,
-        end: End,
-        into: &'n mut [T],
-    ) -> Result<&'n [T], BadLine> {
+    pub fn group<'n, T: Number>(&mut self, end: End, into: &'n mut [T]) -> Result<&'n [T], BadLine>
+        ensures { option_map (λ xs. (xs.now, fields_left self.new)) (result_ok result)
+            ≡ written_group T.said end (length into.old) (fields_left self.old) }
+    {
         let room = if self.passes_empty() { 0 } else { into.len() };
         self.numbers(end, &mut into[..room])
     }

@@ -1,5 +1,8 @@
 // The program's buffers: how long they are, and how much of each a request asks to be lent.
-ghost use Rattle.std.specs.Prelude.{◌≤◌};
+ghost use Rattle.std.specs.Prelude.{option_map, ◌≡◌, ◌≤◌};
+ghost use Rattle.std.specs.Result.{result_ok};
+ghost use Rattle.text.specs.Lending.{cut, lengths_read};
+ghost use Rattle.text.specs.Lines.{fields_left};
 ghost use Rattle.text.specs.declared.lend.TheConstants.{PLACES, TABLE_WORDS};
 
 use super::fields::{BadLine, End, Fields};
@@ -39,7 +42,10 @@ pub struct Lent {
 
 impl Lent {
     // As much as is asked for, or all that there is.
-    fn of(room: usize, values: usize, turns: usize, res: usize) -> Lent {
+    fn of(room: usize, values: usize, turns: usize, res: usize) -> Lent
+        ensures { record { room = result.room; values = result.values; turns = result.turns; result = result.result }
+            ≡ cut (record { room = room; values = values; turns = turns; result = res }) }
+    {
         Lent {
             room: room.min(TABLE_WORDS),
             values: values.min(PLACES),
@@ -48,7 +54,12 @@ impl Lent {
         }
     }
 
-    pub fn read(fields: &mut Fields, lends: Lends) -> Result<Lent, BadLine> {
+    pub fn read(fields: &mut Fields, lends: Lends) -> Result<Lent, BadLine>
+        ensures { option_map
+            (λ it. (record { room = it.room; values = it.values; turns = it.turns; result = it.result }, fields_left fields.new))
+            (result_ok result)
+            ≡ lengths_read lends (fields_left fields.old) }
+    {
         let mut into = [0usize; MOST_LENGTHS];
         match (lends, fields.numbers(End::Slash, &mut into)?) {
             (Lends::Nothing, []) => Ok(Lent::of(0, 0, 0, 0)),
