@@ -11,8 +11,9 @@ use lib.Ieee.Bits.{to_bits-lt}
 use lib.Ieee.Fits.{neg-fits}
 use Rattle.number.specs.Arithmetic.{value, stop, over}
 use Rattle.number.specs.Doubles.{doubles, finite, finite_or_stop, not_finite}
-use Rattle.std.specs.Prelude.{Result, Ok, Err}
+use Rattle.std.specs.Prelude.{Result}
 use Rattle.number.specs.Answers.{outcome_of, why_not_finite}
+use Rattle.number.proofs.AnswerLaws.{one_answer, one_stop}
 use Rattle.number.specs.declared.NotFinite.{NotFinite}
 
 -- ---- the test of finiteness
@@ -52,10 +53,7 @@ not_finite_lem = (refl, refl, refl)
 
 -- two answers that stand for the same outcome are the same answer
 pub answers_coincide : (r s : Result Float NotFinite) → outcome_of why_not_finite r ≡ outcome_of why_not_finite s → r ≡ s
-answers_coincide (Ok x) (Ok y) same = cc
-answers_coincide (Ok x) (Err s) same = cc
-answers_coincide (Err s) (Ok y) same = cc
-answers_coincide (Err s) (Err t) same = refl
+answers_coincide = one_answer why_not_finite one_stop
 
 -- ---- bit for bit
 

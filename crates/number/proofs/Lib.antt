@@ -1,5 +1,6 @@
 -- Laws of the arithmetics.
 pub mod ResidueLaws
+pub mod AnswerLaws
 pub mod DoubleLaws
 pub mod WholeDoubles
 pub mod ConstantLaws

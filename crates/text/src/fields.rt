@@ -1,6 +1,6 @@
 // The fields of a line, and the groups of numbers that slashes part them into.
 ghost use Rattle.std.specs.Iterator.{YieldsFirstRef, item_count};
-ghost use Rattle.std.specs.Prelude.{length, option_map, ◌↔◌, ◌≡◌, IfOk, IsOk};
+ghost use Rattle.std.specs.Prelude.{length, option_map, ◌↔◌, ◌≡◌, ◌≤◌, IfOk, IsOk};
 ghost use Rattle.std.specs.Result.{result_ok};
 ghost use Rattle.text.specs.Lines.{Taken, fields, fields_left, group as group_of, is_slash, starts_empty, without_empty, written_group};
 
@@ -60,6 +60,15 @@ impl<'a> Iterator for Fields<'a> {
             }
         }
     }
+}
+
+// Where the first field of any line ends, also of one that is too long to be taken.
+pub fn verb_end(line: &[u8]) -> usize
+    ensures { result ≤ length line.now }
+{
+    line.iter()
+        .position(|byte| *byte == SPACE)
+        .unwrap_or(line.len())
 }
 
 // A slash alone.

@@ -1,5 +1,5 @@
 // The program's buffers: how long they are, and how much of each a request asks to be lent.
-ghost use Rattle.std.specs.Prelude.{option_map, ◌≡◌, ◌≤◌};
+ghost use Rattle.std.specs.Prelude.{length, min, option_map, ◌≡◌, ◌≤◌};
 ghost use Rattle.std.specs.Result.{result_ok};
 ghost use Rattle.text.specs.Lending.{cut, lengths_read};
 ghost use Rattle.text.specs.Lines.{fields_left};
@@ -14,6 +14,13 @@ pub const TABLE_WORDS: usize = 32_768;
 
 // Places of each stack, and of a result.
 pub const PLACES: usize = 4_096;
+
+// The start of any buffer, `count` long, or all of it where it is shorter.
+pub fn first_bytes(buffer: &[u8], count: usize) -> &[u8]
+    ensures { length result.now ≤ count }
+{
+    buffer.get(..count).unwrap_or(buffer)
+}
 
 // Which buffers a verb lends. Its line gives their lengths in this order: the table's, both stacks', the result's.
 #[derive(Clone, Copy)]
@@ -41,16 +48,23 @@ pub struct Lent {
 }
 
 impl Lent {
-    // As much as is asked for, or all that there is.
+    // As much as is asked for, or all that there is: of any buffer.
+    pub fn part(asked: usize, has: usize) -> usize
+        ensures fits { result ≤ has }
+        ensures smaller { result ≡ min asked has }
+    {
+        asked.min(has)
+    }
+
     fn of(room: usize, values: usize, turns: usize, res: usize) -> Lent
         ensures { record { room = result.room; values = result.values; turns = result.turns; result = result.result }
             ≡ cut (record { room = room; values = values; turns = turns; result = res }) }
     {
         Lent {
-            room: room.min(TABLE_WORDS),
-            values: values.min(PLACES),
-            turns: turns.min(PLACES),
-            result: res.min(PLACES),
+            room: Lent::part(room, TABLE_WORDS),
+            values: Lent::part(values, PLACES),
+            turns: Lent::part(turns, PLACES),
+            result: Lent::part(res, PLACES),
         }
     }
 

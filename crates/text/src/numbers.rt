@@ -52,7 +52,7 @@ const DECIMAL: u64 = 10;
 const HEXADECIMAL: u64 = 16;
 
 // A double's bits in hexadecimal.
-const BITS_DIGITS: usize = 16;
+pub const BITS_DIGITS: usize = 16;
 
 // By hand, as std's `to_digit` and `from_str_radix` take capital letters too, and a plus sign, and no line may have either.
 fn digit(byte: u8, base: u64) -> Result<u64, BadLine>
@@ -133,7 +133,7 @@ impl Number for u32 {
 }
 
 // What the stamps of residues are added to.
-const RESIDUES: u32 = 0x8000_0000;
+pub const RESIDUES: u32 = 0x8000_0000;
 
 impl Cell for u32 {
     ghost stamp_of = { residue_stamp };
@@ -163,7 +163,7 @@ impl Number for f64 {
 }
 
 // What the stamps of doubles are added to, the bits of 2: every sum is a finite double's.
-const DOUBLES: u64 = 0x4000_0000_0000_0000;
+pub const DOUBLES: u64 = 0x4000_0000_0000_0000;
 
 impl Cell for f64 {
     ghost stamp_of = { double_stamp };
