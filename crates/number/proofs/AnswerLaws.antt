@@ -27,5 +27,11 @@ one_stop s t same = refl
 pub quotients_coincide : (r s : Option (Result Float NotFinite)) → outcome_if_any why_not_finite r ≡ outcome_if_any why_not_finite s → r ≡ s
 quotients_coincide = one_answer_if_any why_not_finite one_stop
 
+one_never : (s t : Never) → why_never s ≡ why_never t → s ≡ t
+one_never s t same = elim s [ ]
+
 pub residues_coincide : (r s : Result ℕ Never) → outcome_of why_never r ≡ outcome_of why_never s → r ≡ s
-residues_coincide = one_answer why_never (λ s t same. elim s [ ])
+residues_coincide = one_answer why_never one_never
+
+pub residue_quotients_coincide : (r s : Option (Result ℕ Never)) → outcome_if_any why_never r ≡ outcome_if_any why_never s → r ≡ s
+residue_quotients_coincide = one_answer_if_any why_never one_never
